@@ -1,0 +1,1 @@
+program A; begin WriteLn('Hi'); end.

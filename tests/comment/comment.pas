@@ -1,0 +1,1 @@
+begin { no comment yet } Write('x') end.

@@ -1,0 +1,1 @@
+begin Write('x'); Halt(7); Write('y') end.

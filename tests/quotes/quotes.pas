@@ -1,0 +1,1 @@
+begin Write('it''s ''''quoted'''''); WriteLn('') end.
