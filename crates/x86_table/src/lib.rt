@@ -11,5 +11,9 @@ mod row;
 
 pub use decoding::decode;
 pub use encoding::encode;
-pub use instr::{AluOp, Cond, Count, Form, Immediate, Instr, Pair, ShiftOp, ShortOp, Target, UnaryOp, Width};
-pub use operand::{Base, ByteOperand, ByteReg, DataSeg, Memory, Place, IndirectBase, SegReg, WordOperand, WordReg};
+pub use instr::{
+    AluOp, Cond, Count, Form, Immediate, Instr, Pair, ShiftOp, ShortOp, Target, UnaryOp, Width,
+};
+pub use operand::{
+    Base, ByteOperand, ByteReg, DataSeg, IndirectBase, Memory, Place, SegReg, WordOperand, WordReg,
+};
