@@ -5,6 +5,7 @@ mod body;
 mod decoding;
 mod encoding;
 mod instr;
+mod laws;
 mod operand;
 mod read;
 mod row;
@@ -14,6 +15,7 @@ pub use encoding::encode;
 pub use instr::{
     AluOp, Cond, Count, Form, Immediate, Instr, Pair, ShiftOp, ShortOp, Target, UnaryOp, Width,
 };
+pub use laws::spelling_law;
 pub use operand::{
     Base, ByteOperand, ByteReg, DataSeg, IndirectBase, Memory, Place, SegReg, WordOperand, WordReg,
 };
