@@ -69,3 +69,12 @@ laid_line lines bytes places n d h r g =
 
 pub named_line : (lines : List Line) (bytes places : List ℕ) (n : ℕ) (d : Line) (distance : ℤ) → n < length lines → IsTooFarAt (label_place lines) (length bytes) distance (get_or lines n d) → Laid lines bytes places n → IsTooFar lines n distance
 named_line lines bytes places n d distance h f g = rw (slice_get-get_or lines n d h, ← g.before) f
+
+pub length-bytes_from : (labels : ℕ → ℕ) (p : ℕ) (xs : List Line) → length (bytes_from labels p xs) ≡ code_size xs
+length-bytes_from labels p [] = refl
+length-bytes_from labels p (x ∷ xs) =
+    let b = spelling_if (line_instr labels p x) in
+    omega (arith, length-append b (bytes_from labels (p + line_size x) xs), length-line labels p x, length-bytes_from labels (p + line_size x) xs)
+
+pub length-assembled : (lines : List Line) → length (assembled lines) ≡ code_size lines
+length-assembled lines = length-bytes_from (label_place lines) 0 lines

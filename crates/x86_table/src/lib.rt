@@ -20,7 +20,7 @@ pub use encoding::encode;
 pub use instr::{
     AluOp, Cond, Count, Form, Immediate, Instr, Pair, ShiftOp, ShortOp, Target, UnaryOp, Width,
 };
-pub use laws::spelling_law;
+pub use laws::{landing_law, spelling_law, standing_law};
 pub use line::{CodeBytes, CodePlaces, Line, LineList};
 pub use operand::{
     Base, ByteOperand, ByteReg, DataSeg, IndirectBase, Memory, Place, SegReg, WordOperand, WordReg,
