@@ -13,6 +13,8 @@ mod operand;
 mod read;
 mod relaxation;
 mod row;
+#[cfg(test)]
+mod tests;
 
 pub use assembly::{AsmError, Code, assemble, is_small};
 pub use decoding::decode;
