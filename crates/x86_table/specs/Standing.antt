@@ -62,3 +62,14 @@ Stands stands at lines k (x ∷ xs) = LineStands stands at lines k x × Stands s
 -- the offset of each line of code that begins at p
 abbrev pub offset_of : ℕ → List Line → ℕ → ℕ
 offset_of p lines k = p + code_size (take k lines)
+
+-- the same line, or an instruction in place of another of its size, as where an address is filled in
+abbrev pub LineAlike : Line → Line → Type 0
+LineAlike (One i) (One j) = length (spelling i) ≡ length (spelling j)
+LineAlike (One i) y = ⊥
+LineAlike x y = y ≡ x
+
+abbrev pub Alike : List Line → List Line → Type 0
+Alike [] ys = ys ≡ []
+Alike (x ∷ xs) [] = ⊥
+Alike (x ∷ xs) (y ∷ ys) = LineAlike x y × Alike xs ys

@@ -78,6 +78,13 @@ impl CodeBytes {
         self.bytes.as_slice()
     }
 
+    /// The bytes, in a vector that can be changed.
+    pub fn into_vec(self) -> Vec<u8>
+        ensures { result.items ≡ self }
+    {
+        self.bytes
+    }
+
     /// Appends the bytes of an instruction; fails only for memory, and then appends nothing.
     pub fn push_instr(&mut self, instr: &Instr) -> Result<(), AllocError>
         ensures ok { OnOk result (self.new ≡ self.old ++ spelling instr.now) }

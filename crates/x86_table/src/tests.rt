@@ -1,9 +1,9 @@
 //! Bytes written by hand from Intel's manual, for each row of the table.
 
 use crate::{
-    AluOp, AsmError, Base, ByteOperand, ByteReg, Cond, Count, DataSeg, Immediate, IndirectBase, Instr, Line, Memory,
-    Pair, Place, SegReg, ShiftOp, ShortOp, Target, UnaryOp, WordOperand, WordReg, assemble, decode, encode, is_small,
-    relax,
+    AluOp, AsmError, Base, ByteOperand, ByteReg, Cond, Count, DataSeg, Immediate, IndirectBase,
+    Instr, Line, Memory, Pair, Place, SegReg, ShiftOp, ShortOp, Target, UnaryOp, WordOperand,
+    WordReg, assemble, decode, encode, is_small, relax,
 };
 use std::alloc::{AllocError, Global};
 use std::test::Fail;
@@ -43,16 +43,36 @@ fn moves(rt: HostRuntime) {
     assert!(rt; spells(Instr::Mov(Pair::RmWord(bx, WordReg::Ax)), &[0x89, 0xc3]));
     // MOV [BP-2], AL
     let local = byte_at(Place::ByteDisplacement(Base::Bp, 0xfe));
-    assert!(rt; spells(Instr::Mov(Pair::RmByte(local, ByteReg::Al)), &[0x88, 0x46, 0xfe]));
+    assert!(rt;
+        spells(
+            Instr::Mov(Pair::RmByte(local, ByteReg::Al)),
+            &[0x88, 0x46, 0xfe]
+        )
+    );
     // MOV CL, ES:[BX+SI]
     let far = ByteOperand::Mem(memory_in(SegReg::Es, Place::Indirect(IndirectBase::BxSi)));
-    assert!(rt; spells(Instr::Mov(Pair::ByteRm(ByteReg::Cl, far)), &[0x26, 0x8a, 0x08]));
+    assert!(rt;
+        spells(
+            Instr::Mov(Pair::ByteRm(ByteReg::Cl, far)),
+            &[0x26, 0x8a, 0x08]
+        )
+    );
     // MOV AX, [1234]
     let direct = word_at(Place::Direct(0x1234));
-    assert!(rt; spells(Instr::Mov(Pair::WordRm(WordReg::Ax, direct)), &[0x8b, 0x06, 0x34, 0x12]));
+    assert!(rt;
+        spells(
+            Instr::Mov(Pair::WordRm(WordReg::Ax, direct)),
+            &[0x8b, 0x06, 0x34, 0x12]
+        )
+    );
     // MOV BYTE PTR [DI], 5
     let target = byte_at(Place::Indirect(IndirectBase::Di));
-    assert!(rt; spells(Instr::MovImmediate(Immediate::Byte(target, 5)), &[0xc6, 0x05, 0x05]));
+    assert!(rt;
+        spells(
+            Instr::MovImmediate(Immediate::Byte(target, 5)),
+            &[0xc6, 0x05, 0x05]
+        )
+    );
     // MOV WORD PTR [BP+100], 1234
     let target = word_at(Place::WordDisplacement(Base::Bp, 0x100));
     let bytes = [0xc7, 0x86, 0x00, 0x01, 0x34, 0x12];
@@ -85,36 +105,91 @@ fn arithmetic(rt: HostRuntime) {
     let bx = WordOperand::Reg(WordReg::Bx);
     let sp = WordOperand::Reg(WordReg::Sp);
     // ADD AX, BX
-    assert!(rt; spells(Instr::Alu(AluOp::Add, Pair::WordRm(WordReg::Ax, bx)), &[0x03, 0xc3]));
+    assert!(rt;
+        spells(
+            Instr::Alu(AluOp::Add, Pair::WordRm(WordReg::Ax, bx)),
+            &[0x03, 0xc3]
+        )
+    );
     // OR AL, [BX]
     let operand = byte_at(Place::Indirect(IndirectBase::Bx));
-    assert!(rt; spells(Instr::Alu(AluOp::Or, Pair::ByteRm(ByteReg::Al, operand)), &[0x0a, 0x07]));
+    assert!(rt;
+        spells(
+            Instr::Alu(AluOp::Or, Pair::ByteRm(ByteReg::Al, operand)),
+            &[0x0a, 0x07]
+        )
+    );
     // ADC DX, [BP+2]
     let operand = word_at(Place::ByteDisplacement(Base::Bp, 2));
-    assert!(rt; spells(Instr::Alu(AluOp::Adc, Pair::WordRm(WordReg::Dx, operand)), &[0x13, 0x56, 0x02]));
+    assert!(rt;
+        spells(
+            Instr::Alu(AluOp::Adc, Pair::WordRm(WordReg::Dx, operand)),
+            &[0x13, 0x56, 0x02]
+        )
+    );
     // SBB SP, BX
-    assert!(rt; spells(Instr::Alu(AluOp::Sbb, Pair::RmWord(sp, WordReg::Bx)), &[0x19, 0xdc]));
+    assert!(rt;
+        spells(
+            Instr::Alu(AluOp::Sbb, Pair::RmWord(sp, WordReg::Bx)),
+            &[0x19, 0xdc]
+        )
+    );
     // AND BX, SP
-    assert!(rt; spells(Instr::Alu(AluOp::And, Pair::WordRm(WordReg::Bx, sp)), &[0x23, 0xdc]));
+    assert!(rt;
+        spells(
+            Instr::Alu(AluOp::And, Pair::WordRm(WordReg::Bx, sp)),
+            &[0x23, 0xdc]
+        )
+    );
     // SUB [BX+DI], CX
     let operand = word_at(Place::Indirect(IndirectBase::BxDi));
-    assert!(rt; spells(Instr::Alu(AluOp::Sub, Pair::RmWord(operand, WordReg::Cx)), &[0x29, 0x09]));
+    assert!(rt;
+        spells(
+            Instr::Alu(AluOp::Sub, Pair::RmWord(operand, WordReg::Cx)),
+            &[0x29, 0x09]
+        )
+    );
     // XOR AL, AL
     let al = ByteOperand::Reg(ByteReg::Al);
-    assert!(rt; spells(Instr::Alu(AluOp::Xor, Pair::RmByte(al, ByteReg::Al)), &[0x30, 0xc0]));
+    assert!(rt;
+        spells(
+            Instr::Alu(AluOp::Xor, Pair::RmByte(al, ByteReg::Al)),
+            &[0x30, 0xc0]
+        )
+    );
     // CMP DX, [SI+4]
     let operand = word_at(Place::ByteDisplacement(Base::Si, 4));
-    assert!(rt; spells(Instr::Alu(AluOp::Cmp, Pair::WordRm(WordReg::Dx, operand)), &[0x3b, 0x54, 0x04]));
+    assert!(rt;
+        spells(
+            Instr::Alu(AluOp::Cmp, Pair::WordRm(WordReg::Dx, operand)),
+            &[0x3b, 0x54, 0x04]
+        )
+    );
     // CMP BYTE PTR ES:[DI], 0
     let operand = ByteOperand::Mem(memory_in(SegReg::Es, Place::Indirect(IndirectBase::Di)));
-    assert!(rt; spells(Instr::AluImmediate(AluOp::Cmp, Immediate::Byte(operand, 0)), &[0x26, 0x80, 0x3d, 0x00]));
+    assert!(rt;
+        spells(
+            Instr::AluImmediate(AluOp::Cmp, Immediate::Byte(operand, 0)),
+            &[0x26, 0x80, 0x3d, 0x00]
+        )
+    );
     // ADD SP, 100
-    assert!(rt; spells(Instr::AluImmediate(AluOp::Add, Immediate::Word(sp, 0x100)), &[0x81, 0xc4, 0x00, 0x01]));
+    assert!(rt;
+        spells(
+            Instr::AluImmediate(AluOp::Add, Immediate::Word(sp, 0x100)),
+            &[0x81, 0xc4, 0x00, 0x01]
+        )
+    );
     // SUB SP, +8
     assert!(rt; spells(Instr::AluShort(ShortOp::Sub, sp, 8), &[0x83, 0xec, 0x08]));
     // ADD WORD PTR [BX], -1
     let operand = word_at(Place::Indirect(IndirectBase::Bx));
-    assert!(rt; spells(Instr::AluShort(ShortOp::Add, operand, 0xff), &[0x83, 0x07, 0xff]));
+    assert!(rt;
+        spells(
+            Instr::AluShort(ShortOp::Add, operand, 0xff),
+            &[0x83, 0x07, 0xff]
+        )
+    );
     assert!(rt; spells(Instr::Inc(WordReg::Dx), &[0x42]));
     assert!(rt; spells(Instr::Dec(WordReg::Si), &[0x4e]));
 }
@@ -128,21 +203,56 @@ fn one_operand(rt: HostRuntime) {
     assert!(rt; spells(Instr::Unary(UnaryOp::Not, Target::Word(cx)), &[0xf7, 0xd1]));
     // NEG BYTE PTR [SI]
     let operand = byte_at(Place::Indirect(IndirectBase::Si));
-    assert!(rt; spells(Instr::Unary(UnaryOp::Neg, Target::Byte(operand)), &[0xf6, 0x1c]));
+    assert!(rt;
+        spells(
+            Instr::Unary(UnaryOp::Neg, Target::Byte(operand)),
+            &[0xf6, 0x1c]
+        )
+    );
     assert!(rt; spells(Instr::Unary(UnaryOp::Mul, Target::Word(bx)), &[0xf7, 0xe3]));
     // IMUL BYTE PTR [BP+DI+2]
     let operand = byte_at(Place::ByteDisplacement(Base::BpDi, 2));
-    assert!(rt; spells(Instr::Unary(UnaryOp::Imul, Target::Byte(operand)), &[0xf6, 0x6b, 0x02]));
+    assert!(rt;
+        spells(
+            Instr::Unary(UnaryOp::Imul, Target::Byte(operand)),
+            &[0xf6, 0x6b, 0x02]
+        )
+    );
     assert!(rt; spells(Instr::Unary(UnaryOp::Div, Target::Word(cx)), &[0xf7, 0xf1]));
     let al = ByteOperand::Reg(ByteReg::Al);
     let bl = ByteOperand::Reg(ByteReg::Bl);
-    assert!(rt; spells(Instr::Shift(ShiftOp::Rcl, Count::One, Target::Byte(al)), &[0xd0, 0xd0]));
-    assert!(rt; spells(Instr::Shift(ShiftOp::Rcr, Count::One, Target::Word(dx)), &[0xd1, 0xda]));
-    assert!(rt; spells(Instr::Shift(ShiftOp::Shl, Count::One, Target::Word(ax)), &[0xd1, 0xe0]));
-    assert!(rt; spells(Instr::Shift(ShiftOp::Shr, Count::Cl, Target::Byte(bl)), &[0xd2, 0xeb]));
+    assert!(rt;
+        spells(
+            Instr::Shift(ShiftOp::Rcl, Count::One, Target::Byte(al)),
+            &[0xd0, 0xd0]
+        )
+    );
+    assert!(rt;
+        spells(
+            Instr::Shift(ShiftOp::Rcr, Count::One, Target::Word(dx)),
+            &[0xd1, 0xda]
+        )
+    );
+    assert!(rt;
+        spells(
+            Instr::Shift(ShiftOp::Shl, Count::One, Target::Word(ax)),
+            &[0xd1, 0xe0]
+        )
+    );
+    assert!(rt;
+        spells(
+            Instr::Shift(ShiftOp::Shr, Count::Cl, Target::Byte(bl)),
+            &[0xd2, 0xeb]
+        )
+    );
     // SAR WORD PTR [BX+SI+1000], CL
     let operand = word_at(Place::WordDisplacement(Base::BxSi, 0x1000));
-    assert!(rt; spells(Instr::Shift(ShiftOp::Sar, Count::Cl, Target::Word(operand)), &[0xd3, 0xb8, 0x00, 0x10]));
+    assert!(rt;
+        spells(
+            Instr::Shift(ShiftOp::Sar, Count::Cl, Target::Word(operand)),
+            &[0xd3, 0xb8, 0x00, 0x10]
+        )
+    );
     assert!(rt; spells(Instr::Cbw, &[0x98]));
     assert!(rt; spells(Instr::Cwd, &[0x99]));
 }
@@ -157,7 +267,12 @@ fn addresses(rt: HostRuntime) {
     assert!(rt; spells(Instr::Les(WordReg::Di, place), &[0xc4, 0x7e, 0x04]));
     // LDS SI, CS:[2000]
     let place = memory_in(SegReg::Cs, Place::Direct(0x2000));
-    assert!(rt; spells(Instr::Lds(WordReg::Si, place), &[0x2e, 0xc5, 0x36, 0x00, 0x20]));
+    assert!(rt;
+        spells(
+            Instr::Lds(WordReg::Si, place),
+            &[0x2e, 0xc5, 0x36, 0x00, 0x20]
+        )
+    );
     // XCHG BX, CX
     let bx = WordOperand::Reg(WordReg::Bx);
     assert!(rt; spells(Instr::Xchg(bx, WordReg::Cx), &[0x87, 0xcb]));
@@ -196,12 +311,27 @@ fn short_jumps(rt: HostRuntime) {
 fn jumps_and_calls(rt: HostRuntime) {
     assert!(rt; spells(Instr::JumpNear(0x300), &[0xe9, 0x00, 0x03]));
     // JMP 1000:0100
-    assert!(rt; spells(Instr::JumpFar(0x100, 0x1000), &[0xea, 0x00, 0x01, 0x00, 0x10]));
+    assert!(rt;
+        spells(
+            Instr::JumpFar(0x100, 0x1000),
+            &[0xea, 0x00, 0x01, 0x00, 0x10]
+        )
+    );
     assert!(rt; spells(Instr::CallNear(0xfffd), &[0xe8, 0xfd, 0xff]));
     // CALL F000:FFF0
-    assert!(rt; spells(Instr::CallFar(0xfff0, 0xf000), &[0x9a, 0xf0, 0xff, 0x00, 0xf0]));
+    assert!(rt;
+        spells(
+            Instr::CallFar(0xfff0, 0xf000),
+            &[0x9a, 0xf0, 0xff, 0x00, 0xf0]
+        )
+    );
     // CALL BX
-    assert!(rt; spells(Instr::CallIndirect(WordOperand::Reg(WordReg::Bx)), &[0xff, 0xd3]));
+    assert!(rt;
+        spells(
+            Instr::CallIndirect(WordOperand::Reg(WordReg::Bx)),
+            &[0xff, 0xd3]
+        )
+    );
     // CALL WORD PTR [BX+2]
     let slot = word_at(Place::ByteDisplacement(Base::Bx, 2));
     assert!(rt; spells(Instr::CallIndirect(slot), &[0xff, 0x57, 0x02]));
@@ -260,16 +390,18 @@ fn assembles(rt: HostRuntime) -> Result<(), Fail> {
     ];
     assert!(rt; is_small(&lines));
     let code = assemble(rt.alloc(), &lines)?;
-    let bytes = [0xb9, 0x03, 0x00, 0x49, 0x75, 0xfd, 0xe9, 0x01, 0x00, 0x98, 0xe8, 0xf6, 0xff];
+    let bytes = [
+        0xb9, 0x03, 0x00, 0x49, 0x75, 0xfd, 0xe9, 0x01, 0x00, 0x98, 0xe8, 0xf6, 0xff,
+    ];
     assert!(rt; code.bytes.as_slice() == bytes.as_slice());
     assert!(rt; code.places.as_slice() == [0, 3, 3, 4, 6, 9, 10, 10].as_slice());
     Ok(())
 }
 
-/// A jump ahead over some bytes.
-fn over(alloc: Global, jump: Line, bytes: u32) -> Result<Vec<Line>, AllocError> {
+/// Jumps ahead over some bytes.
+fn over(alloc: Global, jumps: &[Line], bytes: u32) -> Result<Vec<Line>, AllocError> {
     let mut lines = Vec::new(alloc);
-    lines.push(jump)?;
+    lines.extend_from_slice(jumps)?;
     for _ in 0..bytes {
         lines.push(Line::One(Instr::Cld))?;
     }
@@ -303,18 +435,27 @@ fn error_of(alloc: Global, lines: &[Line]) -> Option<AsmError> {
 fn reach(rt: HostRuntime) -> Result<(), Fail> {
     let alloc = rt.alloc();
     let jump = Line::JumpShort(Cond::Always, 1);
-    assert_eq!(rt; error_of(alloc, over(alloc, jump, 127)?.as_slice()), None);
+    assert_eq!(rt;
+        error_of(alloc, over(alloc, &[jump], 127)?.as_slice()),
+        None
+    );
     let far = AsmError::JumpTooFar {
         line: 0,
         distance: 128,
     };
-    assert_eq!(rt; error_of(alloc, over(alloc, jump, 128)?.as_slice()), Some(far));
+    assert_eq!(rt;
+        error_of(alloc, over(alloc, &[jump], 128)?.as_slice()),
+        Some(far)
+    );
     assert_eq!(rt; error_of(alloc, back(alloc, jump, 126)?.as_slice()), None);
     let far = AsmError::JumpTooFar {
         line: 128,
         distance: -129,
     };
-    assert_eq!(rt; error_of(alloc, back(alloc, jump, 127)?.as_slice()), Some(far));
+    assert_eq!(rt;
+        error_of(alloc, back(alloc, jump, 127)?.as_slice()),
+        Some(far)
+    );
     Ok(())
 }
 
@@ -323,16 +464,12 @@ fn relaxes(rt: HostRuntime) -> Result<(), Fail> {
     let alloc = rt.alloc();
     let near = Line::JumpNear(1);
     let short = Line::JumpShort(Cond::Always, 1);
-    let list = relax(alloc, over(alloc, near, 127)?.as_slice())?;
-    assert!(rt; list.as_slice() == over(alloc, short, 127)?.as_slice());
-    let list = relax(alloc, over(alloc, near, 128)?.as_slice())?;
-    assert!(rt; list.as_slice() == over(alloc, near, 128)?.as_slice());
-    // A jump that fits only once another is short.
-    let mut lines = over(alloc, near, 125)?;
-    lines.insert(1, Line::JumpNear(1))?;
-    let list = relax(alloc, lines.as_slice())?;
-    let mut want = over(alloc, short, 125)?;
-    want.insert(1, short)?;
-    assert!(rt; list.as_slice() == want.as_slice());
+    let list = relax(alloc, over(alloc, &[near], 127)?.as_slice())?;
+    assert!(rt; list.as_slice() == over(alloc, &[short], 127)?.as_slice());
+    let list = relax(alloc, over(alloc, &[near], 128)?.as_slice())?;
+    assert!(rt; list.as_slice() == over(alloc, &[near], 128)?.as_slice());
+    // The first jump fits only once the second is short.
+    let list = relax(alloc, over(alloc, &[near, near], 125)?.as_slice())?;
+    assert!(rt; list.as_slice() == over(alloc, &[short, short], 125)?.as_slice());
     Ok(())
 }
