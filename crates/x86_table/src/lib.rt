@@ -3,12 +3,15 @@
 
 mod assembly;
 mod body;
+mod codes;
 mod decoding;
 mod encoding;
 mod instr;
 mod label;
 mod laws;
 mod line;
+#[cfg(test)]
+mod line_tests;
 mod operand;
 mod read;
 mod relaxation;

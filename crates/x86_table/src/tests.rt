@@ -1,12 +1,10 @@
 //! Bytes written by hand from Intel's manual, for each row of the table.
 
 use crate::{
-    AluOp, AsmError, Base, ByteOperand, ByteReg, Cond, Count, DataSeg, Immediate, IndirectBase,
-    Instr, Line, Memory, Pair, Place, SegReg, ShiftOp, ShortOp, Target, UnaryOp, WordOperand,
-    WordReg, assemble, decode, encode, is_small, relax,
+    AluOp, Base, ByteOperand, ByteReg, Cond, Count, DataSeg, Immediate, IndirectBase, Instr,
+    Memory, Pair, Place, SegReg, ShiftOp, ShortOp, Target, UnaryOp, WordOperand, WordReg, decode,
+    encode,
 };
-use std::alloc::{AllocError, Global};
-use std::test::Fail;
 
 /// Whether these bytes are the instruction's, both ways.
 fn spells(instr: Instr, bytes: &[u8]) -> bool {
@@ -38,7 +36,6 @@ fn word_at(place: Place) -> WordOperand {
 #[test]
 fn moves(rt: HostRuntime) {
     let bx = WordOperand::Reg(WordReg::Bx);
-    let ax = WordOperand::Reg(WordReg::Ax);
     // MOV BX, AX
     assert!(rt; spells(Instr::Mov(Pair::RmWord(bx, WordReg::Ax)), &[0x89, 0xc3]));
     // MOV [BP-2], AL
@@ -65,6 +62,10 @@ fn moves(rt: HostRuntime) {
             &[0x8b, 0x06, 0x34, 0x12]
         )
     );
+}
+
+#[test]
+fn moves_of_immediates(rt: HostRuntime) {
     // MOV BYTE PTR [DI], 5
     let target = byte_at(Place::Indirect(IndirectBase::Di));
     assert!(rt;
@@ -81,6 +82,11 @@ fn moves(rt: HostRuntime) {
     assert!(rt; spells(Instr::MovByte(ByteReg::Ah, 0x4c), &[0xb4, 0x4c]));
     // MOV SP, 4000
     assert!(rt; spells(Instr::MovWord(WordReg::Sp, 0x4000), &[0xbc, 0x00, 0x40]));
+}
+
+#[test]
+fn moves_of_segments(rt: HostRuntime) {
+    let ax = WordOperand::Reg(WordReg::Ax);
     // MOV AX, DS
     assert!(rt; spells(Instr::MovFromSeg(ax, SegReg::Ds), &[0x8c, 0xd8]));
     // MOV SS, AX
@@ -141,6 +147,10 @@ fn arithmetic(rt: HostRuntime) {
             &[0x23, 0xdc]
         )
     );
+}
+
+#[test]
+fn more_arithmetic(rt: HostRuntime) {
     // SUB [BX+DI], CX
     let operand = word_at(Place::Indirect(IndirectBase::BxDi));
     assert!(rt;
@@ -165,6 +175,11 @@ fn arithmetic(rt: HostRuntime) {
             &[0x3b, 0x54, 0x04]
         )
     );
+}
+
+#[test]
+fn arithmetic_with_immediates(rt: HostRuntime) {
+    let sp = WordOperand::Reg(WordReg::Sp);
     // CMP BYTE PTR ES:[DI], 0
     let operand = ByteOperand::Mem(memory_in(SegReg::Es, Place::Indirect(IndirectBase::Di)));
     assert!(rt;
@@ -196,10 +211,8 @@ fn arithmetic(rt: HostRuntime) {
 
 #[test]
 fn one_operand(rt: HostRuntime) {
-    let ax = WordOperand::Reg(WordReg::Ax);
     let bx = WordOperand::Reg(WordReg::Bx);
     let cx = WordOperand::Reg(WordReg::Cx);
-    let dx = WordOperand::Reg(WordReg::Dx);
     assert!(rt; spells(Instr::Unary(UnaryOp::Not, Target::Word(cx)), &[0xf7, 0xd1]));
     // NEG BYTE PTR [SI]
     let operand = byte_at(Place::Indirect(IndirectBase::Si));
@@ -219,6 +232,12 @@ fn one_operand(rt: HostRuntime) {
         )
     );
     assert!(rt; spells(Instr::Unary(UnaryOp::Div, Target::Word(cx)), &[0xf7, 0xf1]));
+}
+
+#[test]
+fn shifts(rt: HostRuntime) {
+    let ax = WordOperand::Reg(WordReg::Ax);
+    let dx = WordOperand::Reg(WordReg::Dx);
     let al = ByteOperand::Reg(ByteReg::Al);
     let bl = ByteOperand::Reg(ByteReg::Bl);
     assert!(rt;
@@ -308,7 +327,7 @@ fn short_jumps(rt: HostRuntime) {
 }
 
 #[test]
-fn jumps_and_calls(rt: HostRuntime) {
+fn jumps(rt: HostRuntime) {
     assert!(rt; spells(Instr::JumpNear(0x300), &[0xe9, 0x00, 0x03]));
     // JMP 1000:0100
     assert!(rt;
@@ -318,6 +337,10 @@ fn jumps_and_calls(rt: HostRuntime) {
         )
     );
     assert!(rt; spells(Instr::CallNear(0xfffd), &[0xe8, 0xfd, 0xff]));
+}
+
+#[test]
+fn calls_and_returns(rt: HostRuntime) {
     // CALL F000:FFF0
     assert!(rt;
         spells(
@@ -374,102 +397,4 @@ fn left_out(rt: HostRuntime) {
     assert_eq!(rt; decode(&[0x26, 0x89, 0xc3]), None);
     assert_eq!(rt; decode(&[0xf3, 0x26, 0xa4]), None);
     assert_eq!(rt; decode(&[0xf3, 0xaa]), None);
-}
-
-#[test]
-fn assembles(rt: HostRuntime) -> Result<(), Fail> {
-    let lines = [
-        Line::One(Instr::MovWord(WordReg::Cx, 3)),
-        Line::Label(1),
-        Line::One(Instr::Dec(WordReg::Cx)),
-        Line::JumpShort(Cond::NotEqual, 1),
-        Line::JumpNear(2),
-        Line::One(Instr::Cbw),
-        Line::Label(2),
-        Line::CallNear(1),
-    ];
-    assert!(rt; is_small(&lines));
-    let code = assemble(rt.alloc(), &lines)?;
-    let bytes = [
-        0xb9, 0x03, 0x00, 0x49, 0x75, 0xfd, 0xe9, 0x01, 0x00, 0x98, 0xe8, 0xf6, 0xff,
-    ];
-    assert!(rt; code.bytes.as_slice() == bytes.as_slice());
-    assert!(rt; code.places.as_slice() == [0, 3, 3, 4, 6, 9, 10, 10].as_slice());
-    Ok(())
-}
-
-/// Jumps ahead over some bytes.
-fn over(alloc: Global, jumps: &[Line], bytes: u32) -> Result<Vec<Line>, AllocError> {
-    let mut lines = Vec::new(alloc);
-    lines.extend_from_slice(jumps)?;
-    for _ in 0..bytes {
-        lines.push(Line::One(Instr::Cld))?;
-    }
-    lines.push(Line::Label(1))?;
-    Ok(lines)
-}
-
-/// A jump back over some bytes.
-fn back(alloc: Global, jump: Line, bytes: u32) -> Result<Vec<Line>, AllocError> {
-    let mut lines = Vec::new(alloc);
-    lines.push(Line::Label(1))?;
-    for _ in 0..bytes {
-        lines.push(Line::One(Instr::Cld))?;
-    }
-    lines.push(jump)?;
-    Ok(lines)
-}
-
-/// The error of `assemble`, if any.
-fn error_of(alloc: Global, lines: &[Line]) -> Option<AsmError> {
-    if !is_small(lines) {
-        return None;
-    }
-    match assemble(alloc, lines) {
-        Ok(_) => None,
-        Err(error) => Some(error),
-    }
-}
-
-#[test]
-fn reach(rt: HostRuntime) -> Result<(), Fail> {
-    let alloc = rt.alloc();
-    let jump = Line::JumpShort(Cond::Always, 1);
-    assert_eq!(rt;
-        error_of(alloc, over(alloc, &[jump], 127)?.as_slice()),
-        None
-    );
-    let far = AsmError::JumpTooFar {
-        line: 0,
-        distance: 128,
-    };
-    assert_eq!(rt;
-        error_of(alloc, over(alloc, &[jump], 128)?.as_slice()),
-        Some(far)
-    );
-    assert_eq!(rt; error_of(alloc, back(alloc, jump, 126)?.as_slice()), None);
-    let far = AsmError::JumpTooFar {
-        line: 128,
-        distance: -129,
-    };
-    assert_eq!(rt;
-        error_of(alloc, back(alloc, jump, 127)?.as_slice()),
-        Some(far)
-    );
-    Ok(())
-}
-
-#[test]
-fn relaxes(rt: HostRuntime) -> Result<(), Fail> {
-    let alloc = rt.alloc();
-    let near = Line::JumpNear(1);
-    let short = Line::JumpShort(Cond::Always, 1);
-    let list = relax(alloc, over(alloc, &[near], 127)?.as_slice())?;
-    assert!(rt; list.as_slice() == over(alloc, &[short], 127)?.as_slice());
-    let list = relax(alloc, over(alloc, &[near], 128)?.as_slice())?;
-    assert!(rt; list.as_slice() == over(alloc, &[near], 128)?.as_slice());
-    // The first jump fits only once the second is short.
-    let list = relax(alloc, over(alloc, &[near, near], 125)?.as_slice())?;
-    assert!(rt; list.as_slice() == over(alloc, &[short, short], 125)?.as_slice());
-    Ok(())
 }
