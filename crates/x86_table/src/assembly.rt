@@ -10,6 +10,8 @@ use crate::instr::Instr;
 use crate::label::{Labels, size_of};
 use crate::line::{CodeBytes, CodePlaces, Line};
 use std::alloc::{AllocError, Global};
+use std::error::Error;
+use std::fmt;
 
 /// Why lines have no bytes.
 #[derive(Clone, Copy, Debug, PartialEq, Eq)]
@@ -20,6 +22,22 @@ pub enum AsmError {
     /// Memory ran out.
     NoMemory,
 }
+
+impl fmt::Display for AsmError {
+    fn fmt<W: fmt::Write>(&self, f: &mut fmt::Formatter<W>) -> fmt::Result {
+        match self {
+            AsmError::JumpTooFar { line, distance } => {
+                write!(
+                    f,
+                    "the short jump in line {line} has a distance of {distance}"
+                )
+            }
+            AsmError::NoMemory => write!(f, "out of memory"),
+        }
+    }
+}
+
+impl Error for AsmError {}
 
 impl From<AllocError> for AsmError {
     ghost from_gives = { λ _ e. e ≡ NoMemory };
@@ -32,7 +50,9 @@ impl From<AllocError> for AsmError {
 /// The bytes of lines, the first of which stands at 0, and the place of each line.
 #[derive(Drop)]
 pub struct Code {
+    /// The bytes of the lines, one after another.
     pub bytes: CodeBytes,
+    /// For each line how many bytes stand before it.
     pub places: CodePlaces,
 }
 

@@ -6,6 +6,7 @@ ghost use Rattle.x86_table.specs.Codes.{word_reg_code, byte_reg_code, seg_reg_co
 use crate::instr::{AluOp, Cond, Form, ShiftOp, ShortOp, UnaryOp};
 use crate::operand::{Base, ByteReg, DataSeg, IndirectBase, SegReg, WordReg};
 
+/// The number of a word register.
 pub fn word_reg_code(value: WordReg) -> u8
     ensures value { result ≡ word_reg_code value }
     ensures bound { result < 8 }
@@ -22,6 +23,7 @@ pub fn word_reg_code(value: WordReg) -> u8
     }
 }
 
+/// The number of a byte register.
 pub fn byte_reg_code(value: ByteReg) -> u8
     ensures value { result ≡ byte_reg_code value }
     ensures bound { result < 8 }
@@ -38,6 +40,7 @@ pub fn byte_reg_code(value: ByteReg) -> u8
     }
 }
 
+/// The number of a segment register.
 pub fn seg_reg_code(value: SegReg) -> u8
     ensures value { result ≡ seg_reg_code value }
     ensures bound { result < 8 }
@@ -50,6 +53,7 @@ pub fn seg_reg_code(value: SegReg) -> u8
     }
 }
 
+/// The number of a segment register that may be loaded.
 pub fn data_seg_code(value: DataSeg) -> u8
     ensures value { result ≡ data_seg_code value }
     ensures bound { result < 8 }
@@ -61,6 +65,7 @@ pub fn data_seg_code(value: DataSeg) -> u8
     }
 }
 
+/// The two low bits of an opcode with the four r/m forms.
 pub fn form_code(value: Form) -> u8
     ensures value { result ≡ form_code value }
     ensures bound { result < 4 }
@@ -73,6 +78,7 @@ pub fn form_code(value: Form) -> u8
     }
 }
 
+/// The number of an operator of the arithmetic group.
 pub fn alu_op_code(value: AluOp) -> u8
     ensures value { result ≡ alu_op_code value }
     ensures bound { result < 8 }
@@ -89,6 +95,7 @@ pub fn alu_op_code(value: AluOp) -> u8
     }
 }
 
+/// The reg field of an operator under 83.
 pub fn short_op_code(value: ShortOp) -> u8
     ensures value { result ≡ short_op_code value }
     ensures bound { result < 8 }
@@ -102,6 +109,7 @@ pub fn short_op_code(value: ShortOp) -> u8
     }
 }
 
+/// The reg field of an operator under F6 and F7.
 pub fn unary_op_code(value: UnaryOp) -> u8
     ensures value { result ≡ unary_op_code value }
     ensures bound { result < 8 }
@@ -115,6 +123,7 @@ pub fn unary_op_code(value: UnaryOp) -> u8
     }
 }
 
+/// The reg field of a shift under D0 to D3.
 pub fn shift_op_code(value: ShiftOp) -> u8
     ensures value { result ≡ shift_op_code value }
     ensures bound { result < 8 }
@@ -128,6 +137,7 @@ pub fn shift_op_code(value: ShiftOp) -> u8
     }
 }
 
+/// The opcode of a short jump.
 pub fn cond_opcode(value: Cond) -> u8
     ensures { result ≡ cond_opcode value }
 {
@@ -150,6 +160,7 @@ pub fn cond_opcode(value: Cond) -> u8
     }
 }
 
+/// The r/m field of an address with a displacement.
 pub fn base_code(value: Base) -> u8
     ensures value { result ≡ base_code value }
     ensures bound { result < 8 }
@@ -166,6 +177,7 @@ pub fn base_code(value: Base) -> u8
     }
 }
 
+/// The r/m field of an address without one.
 pub fn indirect_base_code(value: IndirectBase) -> u8
     ensures value { result ≡ indirect_base_code value }
     ensures bound { result < 8 }

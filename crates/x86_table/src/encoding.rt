@@ -65,6 +65,7 @@ fn opcode(row: Row) -> u8
     }
 }
 
+/// The segment override of r/m8.
 fn byte_override(operand: ByteOperand) -> Option<SegReg>
     ensures { result ≡ byte_override operand }
 {
@@ -74,6 +75,7 @@ fn byte_override(operand: ByteOperand) -> Option<SegReg>
     }
 }
 
+/// The segment override of r/m16.
 fn word_override(operand: WordOperand) -> Option<SegReg>
     ensures { result ≡ word_override operand }
 {
@@ -83,6 +85,7 @@ fn word_override(operand: WordOperand) -> Option<SegReg>
     }
 }
 
+/// Which of the four r/m forms these operands are of.
 #[tactic(auto, unfolding(crate::specs::Spelling::pair_form))]
 fn pair_form(pair: Pair) -> Form
     ensures { result ≡ pair_form pair }
@@ -95,6 +98,7 @@ fn pair_form(pair: Pair) -> Form
     }
 }
 
+/// The segment override of these operands.
 #[tactic(auto, unfolding(crate::specs::Spelling::pair_override))]
 fn pair_override(pair: Pair) -> Option<SegReg>
     ensures { result ≡ pair_override pair }
@@ -105,6 +109,7 @@ fn pair_override(pair: Pair) -> Option<SegReg>
     }
 }
 
+/// The width of an immediate.
 #[tactic(auto, unfolding(crate::specs::Spelling::immediate_width))]
 fn immediate_width(immediate: Immediate) -> Width
     ensures { result ≡ immediate_width immediate }
@@ -115,6 +120,7 @@ fn immediate_width(immediate: Immediate) -> Width
     }
 }
 
+/// The segment override of the destination.
 #[tactic(auto, unfolding(crate::specs::Spelling::immediate_override))]
 fn immediate_override(immediate: Immediate) -> Option<SegReg>
     ensures { result ≡ immediate_override immediate }
@@ -125,6 +131,7 @@ fn immediate_override(immediate: Immediate) -> Option<SegReg>
     }
 }
 
+/// The width of an operand.
 #[tactic(auto, unfolding(crate::specs::Spelling::target_width))]
 fn target_width(target: Target) -> Width
     ensures { result ≡ target_width target }
@@ -135,6 +142,7 @@ fn target_width(target: Target) -> Width
     }
 }
 
+/// The segment override of an operand.
 #[tactic(auto, unfolding(crate::specs::Spelling::target_override))]
 fn target_override(target: Target) -> Option<SegReg>
     ensures { result ≡ target_override target }
@@ -214,6 +222,7 @@ fn segment_override(instr: Instr) -> Option<SegReg>
     }
 }
 
+/// Appends a word, low byte first.
 #[tactic(auto, unfolding(crate::specs::Spelling::word_bytes))]
 fn push_word(out: &mut ArrayVec<u8, 8>, word: u16)
     requires { array_vec_len out.old ≤ 6 }
@@ -224,6 +233,7 @@ fn push_word(out: &mut ArrayVec<u8, 8>, word: u16)
     out.push((word / 256) as u8);
 }
 
+/// The mod and r/m fields of an address.
 fn place_code(place: Place) -> u8
     ensures value { result ≡ place_code place }
     ensures bound { result < 136 }
@@ -236,6 +246,7 @@ fn place_code(place: Place) -> u8
     }
 }
 
+/// Appends the direct offset or the displacement.
 fn push_displacement(out: &mut ArrayVec<u8, 8>, place: Place)
     requires { array_vec_len out.old ≤ 6 }
     ensures items { out.new.items ≡ out.old.items ++ displacement place }
@@ -248,6 +259,7 @@ fn push_displacement(out: &mut ArrayVec<u8, 8>, place: Place)
     }
 }
 
+/// Appends the ModR/M byte and the displacement, with a number in the reg field.
 #[tactic(auto, unfolding(crate::specs::Spelling::memory_modrm))]
 fn push_memory(out: &mut ArrayVec<u8, 8>, field: u8, memory: Memory)
     requires room { array_vec_len out.old ≤ 5 }
@@ -259,6 +271,7 @@ fn push_memory(out: &mut ArrayVec<u8, 8>, field: u8, memory: Memory)
     push_displacement(out, memory.place);
 }
 
+/// Appends what encodes r/m16, with a number in the reg field.
 #[tactic(auto, unfolding(crate::specs::Spelling::word_modrm))]
 fn push_word_operand(out: &mut ArrayVec<u8, 8>, field: u8, operand: WordOperand)
     requires room { array_vec_len out.old ≤ 5 }
@@ -272,6 +285,7 @@ fn push_word_operand(out: &mut ArrayVec<u8, 8>, field: u8, operand: WordOperand)
     }
 }
 
+/// Appends what encodes r/m8, with a number in the reg field.
 #[tactic(auto, unfolding(crate::specs::Spelling::byte_modrm))]
 fn push_byte_operand(out: &mut ArrayVec<u8, 8>, field: u8, operand: ByteOperand)
     requires room { array_vec_len out.old ≤ 5 }
@@ -285,6 +299,7 @@ fn push_byte_operand(out: &mut ArrayVec<u8, 8>, field: u8, operand: ByteOperand)
     }
 }
 
+/// Appends what encodes a register and r/m.
 #[tactic(auto, unfolding(crate::specs::Spelling::pair_body))]
 fn push_pair(out: &mut ArrayVec<u8, 8>, pair: Pair)
     requires { array_vec_len out.old ≤ 5 }
@@ -300,6 +315,7 @@ fn push_pair(out: &mut ArrayVec<u8, 8>, pair: Pair)
     }
 }
 
+/// Appends what encodes a destination and its immediate.
 #[tactic(auto, unfolding(crate::specs::Spelling::immediate_body))]
 fn push_immediate(out: &mut ArrayVec<u8, 8>, field: u8, immediate: Immediate)
     requires room { array_vec_len out.old ≤ 3 }
@@ -318,6 +334,7 @@ fn push_immediate(out: &mut ArrayVec<u8, 8>, field: u8, immediate: Immediate)
     }
 }
 
+/// Appends what encodes one operand.
 #[tactic(auto, unfolding(crate::specs::Spelling::target_body))]
 fn push_target(out: &mut ArrayVec<u8, 8>, field: u8, target: Target)
     requires room { array_vec_len out.old ≤ 5 }
@@ -330,6 +347,7 @@ fn push_target(out: &mut ArrayVec<u8, 8>, field: u8, target: Target)
     }
 }
 
+/// Appends what follows the opcode.
 fn push_body(out: &mut ArrayVec<u8, 8>, instr: Instr)
     requires { array_vec_len out.old ≤ 2 }
     ensures { out.new.items ≡ out.old.items ++ body instr }

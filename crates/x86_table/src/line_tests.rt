@@ -101,3 +101,19 @@ fn relaxes(rt: HostRuntime) -> Result<(), Fail> {
     assert!(rt; list.as_slice() == over(alloc, &[short, short], 125)?.as_slice());
     Ok(())
 }
+
+#[test]
+fn errors_in_words(rt: HostRuntime) -> Result<(), Fail> {
+    let far = AsmError::JumpTooFar {
+        line: 3,
+        distance: -129,
+    };
+    let text = format!(in rt.alloc(); "{far}")?;
+    assert_eq!(rt;
+        text.as_str(),
+        "the short jump in line 3 has a distance of -129"
+    );
+    let text = format!(in rt.alloc(); "{}", AsmError::NoMemory)?;
+    assert_eq!(rt; text.as_str(), "out of memory");
+    Ok(())
+}
