@@ -1,7 +1,6 @@
 -- Registers and flags by name, and a machine of zeros.
 use Rattle.std.specs.Prelude.{◌≡◌, ℕ, Bool, false, length, slice_index}
 use Rattle.cpu_8086.specs.State.{State}
-use Rattle.cpu_8086.specs.declared.registers.Registers.{Registers}
 use Rattle.cpu_8086.specs.declared.registers.Reg.{Reg}
 use Rattle.cpu_8086.specs.declared.registers.Reg.TheVariants as register
 use Rattle.cpu_8086.specs.declared.registers.Flag.{Flag}

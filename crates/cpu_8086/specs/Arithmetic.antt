@@ -1,5 +1,5 @@
 -- Arithmetic on bytes and words, and the carry and overflow that it leaves.
-use Rattle.std.specs.Prelude.{ℕ, ◌+◌, ◌-◌, ◌*◌, ◌/◌, ◌%◌, ◌^◌, Bool, true, false, not, zero, suc, ◌==◌, ◌&&◌, nat_lt, nat_le, if◌then◌else◌, bit_and, bit_or, bit_xor, ℤ, pos, ◌+ℤ◌, ◌-ℤ◌, ◌*ℤ◌, neg_ℤ, int_lt}
+use Rattle.std.specs.Prelude.{ℕ, ◌+◌, ◌-◌, ◌*◌, ◌/◌, ◌%◌, ◌^◌, Bool, true, false, not, zero, suc, ◌==◌, ◌&&◌, nat_lt, nat_le, if◌then◌else◌, bit_and, bit_or, bit_xor, ℤ, pos, ◌+ℤ◌, ◌-ℤ◌, neg_ℤ, int_lt}
 use Rattle.std.specs.Int.{cast_signed, cast_unsigned, int_shr, w8, w16, w32}
 use Rattle.x86_table.specs.declared.instr.Width.{Width}
 use Rattle.x86_table.specs.declared.instr.Width.TheVariants as width

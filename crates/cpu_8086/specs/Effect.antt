@@ -1,11 +1,9 @@
 -- What each instruction does. IP stands past the instruction already.
-use Rattle.std.specs.Prelude.{ℕ, zero, suc, nat_le, Option, Some, None, ◌+◌, ◌-◌, ◌*◌, ◌/◌, ◌%◌, ◌==◌, Bool, true, false, not, ◌&&◌, ◌||◌, if◌then◌else◌, ℤ, ◌*ℤ◌}
+use Rattle.std.specs.Prelude.{ℕ, zero, suc, nat_le, Option, ◌+◌, ◌-◌, ◌*◌, ◌/◌, ◌%◌, ◌==◌, Bool, true, false, not, ◌||◌, if◌then◌else◌, ℤ, ◌*ℤ◌}
 use Rattle.x86_table.specs.declared.operand.WordReg.{WordReg}
 use Rattle.x86_table.specs.declared.operand.DataSeg.{DataSeg}
-use Rattle.x86_table.specs.declared.operand.DataSeg.TheVariants as data_seg
 use Rattle.x86_table.specs.declared.operand.SegReg.{SegReg}
 use Rattle.x86_table.specs.declared.operand.SegReg.TheVariants as seg
-use Rattle.x86_table.specs.declared.operand.Memory.{Memory}
 use Rattle.x86_table.specs.declared.operand.ByteOperand.{ByteOperand}
 use Rattle.x86_table.specs.declared.operand.ByteOperand.TheVariants as byte_rm
 use Rattle.x86_table.specs.declared.operand.WordOperand.{WordOperand}
@@ -38,7 +36,7 @@ use Rattle.cpu_8086.specs.declared.registers.Registers.{Registers}
 use Rattle.cpu_8086.specs.Memory.{address}
 use Rattle.cpu_8086.specs.Arithmetic.{size, top, differ, signed, fits, sum_of, difference_of, alu_of, twice_as_wide, sign_extend, shift_of, shift_overflow}
 use Rattle.cpu_8086.specs.Operand.{word_reg, with_word_reg, byte_reg, with_byte_reg, with_data_seg, offset_of}
-use Rattle.cpu_8086.specs.Access.{Act, Done, Read, Write, Copy, ReadCodeSegment, FarCall, FarReturn, FarJump, PushCodeSegment, Interrupt, DivideFault, raised, lowered, at_offset, in_segment, segment_then, byte_then, word_then, put_byte, put_word, read_word, write_word, push_then, top_then, pointer_then}
+use Rattle.cpu_8086.specs.Access.{Act, Done, Copy, ReadCodeSegment, FarCall, FarReturn, FarJump, PushCodeSegment, Interrupt, DivideFault, raised, lowered, at_offset, in_segment, byte_then, word_then, put_byte, put_word, push_then, top_then, pointer_then}
 
 -- ## Moves
 

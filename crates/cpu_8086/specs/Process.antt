@@ -1,10 +1,9 @@
 -- A process: a machine, what it read and wrote, and whether it still runs. DOS and the other services.
-use Rattle.std.specs.Prelude.{ℕ, zero, suc, ◌+◌, ◌-◌, ◌%◌, ◌/◌, ◌==◌, Bool, true, false, if◌then◌else◌, List, [], ◌∷◌, ◌++◌, length, take, drop, min}
+use Rattle.std.specs.Prelude.{ℕ, zero, suc, ◌+◌, ◌%◌, ◌/◌, ◌==◌, Bool, true, false, if◌then◌else◌, List, [], ◌∷◌, ◌++◌, length, take, drop}
 use Rattle.cpu_8086.specs.declared.process.Why.{Why}
 use Rattle.cpu_8086.specs.declared.process.Why.TheVariants as why
 use Rattle.cpu_8086.specs.declared.machine.Event.{Event}
 use Rattle.cpu_8086.specs.declared.machine.Event.TheVariants.{Ran, Service, Divide, Unknown}
-use Rattle.cpu_8086.specs.declared.registers.Registers.{Registers}
 use Rattle.cpu_8086.specs.State.{State}
 use Rattle.cpu_8086.specs.Memory.{load_byte, store_byte, next_offset}
 

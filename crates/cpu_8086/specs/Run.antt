@@ -3,7 +3,7 @@ use Rattle.std.specs.Prelude.{◌≡◌, ℕ, zero, suc}
 use Rattle.cpu_8086.specs.declared.machine.Event.{Event}
 use Rattle.cpu_8086.specs.State.{State}
 use Rattle.cpu_8086.specs.Step.{Steps}
-use Rattle.cpu_8086.specs.Process.{Process, Status, Running, after_step}
+use Rattle.cpu_8086.specs.Process.{Process, Running, after_step}
 
 -- one event takes p, which runs, to q
 pub record Goes (p q : Process) : Type 0 where
