@@ -3,6 +3,8 @@
 
 mod arithmetic;
 mod machine;
+mod memory;
+mod operand;
 mod process;
 mod registers;
 
