@@ -5,3 +5,6 @@ pub mod RunLaws
 pub mod DirectLaws
 pub mod SignedLaws
 pub mod ShiftLaws
+pub mod CompareLaws
+pub mod ArithmeticLaws
+pub mod StackLaws
