@@ -10,3 +10,4 @@ pub mod Places
 pub mod Step
 pub mod Process
 pub mod Run
+pub mod Laws

@@ -4,6 +4,7 @@
 mod arithmetic;
 mod compute;
 mod execute;
+mod laws;
 mod machine;
 mod memory;
 mod operand;
@@ -12,6 +13,7 @@ mod registers;
 mod step;
 mod transfer;
 
+pub use laws::{arithmetic_law, compare_law, memory_law, run_law, stack_law, step_law};
 pub use machine::{Event, Machine};
 pub use process::Why;
 pub use registers::{Far, Flag, Reg, Registers};

@@ -6,7 +6,7 @@ ghost use Rattle.cpu_8086.specs.Memory.{address, next_offset, load_byte, store_b
 use crate::machine::Machine;
 
 /// The linear address of an offset in a segment.
-fn address(segment: u16, offset: u16) -> u32
+pub fn address(segment: u16, offset: u16) -> u32
     ensures value { result ≡ address segment offset }
     ensures inside { result < 1048576 }
 {

@@ -1,11 +1,13 @@
 //! One step.
 
-ghost use Rattle.std.specs.Prelude.{◌≡◌, length};
+ghost use Rattle.std.specs.Prelude.{◌≡◌, ◌<◌, ◌+◌, length};
 ghost use Rattle.x86_table.specs.Spelling.{spelling};
 ghost use Rattle.cpu_8086.specs.Direct.{direct, settled, with_registers};
+ghost use Rattle.cpu_8086.specs.Memory.{address};
 ghost use Rattle.cpu_8086.specs.Step.{code_byte, fetched, past, Steps};
 
 use crate::machine::{Event, Machine};
+use crate::memory::address;
 use x86_table::{Instr, decode};
 
 impl Machine {
@@ -16,9 +18,9 @@ impl Machine {
         self.load_byte(self.cs, self.registers.ip.wrapping_add(distance))
     }
 
-    /// The eight bytes from CS:IP on.
+    /// The eight bytes from CS:IP on, where an offset or an address may wrap among them.
     #[tactic(auto, unfolding(crate::specs::Step::fetched))]
-    fn fetch(&self) -> [u8; 8]
+    fn fetch_wrapping(&self) -> [u8; 8]
         ensures { result ≡ fetched self.now }
     {
         [
@@ -30,6 +32,37 @@ impl Machine {
             self.code_byte(5),
             self.code_byte(6),
             self.code_byte(7),
+        ]
+    }
+
+    /// The byte so far behind CS:IP, at the address that its distance from CS:IP says.
+    #[tactic(auto, using(crate::proofs::FetchLaws::straight_code_byte))]
+    fn straight_byte(&self, distance: u32) -> u8
+        requires offset { self.now.registers.ip + distance < 65536 }
+        requires address { address self.now.cs self.now.registers.ip + distance < 1048576 }
+        ensures { result ≡ code_byte self.now distance }
+    {
+        self.byte(address(self.cs, self.registers.ip) + distance)
+    }
+
+    /// The eight bytes from CS:IP on. Mostly nothing wraps among them, and they are read as they lie.
+    #[tactic(auto, unfolding(crate::specs::Step::fetched))]
+    fn fetch(&self) -> [u8; 8]
+        ensures { result ≡ fetched self.now }
+    {
+        let ip = self.registers.ip;
+        if ip >= 0xfff8 || address(self.cs, ip) >= 0xf_fff8 {
+            return self.fetch_wrapping();
+        }
+        [
+            self.straight_byte(0),
+            self.straight_byte(1),
+            self.straight_byte(2),
+            self.straight_byte(3),
+            self.straight_byte(4),
+            self.straight_byte(5),
+            self.straight_byte(6),
+            self.straight_byte(7),
         ]
     }
 

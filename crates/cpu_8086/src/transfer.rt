@@ -98,8 +98,8 @@ impl Machine {
         self.registers.lower();
         let segment = self.registers.ss;
         let offset = self.registers.sp;
-        let value = self.registers.word_reg(register);
-        self.store_word(segment, offset, value);
+        let word = self.registers.word_reg(register);
+        self.store_word(segment, offset, word);
     }
 
     /// The word at the top of the stack.
