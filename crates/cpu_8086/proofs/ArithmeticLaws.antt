@@ -1,6 +1,6 @@
 -- Operators that undo each other.
-use Rattle.std.proofs.Common.{◌≡◌, ◌≢◌, ℕ, zero, suc, ◌+◌, ◌-◌, ◌*◌, ◌/◌, ◌%◌, ◌==◌, ◌<◌, ◌≤◌, Bool, true, false, not, refl, sym, ap, ◌∙◌, arith}
-use Rattle.std.specs.Prelude.{nat_le, nat_lt, if◌then◌else◌}
+use Rattle.std.proofs.Common.{◌≡◌, ℕ, ◌+◌, ◌*◌, ◌/◌, ◌%◌, ◌==◌, ◌<◌, Bool, true, false, refl, sym, ap, ◌∙◌, arith}
+use Rattle.std.specs.Prelude.{nat_le, if◌then◌else◌}
 use Rattle.std.proofs.lemmas.Bool.Decides.{nat_tests}
 use Rattle.std.proofs.lemmas.Bool.{false≢true}
 use Rattle.std.proofs.lemmas.Nat.{mul-lt, div-add-mod'}
@@ -8,7 +8,7 @@ use Rattle.std.proofs.Math.Nat.{mul-div_cancel, mul-mod_left}
 use Rattle.x86_table.specs.declared.instr.Width.{Width}
 use Rattle.x86_table.specs.declared.instr.Width.TheVariants as width
 use Rattle.cpu_8086.specs.declared.registers.Registers.{Registers}
-use Rattle.cpu_8086.specs.Arithmetic.{size, half, top, bit, differ, sum_of, difference_of}
+use Rattle.cpu_8086.specs.Arithmetic.{size, sum_of, difference_of}
 use Rattle.cpu_8086.specs.Access.{Act, Done, DivideFault}
 use Rattle.cpu_8086.specs.Effect.{accumulator, dividend, with_halves, with_product, multiplied, divided}
 

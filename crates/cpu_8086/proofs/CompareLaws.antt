@@ -1,6 +1,6 @@
 -- What the flags of a comparison decide.
-use Rattle.std.proofs.Common.{◌≡◌, ◌≢◌, ℕ, ◌+◌, ◌-◌, ◌*◌, ◌/◌, ◌%◌, ◌==◌, ◌<◌, ◌≤◌, Bool, true, false, not, refl, sym, ap, ◌∙◌, arith}
-use Rattle.std.specs.Prelude.{nat_le, nat_lt, ℤ, pos, neg_ℤ, ◌-ℤ◌, int_lt, ◌||◌}
+use Rattle.std.proofs.Common.{◌≡◌, ℕ, ◌+◌, ◌-◌, ◌*◌, ◌%◌, ◌==◌, ◌<◌, Bool, true, false, not, refl, ap, ◌∙◌, arith}
+use Rattle.std.specs.Prelude.{nat_le, nat_lt, ℤ, pos, ◌-ℤ◌, int_lt, ◌||◌}
 use Rattle.std.proofs.lemmas.Bool.Decides.{nat_tests}
 use Rattle.std.proofs.lemmas.Int.{ints}
 use Rattle.x86_table.specs.declared.instr.Width.{Width}
@@ -10,7 +10,7 @@ use Rattle.x86_table.specs.declared.instr.Cond.TheVariants as cond
 use Rattle.cpu_8086.specs.declared.registers.Registers.{Registers}
 use Rattle.cpu_8086.specs.Effect.{holds}
 use Rattle.cpu_8086.specs.Laws.{compared, decides}
-use Rattle.cpu_8086.specs.Arithmetic.{size, half, top, bit, differ, signed, fits, difference_of}
+use Rattle.cpu_8086.specs.Arithmetic.{size, top, differ, signed, fits, difference_of}
 
 abbrev pub difference : Width → ℕ → ℕ → ℕ
 difference w x y = (x + 2 * size w - y - 0) % size w

@@ -1,5 +1,5 @@
 -- What is pushed is popped.
-use Rattle.std.proofs.Common.{◌≡◌, ◌≢◌, ℕ, ◌+◌, ◌%◌, ◌<◌, List, length, refl, sym, ap, ◌∙◌, arith}
+use Rattle.std.proofs.Common.{◌≡◌, ◌≢◌, ℕ, ◌+◌, ◌%◌, ◌<◌, length, ◌∙◌, arith}
 use Rattle.x86_table.specs.declared.operand.WordReg.{WordReg}
 use Rattle.x86_table.specs.declared.operand.WordReg.TheVariants as word
 use Rattle.x86_table.specs.declared.instr.Instr.TheVariants as instr
