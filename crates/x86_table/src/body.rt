@@ -18,6 +18,7 @@ use crate::operand::{DataSeg, SegReg, WordOperand, byte_reg, word_reg};
 use crate::read::{byte_of, byte_operand, memory_of, word_of, word_operand};
 use crate::row::{Row, alu_op};
 
+/// The operands of one of the four r/m forms.
 #[tactic(auto, unfolding(crate::specs::Spelling::pair_form, crate::specs::Spelling::pair_body, crate::specs::Spelling::pair_override))]
 fn pair_of(form: Form, segment: Option<SegReg>, bytes: &[u8]) -> Option<(Pair, &[u8])>
     ensures found { IfSome result (λ x. (pair_form x.0 ≡ form) × (pair_override x.0 ≡ segment) × (bytes.now ≡ pair_body x.0 ++ x.1.now)) }
@@ -43,6 +44,7 @@ fn pair_of(form: Form, segment: Option<SegReg>, bytes: &[u8]) -> Option<(Pair, &
     }
 }
 
+/// A destination, the field between mod and r/m, and an immediate.
 #[tactic(auto, unfolding(crate::specs::Spelling::immediate_width, crate::specs::Spelling::immediate_body, crate::specs::Spelling::immediate_override))]
 fn immediate_of(
     width: Width,
@@ -66,6 +68,7 @@ fn immediate_of(
     }
 }
 
+/// One operand, and the field between mod and r/m.
 #[tactic(auto, unfolding(crate::specs::Spelling::target_width, crate::specs::Spelling::target_body, crate::specs::Spelling::target_override))]
 fn target_of(width: Width, segment: Option<SegReg>, bytes: &[u8]) -> Option<(Target, u8, &[u8])>
     ensures found { IfSome result (λ x. (x.1 < 8) × (target_width x.0 ≡ width) × (target_override x.0 ≡ segment) × (bytes.now ≡ target_body x.1 x.0 ++ x.2.now)) }
@@ -83,6 +86,7 @@ fn target_of(width: Width, segment: Option<SegReg>, bytes: &[u8]) -> Option<(Tar
     }
 }
 
+/// The operator under 83 of a number, if it has one.
 fn short_op(code: u8) -> Option<ShortOp>
     requires { code < 8 }
     ensures found { IfSome result (λ op. short_op_code op ≡ code) }
@@ -98,6 +102,7 @@ fn short_op(code: u8) -> Option<ShortOp>
     }
 }
 
+/// The operator under F6 and F7 of a number, if it has one.
 fn unary_op(code: u8) -> Option<UnaryOp>
     requires { code < 8 }
     ensures found { IfSome result (λ op. unary_op_code op ≡ code) }
@@ -113,6 +118,7 @@ fn unary_op(code: u8) -> Option<UnaryOp>
     }
 }
 
+/// The shift of a number, if it has one.
 fn shift_op(code: u8) -> Option<ShiftOp>
     requires { code < 8 }
     ensures found { IfSome result (λ op. shift_op_code op ≡ code) }
@@ -128,6 +134,7 @@ fn shift_op(code: u8) -> Option<ShiftOp>
     }
 }
 
+/// The segment register of a number, if it has one.
 fn seg_reg(code: u8) -> Option<SegReg>
     requires { code < 8 }
     ensures found { IfSome result (λ s. seg_reg_code s ≡ code) }
@@ -142,6 +149,7 @@ fn seg_reg(code: u8) -> Option<SegReg>
     }
 }
 
+/// The segment register of a number that may be loaded, if it has one.
 fn data_seg(code: u8) -> Option<DataSeg>
     requires { code < 8 }
     ensures found { IfSome result (λ s. data_seg_code s ≡ code) }
@@ -155,6 +163,7 @@ fn data_seg(code: u8) -> Option<DataSeg>
     }
 }
 
+/// Whether there is no override, as a row without a memory operand wants.
 fn no_override(segment: Option<SegReg>) -> Option<()>
     ensures found { IfSome result (λ _. segment ≡ None) }
     ensures none { IfNone result (segment ≢ None) }
@@ -229,8 +238,8 @@ fn fixed_body(row: Row, bytes: &[u8]) -> Option<(Instr, &[u8])>
     }
 }
 
-#[tactic(auto, using(crate::proofs::Unique::word_reg_code_lt))]
 /// The instruction of a row that these bytes go on with.
+#[tactic(auto, using(crate::proofs::Unique::word_reg_code_lt))]
 pub fn body_of(row: Row, segment: Option<SegReg>, bytes: &[u8]) -> Option<(Instr, &[u8])>
     ensures found { IfSome result (λ x. (row_of_instr x.0 ≡ row) × (segment_override x.0 ≡ segment) × (bytes.now ≡ body x.0 ++ x.1.now)) }
     ensures only { (i : Instr) (rest : List ℕ) → row_of_instr i ≡ row → segment_override i ≡ segment → bytes.now ≡ body i ++ rest → MatchOption result ⊥ (λ x. (x.0 ≡ i) × (x.1.now ≡ rest)) }

@@ -14,6 +14,7 @@ use crate::operand::SegReg;
 use crate::read::byte_of;
 use crate::row::row_of;
 
+/// The segment register of a prefix byte, if it is one.
 fn override_of(byte: u8) -> Option<SegReg>
     ensures found { IfSome result (λ s. 0x26 + 8 * seg_reg_code s ≡ byte) }
     ensures none { IfNone result ((s : SegReg) → 0x26 + 8 * seg_reg_code s ≢ byte) }

@@ -2,193 +2,17 @@
 
 ghost use Rattle.std.specs.Prelude.{◌≡◌, ◌+◌, ◌*◌, ◌<◌, ◌≤◌, ◌++◌, ◌∷◌, []};
 ghost use Rattle.arrayvec.specs.ArrayVec.{array_vec_len};
-ghost use Rattle.x86_table.specs.Codes.{word_reg_code, byte_reg_code, seg_reg_code, data_seg_code, form_code, alu_op_code, short_op_code, unary_op_code, shift_op_code, cond_opcode, base_code, indirect_base_code};
 ghost use Rattle.x86_table.specs.Opcode.{opcode};
 ghost use Rattle.x86_table.specs.Spelling.{word_bytes, prefix, place_code, displacement, memory_modrm, byte_modrm, word_modrm, pair_form, pair_body, pair_override, immediate_width, immediate_body, immediate_override, target_width, target_body, target_override, byte_override, word_override, row_of_instr, segment_override, body, spelling};
 
-use crate::instr::{
-    AluOp, Cond, Count, Form, Immediate, Instr, Pair, ShiftOp, ShortOp, Target, UnaryOp, Width,
+use crate::codes::{
+    alu_op_code, base_code, byte_reg_code, cond_opcode, data_seg_code, form_code,
+    indirect_base_code, seg_reg_code, shift_op_code, short_op_code, unary_op_code, word_reg_code,
 };
-use crate::operand::{
-    Base, ByteOperand, ByteReg, DataSeg, IndirectBase, Memory, Place, SegReg, WordOperand, WordReg,
-};
+use crate::instr::{Count, Form, Immediate, Instr, Pair, Target, Width};
+use crate::operand::{ByteOperand, Memory, Place, SegReg, WordOperand};
 use crate::row::Row;
 use arrayvec::ArrayVec;
-
-fn word_reg_code(value: WordReg) -> u8
-    ensures value { result ≡ word_reg_code value }
-    ensures bound { result < 8 }
-{
-    match value {
-        WordReg::Ax => 0,
-        WordReg::Cx => 1,
-        WordReg::Dx => 2,
-        WordReg::Bx => 3,
-        WordReg::Sp => 4,
-        WordReg::Bp => 5,
-        WordReg::Si => 6,
-        WordReg::Di => 7,
-    }
-}
-
-fn byte_reg_code(value: ByteReg) -> u8
-    ensures value { result ≡ byte_reg_code value }
-    ensures bound { result < 8 }
-{
-    match value {
-        ByteReg::Al => 0,
-        ByteReg::Cl => 1,
-        ByteReg::Dl => 2,
-        ByteReg::Bl => 3,
-        ByteReg::Ah => 4,
-        ByteReg::Ch => 5,
-        ByteReg::Dh => 6,
-        ByteReg::Bh => 7,
-    }
-}
-
-fn seg_reg_code(value: SegReg) -> u8
-    ensures value { result ≡ seg_reg_code value }
-    ensures bound { result < 8 }
-{
-    match value {
-        SegReg::Es => 0,
-        SegReg::Cs => 1,
-        SegReg::Ss => 2,
-        SegReg::Ds => 3,
-    }
-}
-
-fn data_seg_code(value: DataSeg) -> u8
-    ensures value { result ≡ data_seg_code value }
-    ensures bound { result < 8 }
-{
-    match value {
-        DataSeg::Es => 0,
-        DataSeg::Ss => 2,
-        DataSeg::Ds => 3,
-    }
-}
-
-fn form_code(value: Form) -> u8
-    ensures value { result ≡ form_code value }
-    ensures bound { result < 4 }
-{
-    match value {
-        Form::RmByte => 0,
-        Form::RmWord => 1,
-        Form::ByteRm => 2,
-        Form::WordRm => 3,
-    }
-}
-
-fn alu_op_code(value: AluOp) -> u8
-    ensures value { result ≡ alu_op_code value }
-    ensures bound { result < 8 }
-{
-    match value {
-        AluOp::Add => 0,
-        AluOp::Or => 1,
-        AluOp::Adc => 2,
-        AluOp::Sbb => 3,
-        AluOp::And => 4,
-        AluOp::Sub => 5,
-        AluOp::Xor => 6,
-        AluOp::Cmp => 7,
-    }
-}
-
-fn short_op_code(value: ShortOp) -> u8
-    ensures value { result ≡ short_op_code value }
-    ensures bound { result < 8 }
-{
-    match value {
-        ShortOp::Add => 0,
-        ShortOp::Adc => 2,
-        ShortOp::Sbb => 3,
-        ShortOp::Sub => 5,
-        ShortOp::Cmp => 7,
-    }
-}
-
-fn unary_op_code(value: UnaryOp) -> u8
-    ensures value { result ≡ unary_op_code value }
-    ensures bound { result < 8 }
-{
-    match value {
-        UnaryOp::Not => 2,
-        UnaryOp::Neg => 3,
-        UnaryOp::Mul => 4,
-        UnaryOp::Imul => 5,
-        UnaryOp::Div => 6,
-    }
-}
-
-fn shift_op_code(value: ShiftOp) -> u8
-    ensures value { result ≡ shift_op_code value }
-    ensures bound { result < 8 }
-{
-    match value {
-        ShiftOp::Rcl => 2,
-        ShiftOp::Rcr => 3,
-        ShiftOp::Shl => 4,
-        ShiftOp::Shr => 5,
-        ShiftOp::Sar => 7,
-    }
-}
-
-fn cond_opcode(value: Cond) -> u8
-    ensures { result ≡ cond_opcode value }
-{
-    match value {
-        Cond::Overflow => 0x70,
-        Cond::NoOverflow => 0x71,
-        Cond::Below => 0x72,
-        Cond::AboveOrEqual => 0x73,
-        Cond::Equal => 0x74,
-        Cond::NotEqual => 0x75,
-        Cond::BelowOrEqual => 0x76,
-        Cond::Above => 0x77,
-        Cond::Sign => 0x78,
-        Cond::NoSign => 0x79,
-        Cond::Less => 0x7c,
-        Cond::GreaterOrEqual => 0x7d,
-        Cond::LessOrEqual => 0x7e,
-        Cond::Greater => 0x7f,
-        Cond::Always => 0xeb,
-    }
-}
-
-fn base_code(value: Base) -> u8
-    ensures value { result ≡ base_code value }
-    ensures bound { result < 8 }
-{
-    match value {
-        Base::BxSi => 0,
-        Base::BxDi => 1,
-        Base::BpSi => 2,
-        Base::BpDi => 3,
-        Base::Si => 4,
-        Base::Di => 5,
-        Base::Bp => 6,
-        Base::Bx => 7,
-    }
-}
-
-fn indirect_base_code(value: IndirectBase) -> u8
-    ensures value { result ≡ indirect_base_code value }
-    ensures bound { result < 8 }
-{
-    match value {
-        IndirectBase::BxSi => 0,
-        IndirectBase::BxDi => 1,
-        IndirectBase::BpSi => 2,
-        IndirectBase::BpDi => 3,
-        IndirectBase::Si => 4,
-        IndirectBase::Di => 5,
-        IndirectBase::Bx => 7,
-    }
-}
 
 /// The opcode of a row.
 fn opcode(row: Row) -> u8
@@ -241,6 +65,7 @@ fn opcode(row: Row) -> u8
     }
 }
 
+/// The segment override of r/m8.
 fn byte_override(operand: ByteOperand) -> Option<SegReg>
     ensures { result ≡ byte_override operand }
 {
@@ -250,6 +75,7 @@ fn byte_override(operand: ByteOperand) -> Option<SegReg>
     }
 }
 
+/// The segment override of r/m16.
 fn word_override(operand: WordOperand) -> Option<SegReg>
     ensures { result ≡ word_override operand }
 {
@@ -259,6 +85,7 @@ fn word_override(operand: WordOperand) -> Option<SegReg>
     }
 }
 
+/// Which of the four r/m forms these operands are of.
 #[tactic(auto, unfolding(crate::specs::Spelling::pair_form))]
 fn pair_form(pair: Pair) -> Form
     ensures { result ≡ pair_form pair }
@@ -271,6 +98,7 @@ fn pair_form(pair: Pair) -> Form
     }
 }
 
+/// The segment override of these operands.
 #[tactic(auto, unfolding(crate::specs::Spelling::pair_override))]
 fn pair_override(pair: Pair) -> Option<SegReg>
     ensures { result ≡ pair_override pair }
@@ -281,6 +109,7 @@ fn pair_override(pair: Pair) -> Option<SegReg>
     }
 }
 
+/// The width of an immediate.
 #[tactic(auto, unfolding(crate::specs::Spelling::immediate_width))]
 fn immediate_width(immediate: Immediate) -> Width
     ensures { result ≡ immediate_width immediate }
@@ -291,6 +120,7 @@ fn immediate_width(immediate: Immediate) -> Width
     }
 }
 
+/// The segment override of the destination.
 #[tactic(auto, unfolding(crate::specs::Spelling::immediate_override))]
 fn immediate_override(immediate: Immediate) -> Option<SegReg>
     ensures { result ≡ immediate_override immediate }
@@ -301,6 +131,7 @@ fn immediate_override(immediate: Immediate) -> Option<SegReg>
     }
 }
 
+/// The width of an operand.
 #[tactic(auto, unfolding(crate::specs::Spelling::target_width))]
 fn target_width(target: Target) -> Width
     ensures { result ≡ target_width target }
@@ -311,6 +142,7 @@ fn target_width(target: Target) -> Width
     }
 }
 
+/// The segment override of an operand.
 #[tactic(auto, unfolding(crate::specs::Spelling::target_override))]
 fn target_override(target: Target) -> Option<SegReg>
     ensures { result ≡ target_override target }
@@ -390,6 +222,7 @@ fn segment_override(instr: Instr) -> Option<SegReg>
     }
 }
 
+/// Appends a word, low byte first.
 #[tactic(auto, unfolding(crate::specs::Spelling::word_bytes))]
 fn push_word(out: &mut ArrayVec<u8, 8>, word: u16)
     requires { array_vec_len out.old ≤ 6 }
@@ -400,6 +233,7 @@ fn push_word(out: &mut ArrayVec<u8, 8>, word: u16)
     out.push((word / 256) as u8);
 }
 
+/// The mod and r/m fields of an address.
 fn place_code(place: Place) -> u8
     ensures value { result ≡ place_code place }
     ensures bound { result < 136 }
@@ -412,6 +246,7 @@ fn place_code(place: Place) -> u8
     }
 }
 
+/// Appends the direct offset or the displacement.
 fn push_displacement(out: &mut ArrayVec<u8, 8>, place: Place)
     requires { array_vec_len out.old ≤ 6 }
     ensures items { out.new.items ≡ out.old.items ++ displacement place }
@@ -424,6 +259,7 @@ fn push_displacement(out: &mut ArrayVec<u8, 8>, place: Place)
     }
 }
 
+/// Appends the ModR/M byte and the displacement, with a number in the reg field.
 #[tactic(auto, unfolding(crate::specs::Spelling::memory_modrm))]
 fn push_memory(out: &mut ArrayVec<u8, 8>, field: u8, memory: Memory)
     requires room { array_vec_len out.old ≤ 5 }
@@ -435,6 +271,7 @@ fn push_memory(out: &mut ArrayVec<u8, 8>, field: u8, memory: Memory)
     push_displacement(out, memory.place);
 }
 
+/// Appends what encodes r/m16, with a number in the reg field.
 #[tactic(auto, unfolding(crate::specs::Spelling::word_modrm))]
 fn push_word_operand(out: &mut ArrayVec<u8, 8>, field: u8, operand: WordOperand)
     requires room { array_vec_len out.old ≤ 5 }
@@ -448,6 +285,7 @@ fn push_word_operand(out: &mut ArrayVec<u8, 8>, field: u8, operand: WordOperand)
     }
 }
 
+/// Appends what encodes r/m8, with a number in the reg field.
 #[tactic(auto, unfolding(crate::specs::Spelling::byte_modrm))]
 fn push_byte_operand(out: &mut ArrayVec<u8, 8>, field: u8, operand: ByteOperand)
     requires room { array_vec_len out.old ≤ 5 }
@@ -461,6 +299,7 @@ fn push_byte_operand(out: &mut ArrayVec<u8, 8>, field: u8, operand: ByteOperand)
     }
 }
 
+/// Appends what encodes a register and r/m.
 #[tactic(auto, unfolding(crate::specs::Spelling::pair_body))]
 fn push_pair(out: &mut ArrayVec<u8, 8>, pair: Pair)
     requires { array_vec_len out.old ≤ 5 }
@@ -476,6 +315,7 @@ fn push_pair(out: &mut ArrayVec<u8, 8>, pair: Pair)
     }
 }
 
+/// Appends what encodes a destination and its immediate.
 #[tactic(auto, unfolding(crate::specs::Spelling::immediate_body))]
 fn push_immediate(out: &mut ArrayVec<u8, 8>, field: u8, immediate: Immediate)
     requires room { array_vec_len out.old ≤ 3 }
@@ -494,6 +334,7 @@ fn push_immediate(out: &mut ArrayVec<u8, 8>, field: u8, immediate: Immediate)
     }
 }
 
+/// Appends what encodes one operand.
 #[tactic(auto, unfolding(crate::specs::Spelling::target_body))]
 fn push_target(out: &mut ArrayVec<u8, 8>, field: u8, target: Target)
     requires room { array_vec_len out.old ≤ 5 }
@@ -506,6 +347,7 @@ fn push_target(out: &mut ArrayVec<u8, 8>, field: u8, target: Target)
     }
 }
 
+/// Appends what follows the opcode.
 fn push_body(out: &mut ArrayVec<u8, 8>, instr: Instr)
     requires { array_vec_len out.old ≤ 2 }
     ensures { out.new.items ≡ out.old.items ++ body instr }

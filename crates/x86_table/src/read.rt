@@ -12,6 +12,7 @@ use crate::operand::{
     Base, ByteOperand, IndirectBase, Memory, Place, SegReg, WordOperand, byte_reg, word_reg,
 };
 
+/// The first byte, and the rest.
 pub fn byte_of(bytes: &[u8]) -> Option<(u8, &[u8])>
     ensures found { IfSome result (λ x. bytes.now ≡ x.0 ∷ x.1.now) }
     ensures only { (b : ℕ) (rest : List ℕ) → bytes.now ≡ b ∷ rest → MatchOption result ⊥ (λ x. (x.0 ≡ b) × (x.1.now ≡ rest)) }
@@ -22,6 +23,7 @@ pub fn byte_of(bytes: &[u8]) -> Option<(u8, &[u8])>
     }
 }
 
+/// The first word, low byte first, and the rest.
 #[tactic(auto, unfolding(crate::specs::Spelling::word_bytes))]
 pub fn word_of(bytes: &[u8]) -> Option<(u16, &[u8])>
     ensures found { IfSome result (λ x. bytes.now ≡ word_bytes x.0 ++ x.1.now) }
@@ -33,6 +35,7 @@ pub fn word_of(bytes: &[u8]) -> Option<(u16, &[u8])>
     }
 }
 
+/// The registers of an r/m field under mod 1 and 2.
 fn base_of(code: u8) -> Base
     requires { code < 8 }
     ensures { base_code result ≡ code }
@@ -49,6 +52,7 @@ fn base_of(code: u8) -> Base
     }
 }
 
+/// The registers of an r/m field under mod 0; 6 has none.
 fn indirect_base_of(code: u8) -> Option<IndirectBase>
     requires { code < 8 }
     ensures found { IfSome result (λ b. indirect_base_code b ≡ code) }

@@ -1,7 +1,6 @@
 //! The rows of the table, and the one function that finds the row of an opcode.
 
-ghost use Rattle.std.specs.Prelude.{◌≡◌, IfSome, MatchOption};
-ghost use Rattle.std.specs.Prelude.{◌+◌, ◌<◌};
+ghost use Rattle.std.specs.Prelude.{◌≡◌, ◌+◌, ◌<◌, IfSome, MatchOption};
 ghost use Rattle.x86_table.specs.Codes.{form_code, alu_op_code, cond_opcode};
 ghost use Rattle.x86_table.specs.declared.instr.Cond.{Cond};
 ghost use Rattle.x86_table.specs.Opcode.{opcode};
@@ -10,7 +9,7 @@ ghost use Rattle.x86_table.specs.declared.row.Row.{Row};
 use crate::instr::{AluOp, Cond, Count, Form, Width};
 use crate::operand::{ByteReg, DataSeg, SegReg, WordReg, byte_reg, word_reg};
 
-/// A row of the table: what an opcode alone says of the instruction.
+/// A row of the table: what an opcode alone says of the instruction. `Opcode` of `specs/` gives the opcode of each.
 #[derive(Clone, Copy, PartialEq, Eq, Debug)]
 pub enum Row {
     Mov(Form),
@@ -65,6 +64,7 @@ fn form_of(code: u8) -> Form
     }
 }
 
+/// The operator of the arithmetic group of a number.
 pub fn alu_op(code: u8) -> AluOp
     requires { code < 8 }
     ensures { alu_op_code result ≡ code }
@@ -81,6 +81,7 @@ pub fn alu_op(code: u8) -> AluOp
     }
 }
 
+/// The condition of the low digit of the opcodes 70 to 7F, if the table has it.
 fn cond_of(code: u8) -> Option<Cond>
     requires { code < 16 }
     ensures found { IfSome result (λ c. cond_opcode c ≡ 0x70 + code) }
