@@ -1,0 +1,10 @@
+pub mod MemoryLaws
+pub mod FetchLaws
+pub mod StepLaws
+pub mod RunLaws
+pub mod DirectLaws
+pub mod SignedLaws
+pub mod ShiftLaws
+pub mod CompareLaws
+pub mod ArithmeticLaws
+pub mod StackLaws
