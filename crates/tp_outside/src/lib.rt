@@ -25,3 +25,6 @@ pub use real_sink::RealSink;
 pub use real_source::RealSource;
 pub use sinks::{Sink, write_all};
 pub use sources::Source;
+
+#[cfg(test)]
+mod tests;
