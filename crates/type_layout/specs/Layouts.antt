@@ -1,5 +1,5 @@
 -- The memory that types take.
-use Rattle.std.specs.Prelude.{ℕ, ◌+◌, ◌*◌, ℤ, pos, Bool, true, false, List, [], ◌∷◌, ◌++◌, Option, Some, None, get_or, slice_get, sum_by, map}
+use Rattle.std.specs.Prelude.{ℕ, ◌+◌, ◌-◌, ◌*◌, ℤ, pos, Bool, true, false, List, [], ◌∷◌, ◌++◌, Option, Some, None, get_or, slice_get, sum_by, map}
 use Rattle.type_layout.specs.declared.definitions.TypeId.{TypeId}
 use Rattle.type_layout.specs.declared.definitions.Field.{Field}
 use Rattle.type_layout.specs.declared.definitions.TypeDef.{TypeDef}
@@ -40,6 +40,12 @@ abbrev pub object_by : Option ℕ → Bool → ℕ → Layout
 object_by (Some at) dynamic end = record { size = end; class_field = Some at }
 object_by None true end = record { size = end + 2; class_field = Some end }
 object_by None false end = record { size = end; class_field = None }
+
+-- the class field of an object whose size is known, by the class field that it inherits
+abbrev pub class_field_within : Option ℕ → Bool → ℕ → Option ℕ
+class_field_within (Some at) dynamic size = Some at
+class_field_within None true size = Some (size - 2)
+class_field_within None false size = None
 
 -- the layout of a type over the types before it and their layouts
 abbrev pub layout_by : List TypeDef → List Layout → TypeDef → Layout
