@@ -72,6 +72,10 @@ layouts_of types = given_by layout_by [] [] types
 abbrev pub layout_at : List TypeDef → TypeId → Layout
 layout_at types id = layout_in (layouts_of types) id
 
+-- the bytes of a further type over a table
+abbrev pub size_over : List TypeDef → TypeDef → ℕ
+size_over types one = (layout_by types (layouts_of types) one).size
+
 -- the places of fields that follow one another from a place on
 abbrev pub placed_from : List Layout → ℕ → List Field → List ℕ
 placed_from layouts at [] = []

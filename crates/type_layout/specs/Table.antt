@@ -6,6 +6,7 @@ use Rattle.type_layout.specs.declared.definitions.Method.{Method}
 use Rattle.type_layout.specs.declared.definitions.TypeDef.{TypeDef}
 use Rattle.type_layout.specs.declared.definitions.TypeDef.TheVariants.{Ordinal, Str, SetOf, ArrayOf, RecordOf, PointerTo, ObjectOf, Procedural}
 use Rattle.type_layout.specs.declared.definitions.Origin.{Origin}
+use Rattle.type_layout.specs.declared.layout.Layout.{Layout}
 use Rattle.type_layout.specs.Words.{same_bytes}
 use Rattle.type_layout.specs.Storage.{least_of, greatest_of}
 use Rattle.type_layout.specs.Layouts.{layouts_of}
@@ -59,6 +60,11 @@ pub record IsWellFormed (table : Table) : Type 0 where
   pub known : All (λ origin. origin.unit < length table.units) table.origins
   pub few : length table.types < 2 ^ 32
   pub few_units : length table.units < 2 ^ 32
+
+-- what the struct keeps: a well-formed table, and beside each type its layout
+pub record IsKept (table : Table) (layouts : List Layout) : Type 0 where
+  pub well_formed : IsWellFormed table
+  pub measured : layouts ≡ layouts_of table.types
 
 -- the place of a unit among the units, the next one where it is new
 abbrev pub place_of : List (List ℕ) → List ℕ → ℕ

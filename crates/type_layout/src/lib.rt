@@ -5,6 +5,7 @@ mod definitions;
 mod layout;
 mod lists;
 mod storage;
+mod table;
 mod texts;
 mod words;
 
@@ -12,5 +13,6 @@ pub use definitions::{Field, Fields, Header, Host, Kind, Method, Methods, Origin
 pub use layout::Layout;
 pub use lists::{Bytes, Names, Sequence};
 pub use storage::storage_of;
+pub use table::{TYPE_LIMIT, TypeError, Types};
 pub use texts::{FILE_NAME_LEN, FileName, Place};
 pub use words::{NAME_LEN, Name};
