@@ -1,5 +1,5 @@
 -- The memory that types take.
-use Rattle.std.specs.Prelude.{ℕ, ◌+◌, ◌-◌, ◌*◌, ℤ, pos, Bool, true, false, List, [], ◌∷◌, ◌++◌, Option, Some, None, get_or, slice_get, sum_by, map}
+use Rattle.std.specs.Prelude.{◌≡◌, ℕ, ◌+◌, ◌-◌, ◌*◌, ℤ, pos, Bool, true, false, List, [], ◌∷◌, ◌++◌, Option, Some, None, get_or, slice_get, sum_by, map}
 use Rattle.type_layout.specs.declared.definitions.TypeId.{TypeId}
 use Rattle.type_layout.specs.declared.definitions.Field.{Field}
 use Rattle.type_layout.specs.declared.definitions.TypeDef.{TypeDef}
@@ -98,3 +98,10 @@ offsets_of types = given_by offsets_by [] [] types
 
 abbrev pub offsets_at : List TypeDef → TypeId → List ℕ
 offsets_at types id = offsets_in (offsets_of types) (Some id)
+
+-- The layout of each type is what its construct makes of the layouts of its parts.
+pub record IsMeasured (types : List TypeDef) : Type 0 where
+  pub layouts : (id : TypeId) (one : TypeDef) → slice_get types id.0 ≡ Some one
+      → layout_at types id ≡ layout_by types (layouts_of types) one
+  pub offsets : (id : TypeId) (one : TypeDef) → slice_get types id.0 ≡ Some one
+      → offsets_at types id ≡ offsets_by types (offsets_of types) one
