@@ -1,5 +1,5 @@
 -- The machine and the process as a loaded executable starts.
-use Rattle.std.specs.Prelude.{◌≡◌, ℕ, ◌+◌, ◌-◌, ◌*◌, ◌/◌, ◌%◌, ◌≤◌, false, nat_lt, if◌then◌else◌, List, [], ◌∷◌, length, slice_index, map, All}
+use Rattle.std.specs.Prelude.{ℕ, ◌+◌, ◌-◌, ◌*◌, ◌/◌, ◌%◌, ◌≤◌, false, nat_lt, if◌then◌else◌, List, [], ◌∷◌, length, slice_index, map, All}
 use Rattle.std.specs.List.{range_with_len}
 use Rattle.cpu_8086.specs.declared.registers.Far.{Far}
 use Rattle.cpu_8086.specs.declared.registers.Registers.{Registers}

@@ -1,6 +1,6 @@
 -- The bytes that are written for a value: the relocations come right behind the block, and the header is filled
 -- with zeros to a paragraph.
-use Rattle.std.specs.Prelude.{◌≡◌, ℕ, ◌+◌, ◌-◌, ◌*◌, ◌/◌, ◌%◌, ◌≤◌, List, [], ◌∷◌, ◌++◌, length, replicate, All}
+use Rattle.std.specs.Prelude.{ℕ, ◌+◌, ◌-◌, ◌*◌, ◌/◌, ◌%◌, ◌≤◌, List, [], ◌∷◌, ◌++◌, length, replicate, All}
 use Rattle.mz_file.specs.declared.executable.Exe.{Exe}
 use Rattle.mz_file.specs.Format.{IsWithin}
 use Rattle.mz_file.specs.Words.{bytes_of_words, words_of_fars}

@@ -1,5 +1,5 @@
 -- Words in lists of bytes: the low byte comes first.
-use Rattle.std.specs.Prelude.{ℕ, zero, suc, ◌+◌, ◌*◌, ◌%◌, ◌/◌, List, [], ◌∷◌, slice_index, slice_set}
+use Rattle.std.specs.Prelude.{ℕ, zero, suc, ◌+◌, ◌*◌, List, [], ◌∷◌, slice_index, slice_set}
 use Rattle.cpu_8086.specs.Memory.{word_of, low_byte, high_byte}
 use Rattle.cpu_8086.specs.declared.registers.Far.{Far}
 

@@ -2,5 +2,7 @@
 #![tactic(auto)]
 
 mod executable;
+mod write;
 
 pub use executable::{Block, Exe, FarList, Segments};
+pub use write::write_exe;
