@@ -1,2 +1,3 @@
-pub mod WordLaws
+pub mod LoadLaws
 pub mod SpellingLaws
+pub mod WordLaws

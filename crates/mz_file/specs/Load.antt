@@ -1,5 +1,5 @@
 -- The machine and the process as a loaded executable starts.
-use Rattle.std.specs.Prelude.{ℕ, ◌+◌, ◌-◌, ◌*◌, ◌/◌, ◌%◌, ◌≤◌, false, nat_lt, if◌then◌else◌, List, [], ◌∷◌, length, slice_index, map, All}
+use Rattle.std.specs.Prelude.{◌≡◌, ℕ, ◌+◌, ◌-◌, ◌*◌, ◌/◌, ◌%◌, ◌<◌, ◌≤◌, false, nat_lt, if◌then◌else◌, List, [], ◌∷◌, length, slice_index, map, All}
 use Rattle.std.specs.List.{range_with_len}
 use Rattle.cpu_8086.specs.declared.registers.Far.{Far}
 use Rattle.cpu_8086.specs.declared.registers.Registers.{Registers}
@@ -14,15 +14,22 @@ use Rattle.mz_file.specs.Words.{word_at, with_word}
 abbrev pub loaded_segment : ℕ → ℕ
 loaded_segment segment = (segment + 0x70) % 65536
 
+-- The bytes in which the word at a place, a segment, became a loaded one.
+abbrev pub with_loaded_segment : List ℕ → ℕ → List ℕ
+with_loaded_segment bytes place = with_word bytes place (loaded_segment (word_at bytes place))
+
 -- At each relocation the word of the image is a segment.
 abbrev pub relocated : List ℕ → List Far → List ℕ
 relocated image [] = image
-relocated image (far ∷ fars) =
-    relocated (with_word image (16 * far.segment + far.offset) (loaded_segment (word_at image (16 * far.segment + far.offset)))) fars
+relocated image (far ∷ fars) = relocated (with_loaded_segment image (16 * far.segment + far.offset)) fars
 
 -- The byte at a linear address: the image stands from 700h on, and all else is 0.
+abbrev pub image_byte : List ℕ → ℕ → ℕ
+image_byte image address = if nat_lt address 0x700 then 0 else slice_index image (address - 0x700)
+
+-- The same for the image of an executable.
 abbrev pub loaded_byte : Exe → ℕ → ℕ
-loaded_byte exe address = if nat_lt address 0x700 then 0 else slice_index (relocated exe.image exe.relocations) (address - 0x700)
+loaded_byte exe address = image_byte (relocated exe.image exe.relocations) address
 
 unfoldable pub loaded_memory : Exe → ℕ → List ℕ
 loaded_memory exe size = map (loaded_byte exe) (range_with_len 0 size)
@@ -80,3 +87,8 @@ FitsWithBuffer exe buffer = paragraphs_taken exe + buffer ≤ 0xA000
 pub record IsLoadable (exe : Exe) : Type 0 where
   pub inside : All (IsWithin (length exe.image)) exe.relocations
   pub size : length exe.image ≤ 512 * 65535
+
+-- A megabyte of memory holds this image, and zeros besides.
+pub record HoldsImage (memory image : List ℕ) : Type 0 where
+  pub size : length memory ≡ 1048576
+  pub bytes : (address : ℕ) → address < 1048576 → slice_index memory address ≡ image_byte image address

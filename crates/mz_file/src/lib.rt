@@ -2,7 +2,9 @@
 #![tactic(auto)]
 
 mod executable;
-mod write;
+mod loading;
+mod writing;
 
 pub use executable::{Block, Exe, FarList, Segments};
-pub use write::write_exe;
+pub use loading::{LoadError, load};
+pub use writing::write_exe;

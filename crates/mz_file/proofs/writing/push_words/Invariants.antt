@@ -1,6 +1,6 @@
 use Rattle.std.proofs.Common.{◌≡◌, ◌++◌, drop}
 use Rattle.mz_file.specs.Words.{bytes_of_words}
-use Rattle.mz_file.proofs.write.push_words.Given as goal
+use Rattle.mz_file.proofs.writing.push_words.Given as goal
 
 -- what is written and what is left are all
 abbrev pub invariant-loop-word : goal.invariant-loop-word

@@ -3,7 +3,7 @@ use Rattle.mz_file.specs.Format.{Denotes}
 use Rattle.mz_file.specs.Spelling.{header_words}
 use Rattle.mz_file.specs.Words.{bytes_of_words, words_of_fars}
 use Rattle.mz_file.proofs.SpellingLaws.{spelling-parts, denotes-spelling}
-use Rattle.mz_file.proofs.write.write_exe.Goals as goal
+use Rattle.mz_file.proofs.writing.write_exe.Goals as goal
 
 -- the parts were written one after another
 pub returns-clause-exact : goal.returns-clause-exact
