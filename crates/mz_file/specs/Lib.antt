@@ -1,4 +1,5 @@
-pub mod Words
+pub mod Cause
 pub mod Format
-pub mod Spelling
 pub mod Load
+pub mod Spelling
+pub mod Words
