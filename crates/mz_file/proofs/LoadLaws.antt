@@ -11,7 +11,8 @@ use Rattle.cpu_8086.specs.declared.registers.Far.{Far}
 use Rattle.mz_file.specs.declared.executable.Exe.{Exe}
 use Rattle.mz_file.specs.Format.{IsWithin}
 use Rattle.mz_file.specs.Words.{word_at, with_word}
-use Rattle.mz_file.specs.Load.{image_byte, loaded_byte, loaded_memory, loaded_segment, with_loaded_segment, relocated, HoldsImage}
+use Rattle.mz_file.specs.Load.{image_byte, loaded_byte, loaded_memory, loaded_segment, with_loaded_segment, relocated, HoldsImage, IsLoadable}
+use Rattle.mz_file.specs.Spelling.{IsWritable}
 
 image_byte-set_other : (image : List ℕ) (place address value : ℕ) → address ≢ 0x700 + place → image_byte (set image place value) address ≡ image_byte image address
 image_byte-set_other image place address value differs = either (nat_lt address 0x700) refl
@@ -109,3 +110,7 @@ under_way-next memory image fars index none inside room below under_way =
       size = length-with_word part place (loaded_segment (word_at part place)) ∙ under_way.size;
       left = sym (ap (relocated part) split) ∙ under_way.left;
     }
+
+-- what can be written can be loaded
+pub loadable-writable : (exe : Exe) → IsWritable exe → IsLoadable exe
+loadable-writable exe writable = record { inside = writable.inside; size = omega (arith, writable.pages) }

@@ -3,6 +3,7 @@
 ghost use Rattle.std.specs.Prelude.{◌≡◌, ◌+◌, ◌*◌, ◌<◌, ◌≤◌, ◌↔◌, All, IfErr, IfOk, IsTrue, MatchOption, MatchResult, length};
 ghost use Rattle.mz_file.specs.Cause.{IsCause, IsFirstOutside, IsRefusal};
 ghost use Rattle.mz_file.specs.Format.{said_size, header_size, image_of, relocations_of, block_of, IsWithin, IsLong, HasPages, HasBlock, IsExecutable, Denotes};
+ghost use Rattle.mz_file.specs.Load.{IsLoadable};
 ghost use Rattle.mz_file.specs.Words.{word_at, far_at, words_at, fars_at};
 
 use crate::cause::{ExeCause, ExeError};
@@ -33,7 +34,8 @@ fn far(bytes: &[u8], place: usize) -> Far
 /// How many bytes the header says that the file has.
 fn size_said(bytes: &[u8]) -> usize
     requires { 28 ≤ length bytes.now }
-    ensures { result ≡ said_size bytes.now }
+    ensures said { result ≡ said_size bytes.now }
+    ensures bound { word_at bytes.now 0x02 ≤ 511 → result ≤ 512 * 65535 }
 {
     let pages = word(bytes, 0x04) as usize;
     if pages == 0 {
@@ -49,7 +51,10 @@ fn has_pages(bytes: &[u8]) -> bool
 {
     let said = size_said(bytes);
     let relocations = word(bytes, 0x18) as usize + 4 * word(bytes, 0x06) as usize;
-    word(bytes, 0x02) <= 511 && word(bytes, 0x04) != 0 && 16 * word(bytes, 0x08) as usize <= said && relocations <= said
+    word(bytes, 0x02) <= 511
+        && word(bytes, 0x04) != 0
+        && 16 * word(bytes, 0x08) as usize <= said
+        && relocations <= said
 }
 
 fn has_block(bytes: &[u8]) -> bool
@@ -110,7 +115,12 @@ pub fn check_exe(bytes: &[u8]) -> Result<(), ExeCause>
 }
 
 /// So many words from a place on.
-fn read_words(alloc: Global, bytes: &[u8], place: usize, count: usize) -> Result<Segments, AllocError>
+fn read_words(
+    alloc: Global,
+    bytes: &[u8],
+    place: usize,
+    count: usize,
+) -> Result<Segments, AllocError>
     requires { place + 2 * count ≤ length bytes.now }
     ensures { IfOk result (λ words. words ≡ words_at bytes.now place count) }
 {
@@ -155,7 +165,8 @@ fn read_block(alloc: Global, bytes: &[u8]) -> Result<Block, AllocError>
 fn read_image(alloc: Global, bytes: &[u8]) -> Result<Bytes, AllocError>
     requires long { IsLong bytes.now }
     requires pages { HasPages bytes.now }
-    ensures { IfOk result (λ image. image ≡ image_of bytes.now) }
+    ensures image { IfOk result (λ image. image ≡ image_of bytes.now) }
+    ensures bound { IfOk result (λ image. length image ≤ 512 * 65535) }
 {
     let header = 16 * word(bytes, 0x08) as usize;
     Bytes::from_slice(alloc, &bytes[header..size_said(bytes)])
@@ -165,12 +176,18 @@ fn read_image(alloc: Global, bytes: &[u8]) -> Result<Bytes, AllocError>
 /// looked at.
 pub fn read_exe(alloc: Global, bytes: &[u8]) -> Result<Exe, ExeError>
     ensures read { IfOk result (Denotes bytes.now) }
+    ensures loadable { IfOk result IsLoadable }
     ensures refused { IfErr result (IsRefusal bytes.now) }
 {
     check_exe(bytes)?;
     Ok(Exe {
         image: read_image(alloc, bytes)?,
-        relocations: read_fars(alloc, bytes, word(bytes, 0x18) as usize, word(bytes, 0x06) as usize)?,
+        relocations: read_fars(
+            alloc,
+            bytes,
+            word(bytes, 0x18) as usize,
+            word(bytes, 0x06) as usize,
+        )?,
         entry: far(bytes, 0x14),
         stack: Far {
             offset: word(bytes, 0x10),

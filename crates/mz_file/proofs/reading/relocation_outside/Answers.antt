@@ -13,13 +13,13 @@ returns-then-size-far c =
     let size = c.size_said.result - 16 * c.word.result in
     let place = c.word-place.result in
     let size_is : size ≡ length (image_of bytes) =
-        ap₂ (λ (said word : ℕ). said - 16 * word) c.size_said.ensures c.word.ensures ∙ sym (length-image_of bytes c.requires.long c.requires.pages) in
+    ap₂ (λ (said word : ℕ). said - 16 * word) c.size_said.ensures.said c.word.ensures ∙ sym (length-image_of bytes c.requires.long c.requires.pages) in
     let outside : size < 16 * (far_at bytes (place + 4 * number)).segment + (far_at bytes (place + 4 * number)).offset + 2 =
-        subst (λ (far : Far). size < 16 * far.segment + far.offset + 2) c.far-far.ensures c.if-size-far.true in
+    subst (λ (far : Far). size < 16 * far.segment + far.offset + 2) c.far-far.ensures c.if-size-far.true in
     let first = first_outside bytes place c.word-number-end.result size number c.loop-number-test.true c.loop-number.invariant outside in
     subst (λ (size : ℕ). IsFirstOutside size (relocations_of bytes) number) size_is
-        (subst (λ (place : ℕ). IsFirstOutside size (fars_at bytes place (word_at bytes 0x06)) number) c.word-place.ensures
-            (subst (λ (count : ℕ). IsFirstOutside size (fars_at bytes place count) number) c.word-number-end.ensures first))
+    (subst (λ (place : ℕ). IsFirstOutside size (fars_at bytes place (word_at bytes 0x06)) number) c.word-place.ensures
+    (subst (λ (count : ℕ). IsFirstOutside size (fars_at bytes place count) number) c.word-number-end.ensures first))
 
 pub returns : goal.returns
 returns c =
@@ -27,8 +27,8 @@ returns c =
     let size = c.size_said.result - 16 * c.word.result in
     let place = c.word-place.result in
     let size_is : size ≡ length (image_of bytes) =
-        ap₂ (λ (said word : ℕ). said - 16 * word) c.size_said.ensures c.word.ensures ∙ sym (length-image_of bytes c.requires.long c.requires.pages) in
+    ap₂ (λ (said word : ℕ). said - 16 * word) c.size_said.ensures.said c.word.ensures ∙ sym (length-image_of bytes c.requires.long c.requires.pages) in
     let all = all_within bytes place c.word-number-end.result size (λ k below. c.loop-number.invariant k (omega (arith, c.loop-number-test.false))) in
     subst (λ (size : ℕ). All (IsWithin size) (relocations_of bytes)) size_is
-        (subst (λ (place : ℕ). All (IsWithin size) (fars_at bytes place (word_at bytes 0x06))) c.word-place.ensures
-            (subst (λ (count : ℕ). All (IsWithin size) (fars_at bytes place count)) c.word-number-end.ensures all))
+    (subst (λ (place : ℕ). All (IsWithin size) (fars_at bytes place (word_at bytes 0x06))) c.word-place.ensures
+    (subst (λ (count : ℕ). All (IsWithin size) (fars_at bytes place count)) c.word-number-end.ensures all))
