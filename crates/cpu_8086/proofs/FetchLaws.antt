@@ -48,6 +48,13 @@ code_byte-linear s k short low =
     let e : address s.cs ((s.registers.ip + k) % 65536) ≡ 16 * s.cs + s.registers.ip + k = omega arith in
     ap (slice_index s.memory) e
 
+-- a byte that neither an offset nor an address wraps before
+pub straight_code_byte : (s : State) (k : ℕ) → s.registers.ip + k < 65536 → address s.cs s.registers.ip + k < 1048576 → slice_index s.memory (address s.cs s.registers.ip + k) ≡ code_byte s k
+unfolding load_byte
+straight_code_byte s k short low =
+    let e : address s.cs s.registers.ip + k ≡ address s.cs ((s.registers.ip + k) % 65536) = omega arith in
+    ap (slice_index s.memory) e
+
 -- so a spelling at the linear address of CS:IP is what stands there
 pub fetched_spells-linear : (s : State) (i : Instr) → s.registers.ip + length (spelling i) ≤ 65536 → 16 * s.cs + s.registers.ip + length (spelling i) ≤ 1048576 → ((k : ℕ) → k < length (spelling i) → slice_index s.memory (16 * s.cs + s.registers.ip + k) ≡ slice_index (spelling i) k) → (rest : List ℕ) × (fetched s ≡ spelling i ++ rest)
 fetched_spells-linear s i short low e =

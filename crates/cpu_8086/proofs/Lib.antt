@@ -4,3 +4,7 @@ pub mod StepLaws
 pub mod RunLaws
 pub mod DirectLaws
 pub mod SignedLaws
+pub mod ShiftLaws
+pub mod CompareLaws
+pub mod ArithmeticLaws
+pub mod StackLaws

@@ -1,7 +1,10 @@
 -- What is read after a write.
-use Rattle.std.proofs.Common.{◌≡◌, ◌≢◌, ℕ, ◌/◌, ◌%◌, ◌<◌, List, length, ◌∙◌, arith}
+use Rattle.std.proofs.Common.{refl, ◌≡◌, ◌≢◌, ℕ, ◌/◌, ◌%◌, ◌<◌, List, length, ◌∙◌, arith}
+use Rattle.std.specs.Prelude.{slice_index, slice_set}
 use Rattle.std.proofs.lemmas.List.{get_or-set_same, get_or-set_other}
 use Rattle.std.proofs.Math.ListN.{length-set}
+use Rattle.cpu_8086.specs.State.{State}
+use Rattle.cpu_8086.specs.Access.{Act, Done, Read, Write, Copy, ReadCodeSegment, FarCall, FarReturn, FarJump, PushCodeSegment, Interrupt, DivideFault, on_memory}
 use Rattle.cpu_8086.specs.Memory.{address, next_offset, load_byte, store_byte, load_word, store_word}
 
 pub address-lt : (segment offset : ℕ) → address segment offset < 1048576
@@ -57,3 +60,17 @@ load_word-store_word_other m segment offset g o v apart =
     let low = load_byte-store_word_other m segment offset g o v apart.low_low apart.low_high in
     let high = load_byte-store_word_other m segment offset g (next_offset o) v apart.high_low apart.high_high in
     cc
+
+-- whatever an instruction does, memory keeps its length
+pub length-on_memory : (s : State) (a : Act) (m : List ℕ) → length m ≡ length s.memory → length ((on_memory s a m).0.memory) ≡ length s.memory
+length-on_memory s (Done g) m same = same
+length-on_memory s (Read place next) m same = length-on_memory s (next (slice_index m place)) m same
+length-on_memory s (Write place value next) m same = length-on_memory s next (slice_set m place value) (length-set m place value ∙ same)
+length-on_memory s (Copy source target next) m same = length-on_memory s next (slice_set m target (slice_index m source)) (length-set m target (slice_index m source) ∙ same)
+length-on_memory s (ReadCodeSegment next) m same = length-on_memory s (next s.cs) m same
+length-on_memory s (FarCall g segment offset) m same = length-store_word _ _ _ _ ∙ length-store_word m _ _ _ ∙ same
+length-on_memory s (FarReturn g dropped) m same = same
+length-on_memory s (FarJump g segment offset) m same = same
+length-on_memory s (PushCodeSegment g) m same = length-store_word m _ _ _ ∙ same
+length-on_memory s (Interrupt g number) m same = same
+length-on_memory s DivideFault m same = refl

@@ -1,5 +1,5 @@
 -- A step has one outcome, and what the steps of some instructions are.
-use Rattle.std.proofs.Common.{◌≡◌, ℕ, ◌+◌, ◌%◌, List, ◌++◌, refl, sym, ap, ◌∙◌, inl, inr}
+use Rattle.std.proofs.Common.{length, ◌≡◌, ℕ, ◌+◌, ◌%◌, List, ◌++◌, refl, sym, ap, ◌∙◌, inl, inr}
 use Rattle.x86_table.specs.declared.instr.Instr.{Instr}
 use Rattle.x86_table.specs.declared.instr.Instr.TheVariants as instr
 use Rattle.x86_table.specs.declared.operand.WordReg.{WordReg}
@@ -15,6 +15,7 @@ use Rattle.cpu_8086.specs.Access.{at_offset, word_then}
 use Rattle.cpu_8086.specs.Operand.{word_reg, with_word_reg, with_byte_reg, with_data_seg}
 use Rattle.cpu_8086.specs.Effect.{act}
 use Rattle.cpu_8086.specs.Step.{fetched, past, effect, Executes, Steps}
+use Rattle.cpu_8086.proofs.MemoryLaws.{length-on_memory}
 
 -- an instruction that is spelled at CS:IP is what the step executes
 pub steps_by : (s : State) (i : Instr) (rest : List ℕ) → fetched s ≡ spelling i ++ rest → Steps s (effect s i).0 (effect s i).1
@@ -54,3 +55,12 @@ effect-MovToSeg s r w = refl
 pub effect-Int : (s : State) (n : ℕ) → effect s (instr.Int n) ≡ (record s { registers = at_offset s.registers ((s.registers.ip + 2) % 65536) }, Service n)
 unfolding effect act
 effect-Int s n = refl
+
+-- memory keeps its length
+pub length-effect : (s : State) (i : Instr) → length ((effect s i).0.memory) ≡ length s.memory
+unfolding effect
+length-effect s i = length-on_memory s (act (past i s.registers) i) s.memory refl
+
+pub length-steps : (s t : State) (event : Event) → Steps s t event → length t.memory ≡ length s.memory
+length-steps s t event (inl x) = ap (λ (u : State). length u.memory) x.state ∙ length-effect s x.instruction
+length-steps s t event (inr x) = ap (λ (u : State). length u.memory) x.state

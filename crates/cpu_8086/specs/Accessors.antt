@@ -1,6 +1,7 @@
 -- Registers and flags by name, and a machine of zeros.
 use Rattle.std.specs.Prelude.{◌≡◌, ℕ, Bool, false, length, slice_index}
 use Rattle.cpu_8086.specs.State.{State}
+use Rattle.cpu_8086.specs.declared.registers.Registers.{Registers}
 use Rattle.cpu_8086.specs.declared.registers.Reg.{Reg}
 use Rattle.cpu_8086.specs.declared.registers.Reg.TheVariants as register
 use Rattle.cpu_8086.specs.declared.registers.Flag.{Flag}
@@ -49,6 +50,27 @@ with_flag s flags.Zero v = record s { registers = record s.registers { zeroed = 
 with_flag s flags.Sign v = record s { registers = record s.registers { sign = v } }
 with_flag s flags.Overflow v = record s { registers = record s.registers { overflow = v } }
 with_flag s flags.Direction v = record s { registers = record s.registers { direction = v } }
+
+abbrev pub zero_registers : Registers
+zero_registers = record {
+  ax = 0;
+  cx = 0;
+  dx = 0;
+  bx = 0;
+  sp = 0;
+  bp = 0;
+  si = 0;
+  di = 0;
+  es = 0;
+  ss = 0;
+  ds = 0;
+  ip = 0;
+  carry = false;
+  zeroed = false;
+  sign = false;
+  overflow = false;
+  direction = false;
+}
 
 -- each register, flag and byte is 0
 pub record IsZeroed (s : State) : Type 0 where

@@ -2,12 +2,18 @@
 #![tactic(auto)]
 
 mod arithmetic;
+mod compute;
+mod execute;
+mod laws;
 mod machine;
 mod memory;
 mod operand;
 mod process;
 mod registers;
+mod step;
+mod transfer;
 
+pub use laws::{arithmetic_law, compare_law, memory_law, run_law, stack_law, step_law};
 pub use machine::{Event, Machine};
 pub use process::Why;
 pub use registers::{Far, Flag, Reg, Registers};

@@ -1,7 +1,7 @@
 //! The machine: registers, flags and a megabyte of memory.
 
 ghost use Rattle.std.specs.Prelude.{◌≡◌, ℕ, ◌<◌, IfOk, length, slice_index, slice_set};
-ghost use Rattle.cpu_8086.specs.Accessors.{reg, with_reg, flag, with_flag, IsZeroed};
+ghost use Rattle.cpu_8086.specs.Accessors.{reg, with_reg, flag, with_flag, zero_registers, IsZeroed};
 
 use crate::registers::{Flag, Reg, Registers};
 use std::alloc::{AllocError, Global};
@@ -47,6 +47,40 @@ fn zeros(alloc: Global, count: usize) -> Result<Vec<u8>, AllocError>
     vec![in alloc; 0; count]
 }
 
+impl Registers {
+    /// Registers and flags of zeros.
+    fn zeros() -> Registers
+        ensures { result ≡ zero_registers }
+    {
+        Registers {
+            ax: 0,
+            cx: 0,
+            dx: 0,
+            bx: 0,
+            sp: 0,
+            bp: 0,
+            si: 0,
+            di: 0,
+            es: 0,
+            ss: 0,
+            ds: 0,
+            ip: 0,
+            carry: false,
+            zeroed: false,
+            sign: false,
+            overflow: false,
+            direction: false,
+        }
+    }
+}
+
+/// Makes each byte 0.
+fn wipe(bytes: &mut [u8])
+    ensures { (k : ℕ) → slice_index bytes.new k ≡ 0 }
+{
+    bytes.fill(0);
+}
+
 impl Machine {
     /// A machine whose registers, flags and bytes are all 0.
     pub fn new(alloc: Global) -> Result<Machine, AllocError>
@@ -54,28 +88,19 @@ impl Machine {
     {
         let memory = zeros(alloc, 0x10_0000)?;
         Ok(Machine {
-            registers: Registers {
-                ax: 0,
-                cx: 0,
-                dx: 0,
-                bx: 0,
-                sp: 0,
-                bp: 0,
-                si: 0,
-                di: 0,
-                es: 0,
-                ss: 0,
-                ds: 0,
-                ip: 0,
-                carry: false,
-                zeroed: false,
-                sign: false,
-                overflow: false,
-                direction: false,
-            },
+            registers: Registers::zeros(),
             cs: 0,
             memory,
         })
+    }
+
+    /// Makes each register, flag and byte 0; takes no memory.
+    pub fn clear(&mut self)
+        ensures { IsZeroed self.new }
+    {
+        self.registers = Registers::zeros();
+        self.cs = 0;
+        wipe(&mut self.memory);
     }
 
     pub fn reg(&self, which: Reg) -> u16

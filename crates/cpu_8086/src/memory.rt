@@ -6,7 +6,7 @@ ghost use Rattle.cpu_8086.specs.Memory.{address, next_offset, load_byte, store_b
 use crate::machine::Machine;
 
 /// The linear address of an offset in a segment.
-fn address(segment: u16, offset: u16) -> u32
+pub fn address(segment: u16, offset: u16) -> u32
     ensures value { result ≡ address segment offset }
     ensures inside { result < 1048576 }
 {
@@ -20,22 +20,25 @@ fn next_offset(offset: u16) -> u16
 }
 
 impl Machine {
+    /// The byte at an offset in a segment.
     #[tactic(auto, unfolding(crate::specs::Memory::load_byte))]
-    pub(crate) fn load_byte(&self, segment: u16, offset: u16) -> u8
+    pub fn load_byte(&self, segment: u16, offset: u16) -> u8
         ensures { result ≡ load_byte self.now.memory segment offset }
     {
         self.byte(address(segment, offset))
     }
 
+    /// Puts a byte at an offset in a segment.
     #[tactic(auto, unfolding(crate::specs::Memory::store_byte))]
-    pub(crate) fn store_byte(&mut self, segment: u16, offset: u16, value: u8)
+    pub fn store_byte(&mut self, segment: u16, offset: u16, value: u8)
         ensures { self.new ≡ record self.old { memory = store_byte self.old.memory segment offset value } }
     {
         self.set_byte(address(segment, offset), value);
     }
 
+    /// The word at an offset in a segment, its low byte first; its high byte may wrap to offset 0.
     #[tactic(auto, unfolding(crate::specs::Memory::load_word))]
-    pub(crate) fn load_word(&self, segment: u16, offset: u16) -> u16
+    pub fn load_word(&self, segment: u16, offset: u16) -> u16
         ensures { result ≡ load_word self.now.memory segment offset }
     {
         let low = self.load_byte(segment, offset);
@@ -43,8 +46,9 @@ impl Machine {
         u16::from(low) + 256 * u16::from(high)
     }
 
+    /// Puts a word at an offset in a segment, its low byte first; its high byte may wrap to offset 0.
     #[tactic(auto, unfolding(crate::specs::Memory::store_word))]
-    pub(crate) fn store_word(&mut self, segment: u16, offset: u16, value: u16)
+    pub fn store_word(&mut self, segment: u16, offset: u16, value: u16)
         ensures { self.new ≡ record self.old { memory = store_word self.old.memory segment offset value } }
     {
         self.store_byte(segment, offset, (value % 256) as u8);
