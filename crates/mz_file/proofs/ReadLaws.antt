@@ -1,7 +1,7 @@
 -- Words and far pointers as they are read one after another.
-use Rattle.std.proofs.Common.{◌≡◌, ℕ, zero, suc, ◌+◌, ◌-◌, ◌*◌, ◌<◌, ◌≤◌, List, [], ◌∷◌, ◌++◌, length, get_or, refl, sym, ap, ap₂, ◌∙◌, subst, add-one, add-zero, All, drop, length-take, length-drop, arith}
+use Rattle.std.proofs.Common.{◌≡◌, ℕ, zero, suc, ◌+◌, ◌-◌, ◌*◌, ◌<◌, List, [], ◌∷◌, ◌++◌, length, get_or, refl, sym, ap, subst, All, drop, length-take, length-drop, arith}
 use Rattle.cpu_8086.specs.declared.registers.Far.{Far}
-use Rattle.mz_file.specs.Format.{said_size, header_size, image_of, relocations_of, IsWithin, IsLong, HasPages}
+use Rattle.mz_file.specs.Format.{said_size, header_size, image_of, IsWithin, IsLong, HasPages}
 use Rattle.mz_file.specs.Cause.{IsFirstOutside}
 use Rattle.mz_file.specs.Words.{word_at, far_at, words_at, fars_at}
 

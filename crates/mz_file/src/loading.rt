@@ -113,8 +113,7 @@ fn set_registers(exe: &Exe, machine: &mut Machine)
 /// Loads an executable: the machine is then as the program starts. `TooLarge` comes exactly where the image and
 /// the extra memory pass segment A000h, and then the machine is unchanged. It takes no memory.
 pub fn load(exe: &Exe, machine: &mut Machine) -> Result<(), LoadError>
-    requires loadable { IsLoadable exe.now }
-    requires size { length machine.old.memory ≡ 1048576 }
+    requires { IsLoadable exe.now }
     ensures fits { IsOk result ↔ (paragraphs_taken exe.now ≤ 0xA000) }
     ensures loaded { OnOk result (machine.new ≡ loaded exe.now) }
     ensures too_large { IfErr result (λ error. error ≡ LoadError.TooLarge (paragraphs_taken exe.now)) }
@@ -124,6 +123,7 @@ pub fn load(exe: &Exe, machine: &mut Machine) -> Result<(), LoadError>
     if paragraphs > 0xA000 {
         return Err(LoadError::TooLarge { paragraphs });
     }
+    machine.clear();
     place_image(exe.image.as_slice(), machine);
     relocate_all(exe, machine);
     set_registers(exe, machine);

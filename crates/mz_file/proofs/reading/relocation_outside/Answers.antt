@@ -1,4 +1,4 @@
-use Rattle.std.proofs.Common.{◌≡◌, ℕ, ◌+◌, ◌-◌, ◌*◌, ◌<◌, length, sym, ap, ap₂, ◌∙◌, subst, All, arith}
+use Rattle.std.proofs.Common.{◌≡◌, ℕ, ◌+◌, ◌-◌, ◌*◌, ◌<◌, length, sym, ap₂, ◌∙◌, subst, All, arith}
 use Rattle.cpu_8086.specs.declared.registers.Far.{Far}
 use Rattle.mz_file.specs.Cause.{IsFirstOutside}
 use Rattle.mz_file.specs.Format.{image_of, relocations_of, IsWithin}
