@@ -1,0 +1,4 @@
+pub mod LoadLaws
+pub mod ReadLaws
+pub mod SpellingLaws
+pub mod WordLaws

@@ -1,0 +1,5 @@
+pub mod Cause
+pub mod Format
+pub mod Load
+pub mod Spelling
+pub mod Words

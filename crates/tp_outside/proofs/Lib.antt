@@ -1,0 +1,3 @@
+pub mod FolderLaws
+pub mod Front
+pub mod Known
