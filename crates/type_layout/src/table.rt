@@ -1,8 +1,8 @@
 //! The table of types.
 
-ghost use Rattle.std.specs.Prelude.{◌≡◌, ◌+◌, ◌-◌, ◌^◌, ◌<◌, ◌≤◌, ◌∷◌, [], ◌++◌, ◌↔◌, ℕ, min, Some, Err, IfOk, IfSome, OnOk, OnErr, IsOk, length, slice_get, position, vec_len, vec_capacity, IfErr};
+ghost use Rattle.std.specs.Prelude.{All, ◌≡◌, ◌+◌, ◌-◌, ◌^◌, ◌<◌, ◌≤◌, ◌∷◌, [], ◌++◌, ◌↔◌, ℕ, min, Some, Err, IfOk, IfSome, OnOk, OnErr, IsOk, length, slice_get, position, vec_len, vec_capacity, IfErr};
 ghost use Rattle.type_layout.specs.Words.{same_bytes};
-ghost use Rattle.type_layout.specs.Layouts.{layouts_of, size_over};
+ghost use Rattle.type_layout.specs.Layouts.{layouts_of, size_over, HasFieldsOf, IsMeasured};
 ghost use Rattle.type_layout.specs.Table.{IsWellFormed, IsAddable, place_of, with_unit, with_type};
 
 use crate::layout::{Layout, layout_over, size_over};
@@ -139,6 +139,7 @@ impl Types {
     pub fn count(&self) -> u32
         ensures value { result ≡ length self.now.types }
         ensures well_formed { IsWellFormed self.now }
+        ensures measured { IsMeasured self.now.types }
     {
         self.types.len() as u32
     }
@@ -147,6 +148,15 @@ impl Types {
     pub fn get(&self, id: TypeId) -> &TypeDef
         requires { id.0 < length self.now.types }
         ensures { slice_get self.now.types id.0 ≡ Some result.now }
+    {
+        &self.types[id.0 as usize]
+    }
+
+    // The type with this id, and how its fields lie in it.
+    pub(crate) fn get_laid(&self, id: TypeId) -> &TypeDef
+        requires { id.0 < length self.now.types }
+        ensures is { slice_get self.now.types id.0 ≡ Some result.now }
+        ensures fields { HasFieldsOf self.now.types id result.now }
     {
         &self.types[id.0 as usize]
     }
@@ -169,7 +179,9 @@ impl Types {
 
     /// The sizes and class fields of the types.
     pub(crate) fn layouts(&self) -> &[Layout]
-        ensures { result.now ≡ layouts_of self.now.types }
+        ensures value { result.now ≡ layouts_of self.now.types }
+        ensures count { length result.now ≡ length self.now.types }
+        ensures fits { All (λ layout. layout.size ≤ TYPE_LIMIT) result.now }
     {
         self.layouts.as_slice()
     }
