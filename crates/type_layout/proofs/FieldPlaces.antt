@@ -1,5 +1,5 @@
 -- Where the fields of a type lie.
-use Rattle.std.proofs.Common.{◌≡◌, ℕ, zero, suc, ◌+◌, ◌<◌, ◌≤◌, List, [], ◌∷◌, ◌++◌, length, take, Option, Some, None, Bool, true, false, refl, arith, sym, ap, ◌∙◌, subst, length-append}
+use Rattle.std.proofs.Common.{◌≡◌, ℕ, zero, suc, ◌+◌, ◌<◌, ◌≤◌, List, [], ◌∷◌, length, take, Option, Some, None, Bool, true, false, refl, arith, ap, ◌∙◌, length-append}
 use Rattle.std.specs.List.{All, slice_get}
 use Rattle.std.proofs.lemmas.List.Sums.{sum_by-cons}
 use Rattle.std.proofs.lemmas.List.Elements.{All-weaker}
@@ -9,7 +9,7 @@ use Rattle.type_layout.specs.declared.definitions.Field.{Field}
 use Rattle.type_layout.specs.declared.definitions.TypeDef.{TypeDef}
 use Rattle.type_layout.specs.declared.definitions.TypeDef.TheVariants.{Ordinal, Str, SetOf, ArrayOf, RecordOf, PointerTo, ObjectOf, Procedural}
 use Rattle.type_layout.specs.declared.layout.Layout.{Layout}
-use Rattle.type_layout.specs.Layouts.{plain, size_in, fields_size, inherited, object_by, layouts_of, layout_at, placed_from, offsets_at, HasFieldsFrom, HasFieldsOf}
+use Rattle.type_layout.specs.Layouts.{plain, size_in, fields_size, object_by, layouts_of, layout_at, placed_from, HasFieldsOf}
 use Rattle.type_layout.specs.Table.{Table, IsWellFormed}
 use Rattle.type_layout.proofs.Given.{length-layouts_of}
 use Rattle.type_layout.proofs.Local.{within_if_object}
@@ -26,7 +26,7 @@ slice_get-placed_from layouts at [] k within = absurd (omega arith)
 slice_get-placed_from layouts at (field ∷ fields) zero within = ap Some (omega arith)
 slice_get-placed_from layouts at (field ∷ fields) (suc k) within =
     slice_get-placed_from layouts (at + size_in layouts field.ty) fields k (omega arith)
-      ∙ ap Some (omega (arith, sum_by-cons (λ (f : Field). size_in layouts f.ty) field (take k fields)))
+    ∙ ap Some (omega (arith, sum_by-cons (λ (f : Field). size_in layouts f.ty) field (take k fields)))
 
 end-le-object_by : (class_field : Option ℕ) (dynamic : Bool) (end : ℕ) → end ≤ (object_by class_field dynamic end).size
 end-le-object_by (Some at) dynamic end = omega arith
@@ -43,9 +43,9 @@ module _ (table : Table) (well : IsWellFormed table) (id : TypeId) where
       → All (λ field. field.ty.0 < length r.front) fields → All (λ field. field.ty.0 < length (layouts_of table.types)) fields
   known_in_whole one fields r known =
       let len : length r.front ≤ length (layouts_of table.types) =
-        omega (arith, length-layouts_of table.types, ap length r.is, length-append r.front (one ∷ r.back)) in
+      omega (arith, length-layouts_of table.types, ap length r.is, length-append r.front (one ∷ r.back)) in
       All-weaker (λ (f : Field). f.ty.0 < length r.front) (λ (f : Field). f.ty.0 < length (layouts_of table.types))
-        (λ f h. omega arith) fields known
+      (λ f h. omega arith) fields known
 
   pub has_fields : (one : TypeDef) → slice_get table.types id.0 ≡ Some one → HasFieldsOf table.types id one
   has_fields (Ordinal host low high) found = (is_measured table.types well.defined).offsets id (Ordinal host low high) found
@@ -79,9 +79,11 @@ module _ (table : Table) (well : IsWellFormed table) (id : TypeId) where
       let law = is_measured table.types well.defined in
       let limit = small (ObjectOf (Some parent) dynamic fields methods) found in
       let size = ap (λ (l : Layout). l.size) (law.layouts id (ObjectOf (Some parent) dynamic fields methods) found) in
-      let up = layout_at table.types parent in
-      (omega (arith, within_if_object r.front parent.0 r.defined.0, r.at), record {
-        offsets = law.offsets id (ObjectOf (Some parent) dynamic fields methods) found;
-        known = known_in_whole (ObjectOf (Some parent) dynamic fields methods) fields r r.defined.1;
-        room = omega (arith, limit, size, end-le-object_by up.class_field dynamic (up.size + fields_size (layouts_of table.types) fields));
-      })
+      let up = layout_at table.types parent in (
+        omega (arith, within_if_object r.front parent.0 r.defined.0, r.at),
+        record {
+          offsets = law.offsets id (ObjectOf (Some parent) dynamic fields methods) found;
+          known = known_in_whole (ObjectOf (Some parent) dynamic fields methods) fields r r.defined.1;
+          room = omega (arith, limit, size, end-le-object_by up.class_field dynamic (up.size + fields_size (layouts_of table.types) fields));
+        },
+      )

@@ -45,7 +45,12 @@ fn offset_along(types: &Types, id: TypeId, number: u64) -> Result<u32, u64>
         (λ rest. number ≡ length (offsets_at types.now.types id) + rest) }
 {
     match types.get_laid(id) {
-        TypeDef::RecordOf { fields } => offset_within(types.layouts(), 0, fields.as_slice(), number),
+        TypeDef::RecordOf { fields } => offset_within(
+            types.layouts(),
+            0,
+            fields.as_slice(),
+            number,
+        ),
         TypeDef::ObjectOf {
             parent: None,
             fields,
@@ -57,7 +62,12 @@ fn offset_along(types: &Types, id: TypeId, number: u64) -> Result<u32, u64>
             ..
         } => match offset_along(types, *parent, number) {
             Ok(offset) => Ok(offset),
-            Err(rest) => offset_within(types.layouts(), size_of(types, *parent), fields.as_slice(), rest),
+            Err(rest) => offset_within(
+                types.layouts(),
+                size_of(types, *parent),
+                fields.as_slice(),
+                rest,
+            ),
         },
         _ => Err(number),
     }

@@ -1,4 +1,4 @@
-use Rattle.std.proofs.Common.{arith, ◌≡◌, ◌+◌, ◌≤◌, ◌<◌, ◌∙◌, ap, Some, length, take}
+use Rattle.std.proofs.Common.{arith, ◌≤◌, ◌∙◌, ap, Some, take}
 use Rattle.std.proofs.lemmas.List.Sums.{sum_by-take-le}
 use Rattle.type_layout.specs.declared.definitions.Field.{Field}
 use Rattle.type_layout.specs.Layouts.{size_in, fields_size}
@@ -11,6 +11,6 @@ returns-then-number-count c = omega (arith, length-placed_from c.args.layouts.no
 pub returns : goal.returns
 returns c =
     let part : fields_size c.args.layouts.now (take c.args.number c.args.fields.now) ≤ fields_size c.args.layouts.now c.args.fields.now =
-      sum_by-take-le (λ (f : Field). size_in c.args.layouts.now f.ty) c.args.fields.now c.args.number in
+    sum_by-take-le (λ (f : Field). size_in c.args.layouts.now f.ty) c.args.fields.now c.args.number in
     slice_get-placed_from c.args.layouts.now c.args.start c.args.fields.now c.args.number c.if-number-count.false
-      ∙ ap Some (omega (arith, c.requires.room, c.end_of_fields.ensures, c.from.ensures))
+    ∙ ap Some (omega (arith, c.requires.room, c.end_of_fields.ensures, c.from.ensures))

@@ -12,4 +12,4 @@ returns-clause-fields c =
     let within : c.args.id.0 < length types = omega (arith, c.requires, ap (λ (t : Table). length t.types) c.self.view_is) in
     let found = slice_get_read types (length types) c.args.id.0 one refl within c.index.ensures in
     subst (λ (t : Table). HasFieldsOf t.types c.args.id one) c.self.view_is
-      (has_fields _ c.self.invariant.well_formed c.args.id one found)
+    (has_fields _ c.self.invariant.well_formed c.args.id one found)

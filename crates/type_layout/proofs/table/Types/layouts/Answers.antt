@@ -1,6 +1,4 @@
-use Rattle.std.proofs.Common.{◌≡◌, ◌∙◌, ap, length, List}
-use Rattle.type_layout.specs.declared.layout.Layout.{Layout}
-use Rattle.type_layout.specs.Layouts.{layouts_of}
+use Rattle.std.proofs.Common.{◌∙◌, ap, length}
 use Rattle.type_layout.specs.Table.{Table}
 use Rattle.type_layout.proofs.Given.{length-layouts_of}
 use Rattle.type_layout.proofs.table.Types.layouts.Goals as goal
