@@ -7,6 +7,8 @@ mod lists;
 mod sizes;
 mod storage;
 mod table;
+#[cfg(test)]
+mod tests;
 mod texts;
 mod wanted;
 mod words;
@@ -17,7 +19,7 @@ pub use definitions::{
 };
 pub use layout::Layout;
 pub use lists::{Bytes, Names, Sequence};
-pub use sizes::{class_field_of, offset_of, size_of};
+pub use sizes::{class_field_of, has_field, offset_of, size_of};
 pub use storage::storage_of;
 pub use table::{TYPE_LIMIT, TypeError, Types};
 pub use texts::{FILE_NAME_LEN, FileName, Place};

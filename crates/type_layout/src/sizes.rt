@@ -1,7 +1,7 @@
 //! Sizes of types, and offsets of their fields.
 
-ghost use Rattle.std.specs.Prelude.{◌≡◌, ◌+◌, ◌<◌, ◌≤◌, ◌^◌, All, Some, MatchResult, IfSome, length, slice_get, slice_index};
-ghost use Rattle.type_layout.specs.Layouts.{fields_size, placed_from, layout_at, offsets_at};
+ghost use Rattle.std.specs.Prelude.{◌≡◌, ◌+◌, ◌<◌, ◌≤◌, ◌^◌, All, Some, IsTrue, ◌↔◌, MatchResult, length, slice_get, slice_index};
+ghost use Rattle.type_layout.specs.Layouts.{fields_size, placed_from, layout_at, size_of, offsets_at, offset_of};
 
 use crate::layout::{Layout, end_of_fields};
 use crate::table::{TYPE_LIMIT, Types};
@@ -10,7 +10,7 @@ use crate::{Field, TypeDef, TypeId};
 /// The bytes of a value of this type.
 pub fn size_of(types: &Types, id: TypeId) -> u32
     requires { id.0 < length types.now.types }
-    ensures value { result ≡ (layout_at types.now.types id).size }
+    ensures value { result ≡ size_of types.now.types id }
     ensures limit { result ≤ TYPE_LIMIT }
 {
     types.layouts()[id.0 as usize].size
@@ -73,11 +73,19 @@ fn offset_along(types: &Types, id: TypeId, number: u64) -> Result<u32, u64>
     }
 }
 
+/// Whether the type is a record or an object with a field of this number.
+pub fn has_field(types: &Types, id: TypeId, field: u32) -> bool
+    requires { id.0 < length types.now.types }
+    ensures { IsTrue result ↔ (field < length (offsets_at types.now.types id)) }
+{
+    offset_along(types, id, u64::from(field)).is_ok()
+}
+
 /// The offset of a field of a record or an object. The fields of an object's ancestors come first and count first.
 pub fn offset_of(types: &Types, id: TypeId, field: u32) -> u32
     requires known { id.0 < length types.now.types }
     requires declared { field < length (offsets_at types.now.types id) }
-    ensures { result ≡ slice_index (offsets_at types.now.types id) field }
+    ensures { result ≡ offset_of types.now.types id field }
 {
     match offset_along(types, id, u64::from(field)) {
         Ok(offset) => offset,
