@@ -1,8 +1,8 @@
 //! Sizes and offsets that were worked out by hand.
 
 use crate::{
-    Field, Fields, Header, Host, Kind, Methods, Name, Params, TypeDef, TypeError, TypeId, Types, class_field_of, has_field, offset_of,
-    size_of,
+    Field, Fields, Header, Host, Kind, Methods, Name, Params, TypeDef, TypeError, TypeId, Types,
+    class_field_of, has_field, offset_of, size_of,
 };
 use std::alloc::Global;
 
@@ -160,7 +160,12 @@ fn a_size_above_the_limit_is_told(rt: HostRuntime) {
     let over = array_of(&mut types, 0, 65_520, byte);
     assert_eq!(rt; over, Err(TypeError::TooLarge { bytes: 65_521 }));
     let huge = array_of(&mut types, i32::MIN, i32::MAX, whole.unwrap_or(byte));
-    assert_eq!(rt; huge, Err(TypeError::TooLarge { bytes: 281_406_257_233_920 }));
+    assert_eq!(rt;
+        huge,
+        Err(TypeError::TooLarge {
+            bytes: 281_406_257_233_920
+        })
+    );
 }
 
 #[test]
@@ -173,7 +178,11 @@ fn fields_follow_one_another(rt: HostRuntime) {
     assert_eq!(rt; size(&types, empty), Some(0));
     let mixed = record_of(alloc, &mut types, &[byte, long, byte]);
     assert_eq!(rt; size(&types, mixed), Some(6));
-    let pair = record_of(alloc, &mut types, &[mixed.unwrap_or(byte), mixed.unwrap_or(byte)]);
+    let pair = record_of(
+        alloc,
+        &mut types,
+        &[mixed.unwrap_or(byte), mixed.unwrap_or(byte)],
+    );
     assert_eq!(rt; size(&types, pair), Some(12));
     let procedural = added(
         &mut types,
@@ -198,7 +207,11 @@ fn offset(types: &Types, id: TypeId, field: u32) -> Option<u32> {
 }
 
 fn class_field(types: &Types, id: TypeId) -> Option<u32> {
-    if id.0 < types.count() { class_field_of(types, id) } else { None }
+    if id.0 < types.count() {
+        class_field_of(types, id)
+    } else {
+        None
+    }
 }
 
 #[test]
@@ -211,11 +224,29 @@ fn a_class_field_follows_the_first_dynamic_type(rt: HostRuntime) {
     let first = object_of(alloc, &mut types, Some(plain), true, &[byte]).unwrap_or(byte);
     let next = object_of(alloc, &mut types, Some(first), true, &[word, byte]).unwrap_or(byte);
     let bare = object_of(alloc, &mut types, None, true, &[]).unwrap_or(byte);
-    assert_eq!(rt; (size(&types, Ok(plain)), class_field(&types, plain)), (Some(2), None));
-    assert_eq!(rt; (size(&types, Ok(first)), class_field(&types, first)), (Some(5), Some(3)));
-    assert_eq!(rt; (size(&types, Ok(next)), class_field(&types, next)), (Some(8), Some(3)));
-    assert_eq!(rt; (size(&types, Ok(bare)), class_field(&types, bare)), (Some(2), Some(0)));
-    for (field, at) in [(0, Some(0)), (1, Some(2)), (2, Some(5)), (3, Some(7)), (4, None)] {
+    assert_eq!(rt;
+        (size(&types, Ok(plain)), class_field(&types, plain)),
+        (Some(2), None)
+    );
+    assert_eq!(rt;
+        (size(&types, Ok(first)), class_field(&types, first)),
+        (Some(5), Some(3))
+    );
+    assert_eq!(rt;
+        (size(&types, Ok(next)), class_field(&types, next)),
+        (Some(8), Some(3))
+    );
+    assert_eq!(rt;
+        (size(&types, Ok(bare)), class_field(&types, bare)),
+        (Some(2), Some(0))
+    );
+    for (field, at) in [
+        (0, Some(0)),
+        (1, Some(2)),
+        (2, Some(5)),
+        (3, Some(7)),
+        (4, None),
+    ] {
         assert_eq!(rt; offset(&types, next, field), at);
     }
 }
