@@ -1,6 +1,7 @@
 //! Names, places, types, and the sizes of types.
 #![tactic(auto)]
 
+mod copies;
 mod definitions;
 mod layout;
 mod lists;
