@@ -1,0 +1,10 @@
+//! Typed trees, and the memory and code that they ask for.
+#![tactic(auto)]
+
+mod expressions;
+mod statements;
+mod units;
+
+pub use expressions::{Arg, BinaryOp, Expr, PlaceExpr, SetElement, UnaryOp, Value, Variable};
+pub use statements::{Arm, Destructor, LabelRange, ReadItem, Stmt, WriteItem};
+pub use units::{Global, Globals, Item, Items, Locals, Program, Routine, Routines, Unit, Units};
