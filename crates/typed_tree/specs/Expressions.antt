@@ -1,5 +1,6 @@
 -- Typed expressions and places without where they lie in memory.
 use Rattle.std.specs.Prelude.{ℕ, ℤ, Bool, Option, Some, None, List, [], ◌∷◌}
+use Rattle.std.proofs.Common.{Box, Global}
 use Rattle.type_layout.specs.declared.definitions.TypeId.{TypeId}
 use Rattle.type_layout.specs.declared.definitions.RoutineId.{RoutineId}
 use Rattle.typed_tree.specs.declared.expressions.Value.{Value}
@@ -121,3 +122,8 @@ type_of (CallVirtual ty own slot args) = ty
 type_of (CallThrough ty through args) = ty
 type_of (Std ty number args) = ty
 type_of (Make ty routine args) = Some ty
+
+-- the instance of a method, if there is one
+abbrev pub view_receiver : Option (Box PlaceExpr Global) → Receiver
+view_receiver None = NoReceiver
+view_receiver (Some own) = Own (view_place own.value)

@@ -1,7 +1,11 @@
 -- The greatest part of the evaluation stack that a tree uses.
 use Rattle.std.specs.Prelude.{ℕ, ◌+◌, max, cond, List, [], ◌∷◌, Option, Some, None}
 use Rattle.type_layout.specs.declared.definitions.TypeDef.{TypeDef}
-use Rattle.typed_tree.specs.Expressions.{Expression, Place, Receiver, Elements, Arguments, Const, RoutineValue, Load, Unary, Binary, Convert, Range, SetOf, Call, CallVirtual, CallThrough, Std, Make, Var, Deref, Index, FieldOf, NoReceiver, Own, NoElements, One, Span, NoArguments, ByValue, ByPlace}
+use Rattle.typed_tree.specs.declared.expressions.SetElement.{SetElement}
+use Rattle.typed_tree.specs.declared.expressions.SetElement.TheVariants as element
+use Rattle.typed_tree.specs.declared.expressions.Arg.{Arg}
+use Rattle.typed_tree.specs.declared.expressions.Arg.TheVariants as arg
+use Rattle.typed_tree.specs.Expressions.{view_expr, view_place, Expression, Place, Receiver, Elements, Arguments, Const, RoutineValue, Load, Unary, Binary, Convert, Range, SetOf, Call, CallVirtual, CallThrough, Std, Make, Var, Deref, Index, FieldOf, NoReceiver, Own, NoElements, One, Span, NoArguments, ByValue, ByPlace}
 use Rattle.typed_tree.specs.Statements.{Statement, Statements, Arms, Written, Taken, Assign, CopyAll, Run, If, While, Repeat, Block, Case, For, With, WriteItems, ReadItems, Halt, Exit, Unmake, NoStatements, Then, NoArms, Branch}
 use Rattle.typed_tree.specs.Slots.{slot_of_type, slot_of_result, slot_of_constant, slot_of, is_var}
 
@@ -96,3 +100,17 @@ abbrev mutual
   pub arms_need : List TypeDef → Arms → ℕ
   arms_need types NoArms = 0
   arms_need types (Branch labels body rest) = max (statement_need types body) (arms_need types rest)
+
+-- one element of a set constructor
+abbrev pub element_need : List TypeDef → SetElement → ℕ
+element_need types (element.One one) = need types (view_expr one)
+element_need types (element.Span low high) = max (need types (view_expr low)) (slot_of types (view_expr low) + need types (view_expr high))
+
+-- one argument
+abbrev pub argument_need : List TypeDef → Arg → ℕ
+argument_need types (arg.Value value) = need types (view_expr value)
+argument_need types (arg.Place at) = place_need types (view_place at)
+
+abbrev pub argument_slot : List TypeDef → Arg → ℕ
+argument_slot types (arg.Value value) = slot_of types (view_expr value)
+argument_slot types (arg.Place at) = 4

@@ -2,6 +2,7 @@
 #![tactic(auto)]
 
 mod expressions;
+mod needs;
 mod slots;
 mod statements;
 mod units;
