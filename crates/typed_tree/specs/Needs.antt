@@ -57,16 +57,16 @@ abbrev mutual
   arguments_need types before result (ByPlace at rest) =
       max (before + place_need types at) (arguments_need types (before + 4) result rest)
 
-abbrev pub width_need : List TypeDef → Written → ℕ
-width_need types item = elim item.width as (λ _. ℕ) [
-  | None ↦ 0
-  | Some width ↦ slot_of types item.value + need types width
-]
+-- a width is evaluated above the value that it belongs to
+abbrev pub width_need : List TypeDef → ℕ → Option Expression → ℕ
+width_need types slot None = 0
+width_need types slot (Some width) = slot + need types width
 
 abbrev pub written_need : List TypeDef → List Written → ℕ
 written_need types [] = 0
-written_need types (item ∷ rest) = max (max (need types item.value) (width_need types item)) (written_need types rest)
+written_need types (item ∷ rest) = max (max (need types item.value) (width_need types (slot_of types item.value) item.width)) (written_need types rest)
 
+-- reading uses at least the slot of a place
 abbrev pub taken_need : List TypeDef → List Taken → ℕ
 taken_need types [] = 4
 taken_need types (item ∷ rest) = max (place_need types item.at) (taken_need types rest)

@@ -4,6 +4,7 @@
 mod expressions;
 mod needs;
 mod slots;
+mod statement_needs;
 mod statements;
 mod units;
 

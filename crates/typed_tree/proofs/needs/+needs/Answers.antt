@@ -17,7 +17,7 @@ need_of_args-loop-arg-preserved t c =
     let rest : List Arg = drop (i + 1) args in
     let within : i < length args = c.loop-arg-test.true in
     let front : drop i args ≡ one ∷ rest =
-      drop-cons args i one within ∙ rw (← add-one) (ap (λ (x : Arg). x ∷ rest) (sym c.arg-item.is)) in
+      drop-cons args i one within ∙ rw (← add-one i) (ap (λ (x : Arg). x ∷ rest) (sym c.arg-item.is)) in
     let step = arguments_need-step types c.loop-arg.slots c.args.result_slot one rest in
     let before : capped (arguments_need types c.args.before c.args.result_slot (view_args args))
         ≡ max c.loop-arg.most (capped (arguments_need types c.loop-arg.slots c.args.result_slot (view_args (one ∷ rest)))) =
