@@ -1,11 +1,11 @@
 -- How many overlays leave the list, and how many seats there can be.
-use Rattle.std.proofs.Common.{◌≡◌, ◌≢◌, ℕ, zero, suc, ◌+◌, ◌<◌, ◌≤◌, List, [], ◌∷◌, ◌++◌, length, length-append, slice_index, map, take, drop, Bool, true, false, ◌||◌, ◌==◌, cond, eqb, refl, sym, inl, inr, ap, ◌∙◌, arith}
+use Rattle.std.proofs.Common.{◌≡◌, ◌≢◌, ℕ, suc, ◌+◌, ◌<◌, ◌≤◌, List, [], ◌∷◌, ◌++◌, length, length-append, slice_index, map, Bool, true, false, ◌==◌, eqb, refl, sym, inl, inr, arith}
 use Rattle.std.specs.List.{AllByRecursion, list_any, IsDistinct}
 use Rattle.std.proofs.lemmas.Bool.{or_cases, or_left, or_right, eq-eqb, ne_eqb, eqb-true, cond_both}
 use Rattle.std.proofs.lemmas.Map.Steps.{length-le_from_distinct_below}
 use Rattle.std.proofs.lemmas.List.{length-map}
 use Rattle.overlay_ring.specs.declared.seat.Seat.{Seat}
-use Rattle.overlay_ring.specs.Seats.{is_seated, left_count, paragraphs, HasItsSize, IsSeating}
+use Rattle.overlay_ring.specs.Seats.{is_seated, left_count, paragraphs, IsSeating}
 use Rattle.overlay_ring.specs.Ring.{reprieved, packed}
 use Rattle.overlay_ring.proofs.Reprieve.{is_reprieved}
 use Rattle.overlay_ring.proofs.Packing.{IsOutOf, IsRoster, out_chosen, roster_from_seating, roster_push, is_seated-packed}

@@ -1,21 +1,17 @@
 -- Laws of the ring: how many leave, that what stays does not move, and what a reprieve keeps to.
-use Rattle.std.proofs.Common.{◌≡◌, ◌≢◌, ℕ, zero, suc, ◌+◌, ◌-◌, ◌<◌, ◌≤◌, List, [], ◌∷◌, ◌++◌, length, length-append, take, drop, get_or, Bool, true, false, ◌||◌, ◌&&◌, ◌==◌, cond, nat_le, Option, Some, IsTrue, is_some, ◌⊎◌, refl, sym, inl, inr, ap, ◌∙◌, arith}
-use Rattle.std.specs.List.{All, AllByRecursion, Contains, find}
-use Rattle.std.specs.Option.{option_map}
-use Rattle.std.proofs.lemmas.Bool.{cases_Bool, and_parts, and_right, and_left, or_parts, or_left, or_right, eq-eqb, lt-leb, cond-true, cond-false, cond_both}
-use Rattle.std.proofs.lemmas.List.{append_assoc, append-nil, take-append-drop, length-take-le, get_or_at, get_or_push}
+use Rattle.std.proofs.Common.{◌≡◌, ◌≢◌, ℕ, zero, suc, ◌+◌, ◌<◌, ◌≤◌, List, [], ◌∷◌, ◌++◌, length, take, drop, Bool, true, false, ◌&&◌, nat_le, IsTrue, ◌⊎◌, refl, sym, inl, inr, ap, ◌∙◌, arith}
+use Rattle.std.specs.List.{All, AllByRecursion, Contains}
+use Rattle.std.proofs.lemmas.Bool.{and_parts, and_right, and_left, lt-leb, cond-true, cond-false, cond_both}
+use Rattle.std.proofs.lemmas.List.{append-nil, take-append-drop, length-take-le}
 use Rattle.std.proofs.lemmas.List.Elements.{All-from_recursion, All-contains_itself, All-drop, All-push, All-weaker}
 use Rattle.overlay_ring.specs.declared.seat.Seat.{Seat}
-use Rattle.overlay_ring.specs.Table.{IsLegalTable, is_loaded}
-use Rattle.overlay_ring.specs.Seats.{table_of, is_seated, place_of, paragraphs, left_count, HasItsSize, IsSeating, AreOverlays}
-use Rattle.overlay_ring.specs.Ring.{Load, load_of, new_seat, after_load, ring_after, is_live, reprieved, reprieved_for, packed, with_reprieved, retry_after}
+use Rattle.overlay_ring.specs.Seats.{is_seated, paragraphs, left_count, IsSeating, AreOverlays}
+use Rattle.overlay_ring.specs.Ring.{load_of, new_seat, after_load, ring_after, is_live, reprieved, reprieved_for, packed, with_reprieved, retry_after}
 use Rattle.overlay_ring.proofs.Drops.{drop_count-le}
-use Rattle.overlay_ring.proofs.Sizes.{paragraphs-append, packed-append}
+use Rattle.overlay_ring.proofs.Sizes.{paragraphs-append}
 use Rattle.overlay_ring.proofs.Reprieve.{is_reprieved, reprieved-false}
-use Rattle.overlay_ring.proofs.Sound.{is_seated-drop}
-use Rattle.overlay_ring.proofs.Packing.{IsRoster, roster_from_seating, AreWithin, reprieved-within, roster_of_all, roster_chosen, is_seated-packed}
-use Rattle.overlay_ring.proofs.Counts.{AreSeatedIn, seated_self, seated_behind, left_count-append, left_count-none, left_count-reprieved, left_count-packed}
-use Rattle.overlay_ring.proofs.Newest.{after_load-last, is_seated-last}
+use Rattle.overlay_ring.proofs.Packing.{IsRoster, roster_from_seating, AreWithin, reprieved-within, roster_of_all}
+use Rattle.overlay_ring.proofs.Counts.{seated_self, seated_behind, left_count-append, left_count-none, left_count-reprieved, left_count-packed}
 
 left_count-with_reprieved : (xs chosen list : List Seat) → left_count xs (with_reprieved chosen list) ≡ left_count xs (chosen ++ list)
 left_count-with_reprieved xs [] list = refl
@@ -129,6 +125,10 @@ retry-reprieved sizes room live most wanted seats absent =
     (all_append (λ s. P s.overlay) chosen list
     (all_weaker (λ s. is_live live s.overlay ≡ true) (λ s. P s.overlay) chosen (λ s h. inr h) (reprieved_live live most (paragraphs list) room (take load.dropped seats)))
     (all_weaker (λ s. is_seated s.overlay list ≡ true) (λ s. P s.overlay) list (λ s h. inl (rw plain h)) self)))
+
+-- a reprieve changes nothing where the overlay is there
+pub retry_after-found : (sizes : List ℕ) (room : ℕ) (live : List Bool) (most wanted : ℕ) (seats : List Seat) → is_seated wanted seats ≡ true → seats ≡ retry_after sizes room live most wanted seats
+retry_after-found sizes room live most wanted seats seated = sym (cond-true (is_seated wanted seats) seats _ seated)
 
 pub found-reprieved : (sizes : List ℕ) (room : ℕ) (live : List Bool) (wanted : ℕ) (seats : List Seat) → is_seated wanted seats ≡ true → All (IsReprieved sizes room live wanted seats) seats
 found-reprieved sizes room live wanted seats seated =

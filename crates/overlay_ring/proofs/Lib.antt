@@ -1,3 +1,4 @@
+pub mod Decided
 pub mod Drops
 pub mod Sizes
 pub mod Reprieve

@@ -1,20 +1,14 @@
 -- After a load the newest seat is the wanted overlay's, and no other is.
-use Rattle.std.proofs.Common.{◌≡◌, ◌≢◌, ℕ, zero, suc, ◌+◌, ◌-◌, ◌<◌, ◌≤◌, List, [], ◌∷◌, ◌++◌, length, length-append, take, drop, get_or, Bool, true, false, ◌||◌, ◌&&◌, ◌==◌, cond, nat_le, Option, Some, is_some, ◌⊎◌, refl, sym, inl, inr, ap, ◌∙◌, arith}
-use Rattle.std.specs.List.{All, AllByRecursion, Contains, find}
-use Rattle.std.specs.Option.{option_map}
-use Rattle.std.proofs.lemmas.Bool.{cases_Bool, and_parts, and_right, and_left, or_parts, or_left, or_right, eq-eqb, lt-leb, cond-true, cond-false, cond_both}
-use Rattle.std.proofs.lemmas.List.{append_assoc, append-nil, take-append-drop, length-take-le, get_or_at, get_or_push}
-use Rattle.std.proofs.lemmas.List.Elements.{All-from_recursion, All-contains_itself, All-drop, All-push, All-weaker}
+use Rattle.std.proofs.Common.{◌≡◌, ℕ, zero, suc, ◌+◌, ◌-◌, List, [], ◌∷◌, ◌++◌, length, length-append, take, drop, get_or, Bool, true, false, ◌==◌, Some, is_some, refl, sym, inl, inr, ap, ◌∙◌, arith}
+use Rattle.std.proofs.lemmas.Bool.{cases_Bool, or_parts, or_right, eq-eqb, cond_both}
+use Rattle.std.proofs.lemmas.List.{append_assoc, get_or_push}
 use Rattle.overlay_ring.specs.declared.seat.Seat.{Seat}
-use Rattle.overlay_ring.specs.Table.{IsLegalTable}
-use Rattle.overlay_ring.specs.Seats.{table_of, is_seated, place_of, paragraphs, left_count, HasItsSize, IsSeating, AreOverlays}
-use Rattle.overlay_ring.specs.Ring.{Load, load_of, new_seat, after_load, ring_after, is_live, reprieved, reprieved_for, packed, with_reprieved, retry_after}
-use Rattle.overlay_ring.proofs.Drops.{drop_count-le}
-use Rattle.overlay_ring.proofs.Sizes.{paragraphs-append, packed-append}
+use Rattle.overlay_ring.specs.Seats.{is_seated, place_of, paragraphs}
+use Rattle.overlay_ring.specs.Ring.{Load, new_seat, after_load, reprieved, reprieved_for, packed, with_reprieved}
+use Rattle.overlay_ring.proofs.Sizes.{packed-append}
 use Rattle.overlay_ring.proofs.Reprieve.{is_reprieved}
 use Rattle.overlay_ring.proofs.Sound.{is_seated-drop}
-use Rattle.overlay_ring.proofs.Packing.{IsRoster, AreWithin, reprieved-within, roster_of_all, roster_chosen, is_seated-packed}
-use Rattle.overlay_ring.proofs.Counts.{AreSeatedIn, seated_self, seated_behind, left_count-append, left_count-none, left_count-reprieved, left_count-packed}
+use Rattle.overlay_ring.proofs.Packing.{is_seated-packed}
 
 pub record EndsWith (wanted : ℕ) (last : Seat) (xs : List Seat) : Type 0 where
   pub front : List Seat

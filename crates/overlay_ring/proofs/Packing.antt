@@ -1,10 +1,10 @@
 -- Seats of different overlays that fit the buffer together are a table once they are packed.
-use Rattle.std.proofs.Common.{◌≡◌, ◌≢◌, ℕ, zero, suc, ◌+◌, ◌<◌, ◌≤◌, List, [], ◌∷◌, ◌++◌, length, take, drop, Bool, true, false, ◌&&◌, ◌||◌, ◌==◌, cond, nat_le, ◌⊎◌, refl, sym, ap, ◌∙◌, inl, inr, arith}
+use Rattle.std.proofs.Common.{◌≡◌, ◌≢◌, ℕ, ◌+◌, ◌<◌, ◌≤◌, List, [], ◌∷◌, ◌++◌, length, take, drop, Bool, false, ◌&&◌, ◌||◌, ◌==◌, nat_le, ◌⊎◌, refl, ap, inl, inr, arith}
 use Rattle.std.specs.List.{AllByRecursion}
 use Rattle.std.proofs.lemmas.Bool.{and_parts, or_parts, leb-true, eqb-false, cond_both}
 use Rattle.std.proofs.lemmas.List.{append_assoc, take-append-drop}
 use Rattle.overlay_ring.specs.declared.seat.Seat.{Seat}
-use Rattle.overlay_ring.specs.Table.{Entry, end_of, LiesInside, AreApart, IsTable}
+use Rattle.overlay_ring.specs.Table.{Entry, end_of, AreApart, IsTable}
 use Rattle.overlay_ring.specs.Seats.{entry_of, table_of, is_seated, paragraphs, HasItsSize, IsSeating, AreOverlays}
 use Rattle.overlay_ring.specs.Ring.{load_of, new_seat, after_load, is_live, reprieved, reprieved_for, packed, with_reprieved, retry_after}
 use Rattle.overlay_ring.proofs.Sizes.{paragraphs-append}

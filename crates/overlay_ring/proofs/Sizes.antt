@@ -1,5 +1,5 @@
 -- The seats' sizes together, and seats that are packed.
-use Rattle.std.proofs.Common.{◌≡◌, ℕ, zero, suc, ◌+◌, ◌*◌, ◌<◌, ◌≤◌, List, [], ◌∷◌, ◌++◌, length, length-append, length-drop, take, drop, get_or, set, refl, sym, ap, ◌∙◌, arith}
+use Rattle.std.proofs.Common.{◌≡◌, ℕ, zero, suc, ◌+◌, ◌<◌, ◌≤◌, List, [], ◌∷◌, ◌++◌, length, length-append, length-drop, take, drop, get_or, set, refl, sym, ap, ◌∙◌, arith}
 use Rattle.std.proofs.lemmas.List.{take_more, drop_more, length-take-le, set_at, get_or_at, append_assoc}
 use Rattle.overlay_ring.specs.declared.seat.Seat.{Seat}
 use Rattle.overlay_ring.specs.Seats.{paragraphs}

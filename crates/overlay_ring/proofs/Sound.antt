@@ -1,11 +1,11 @@
 -- A list of seats stays a table where its oldest are dropped and where a seat that overlaps none is added.
-use Rattle.std.proofs.Common.{◌≡◌, ◌≢◌, ℕ, zero, suc, ◌+◌, ◌<◌, ◌≤◌, List, [], ◌∷◌, ◌++◌, length, drop, get_or, Bool, true, false, cond, nat_le, nat_lt, ◌==◌, ◌⊎◌, refl, inl, inr, arith}
-use Rattle.std.specs.List.{All, AllByRecursion, list_any}
+use Rattle.std.proofs.Common.{◌≡◌, ℕ, zero, suc, ◌+◌, ◌<◌, ◌≤◌, List, [], ◌∷◌, ◌++◌, length, drop, false, nat_le, nat_lt, ◌==◌, refl, inl, inr, arith}
+use Rattle.std.specs.List.{AllByRecursion, list_any}
 use Rattle.std.proofs.lemmas.Bool.{and_cases, or_parts, ltb-false, leb-true, eqb-false, cond_both}
 use Rattle.overlay_ring.specs.declared.seat.Seat.{Seat}
 use Rattle.overlay_ring.specs.Table.{Entry, LiesInside, AreApart, IsTable}
 use Rattle.overlay_ring.specs.Seats.{entry_of, table_of, is_seated, overlaps, HasItsSize, IsSeating, AreOverlays}
-use Rattle.overlay_ring.specs.Ring.{Load, load_of, new_seat, after_load, end_of_newest, next_place, ring_after}
+use Rattle.overlay_ring.specs.Ring.{load_of, new_seat, after_load, end_of_newest, next_place, ring_after}
 use Rattle.overlay_ring.proofs.Drops.{drop_count-clears}
 
 all_entries_push : (P : Entry → Type 0) (xs : List Seat) (s : Seat) → AllByRecursion P (table_of xs) → P (entry_of s) → AllByRecursion P (table_of (xs ++ s ∷ []))

@@ -1,7 +1,7 @@
 -- What a request gives, where the overlay is there and where it has to be loaded.
-use Rattle.std.proofs.Common.{◌≡◌, ◌≢◌, ℕ, ◌+◌, ◌-◌, ◌<◌, ◌≤◌, List, [], ◌∷◌, ◌++◌, length, length-append, take, drop, get_or, Bool, true, false, Option, Some, None, is_some, IsTrue, slice_index, refl, sym, ap, ◌∙◌, arith}
+use Rattle.std.proofs.Common.{◌≡◌, ◌≢◌, ℕ, ◌+◌, ◌-◌, ◌<◌, ◌≤◌, List, [], ◌∷◌, ◌++◌, length, length-append, take, drop, get_or, Bool, true, false, Some, None, is_some, IsTrue, slice_index, inl, inr, refl, sym, ap, ◌∙◌, arith}
 use Rattle.std.specs.List.{All, AllByRecursion, Contains, list_any}
-use Rattle.std.proofs.lemmas.Bool.{cond-true, cond-false}
+use Rattle.std.proofs.lemmas.Bool.{cases_Bool, cond-true, cond-false}
 use Rattle.std.proofs.lemmas.List.{append-nil, drop-append-le, take-append-le}
 use Rattle.std.proofs.lemmas.List.Elements.{All-weaker, All-contains_itself}
 use Rattle.overlay_ring.specs.declared.seat.Seat.{Seat}
@@ -13,7 +13,7 @@ use Rattle.overlay_ring.proofs.Sound.{load-sound}
 use Rattle.overlay_ring.proofs.Packing.{IsRoster, roster_from_seating, roster_push, retry-sound}
 use Rattle.overlay_ring.proofs.Counts.{seated_self, left_count-none}
 use Rattle.overlay_ring.proofs.Newest.{EndsWith, place_of-last, is_seated-last, last_seat, after_load-last, retry-last, is_some-place_of}
-use Rattle.overlay_ring.proofs.Laws.{IsReprieved, ring_after-unmoved, left_count-load, left_count-retry, retry_after-zero, retry-reprieved, retry-within}
+use Rattle.overlay_ring.proofs.Laws.{IsReprieved, retry_after-found, ring_after-unmoved, left_count-load, left_count-retry, retry_after-zero, retry-reprieved, retry-within}
 
 pub seated_from_place : (wanted : ℕ) (seats : List Seat) (at : ℕ) → Some at ≡ place_of wanted seats → is_seated wanted seats ≡ true
 seated_from_place wanted seats at e = sym (is_some-place_of wanted seats) ∙ sym (ap is_some e)
@@ -134,3 +134,31 @@ pub all_known : (sizes : List ℕ) (room wanted : ℕ) (seats : List Seat) (made
 all_known sizes room wanted seats made count seating known absent e each =
     let new = new_seat (load_of sizes room wanted seats) wanted in
     rw e (known_from_roster sizes (seats ++ new ∷ []) count (roster_push sizes seats new (roster_from_seating sizes room seats seating) known refl absent) each)
+
+-- whatever was wanted, the ring's table is legal for it
+pub ring_after-legal : (sizes : List ℕ) (room wanted : ℕ) (seats : List Seat) → AreOverlays room sizes → IsSeating sizes room seats → wanted < length sizes → IsLegalTable sizes room wanted (table_of (ring_after sizes room wanted seats))
+ring_after-legal sizes room wanted seats overlays seating known =
+    elim (cases_Bool (is_seated wanted seats)) [
+      | inl seated ↦
+          let found = is_found sizes room wanted seats seating seated in
+          rw (← found.ring) found.legal
+      | inr absent ↦
+          let loaded = loaded_at sizes room wanted seats overlays seating known absent in
+          rw (← loaded.ring) loaded.legal
+    ]
+
+pub retry_after-legal : (sizes : List ℕ) (room : ℕ) (live : List Bool) (most wanted : ℕ) (seats : List Seat) → AreOverlays room sizes → IsSeating sizes room seats → wanted < length sizes → IsLegalTable sizes room wanted (table_of (retry_after sizes room live most wanted seats))
+retry_after-legal sizes room live most wanted seats overlays seating known =
+    elim (cases_Bool (is_seated wanted seats)) [
+      | inl seated ↦
+          let found = is_found sizes room wanted seats seating seated in
+          rw (← retry_after-found sizes room live most wanted seats seated) found.legal
+      | inr absent ↦
+          let load = load_of sizes room wanted seats in
+          let list = after_load load wanted seats in
+          let chosen = reprieved_for live most load room wanted seats in
+          let ends = retry-last live most room load wanted seats absent in
+          let sound = retry-sound sizes room live most wanted seats overlays known seating absent in
+          rw (cond-false (is_seated wanted seats) seats (with_reprieved chosen list) absent)
+          (record { sound = sound.sound; present = is_seated-last wanted ends.0 (with_reprieved chosen list) ends.1 })
+    ]

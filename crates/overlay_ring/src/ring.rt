@@ -106,8 +106,9 @@ impl Ring {
         }
     }
 
-    /// The same with reprieve: of the overlays that would leave, those stay that are live, the newest first, as long as
-    /// they need at most `retry` paragraphs and the buffer holds them with the others. Then all move together.
+    /// The same with reprieve: of the overlays that would leave, those stay that are live, from the newest on, as far as
+    /// they need at most `retry` paragraphs and the buffer holds them with the others. Where one stays that way, all
+    /// are placed anew, from 0 upward without gaps.
     pub fn wanted_retry(&mut self, overlay: u16, live: &[bool], retry: u16) -> Placement
         requires known { overlay < length self.old.sizes }
         requires each { length live.now ≡ length self.old.sizes }
@@ -128,9 +129,9 @@ impl Ring {
             ≤ paragraphs (ring_after self.old.sizes self.old.room overlay self.old.seats) + retry }
         ensures plain { retry ≡ 0 → self.new.seats ≡ ring_after self.old.sizes self.old.room overlay self.old.seats }
     {
-        if let Some(at) = seating::place(&self.seats, overlay) {
+        if let Some(place) = seating::place(&self.seats, overlay) {
             return Placement {
-                at,
+                at: place,
                 dropped: 0,
                 loaded: true,
             };

@@ -124,7 +124,7 @@ fn drop_unless_live(
     gone
 }
 
-/// The same, and where a seat is reprieved all move together.
+/// The same, and where a seat is reprieved all are placed anew, from 0 upward without gaps.
 pub fn reprieve(seats: &mut Vec<Seat>, count: usize, live: &[bool], most: u16, room: u16) -> usize
     requires dropped { count ≤ vec_len seats.old }
     requires few { vec_len seats.old ≤ 256 }

@@ -1,4 +1,4 @@
-use Rattle.std.proofs.Common.{◌≡◌, ◌+◌, ◌-◌, ◌<◌, ◌≤◌, length, true, false, ap, arith}
+use Rattle.std.proofs.Common.{◌≡◌, ◌-◌, ◌≤◌, length, false, arith}
 use Rattle.std.proofs.lemmas.Bool.{and_from, and_left, and_right, le-leb, lt-leb}
 use Rattle.overlay_ring.proofs.Reprieve.{IsChosen, is_reprieved, chosen_goes, chosen_stays}
 use Rattle.overlay_ring.proofs.seating.drop_unless_live.Goals as goal

@@ -1,5 +1,4 @@
-use Rattle.std.proofs.Common.{◌≡◌, take, cond, length, sym, ap, ◌∙◌, arith}
-use Rattle.std.proofs.lemmas.Grind.{common_steps}
+use Rattle.std.proofs.Common.{sym, ◌∙◌}
 use Rattle.overlay_ring.proofs.Drops.{drop_count-more}
 use Rattle.overlay_ring.proofs.seating.in_the_way.Goals as goal
 use Rattle.overlay_ring.proofs.seating.in_the_way.Goals.{then-overlaps, else-overlaps}

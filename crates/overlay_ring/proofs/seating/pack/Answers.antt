@@ -1,4 +1,4 @@
-use Rattle.std.proofs.Common.{◌≡◌, ◌+◌, ◌≤◌, take, get_or, ap, arith}
+use Rattle.std.proofs.Common.{◌+◌, ap, arith}
 use Rattle.overlay_ring.specs.declared.seat.Seat.{Seat}
 use Rattle.overlay_ring.specs.Seats.{paragraphs}
 use Rattle.overlay_ring.proofs.Sizes.{packed_to-more, get_or-packed_to, paragraphs-more, paragraphs-take}

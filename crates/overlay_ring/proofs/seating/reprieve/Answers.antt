@@ -1,4 +1,4 @@
-use Rattle.std.proofs.Common.{◌≡◌, ◌+◌, ◌++◌, ◌<◌, ◌≤◌, ℕ, length, take, drop, ap, inl, inr, ◌∙◌, arith}
+use Rattle.std.proofs.Common.{length, take, drop, ap, inl, inr, ◌∙◌, arith}
 use Rattle.overlay_ring.specs.Seats.{paragraphs}
 use Rattle.overlay_ring.specs.Ring.{reprieved}
 use Rattle.overlay_ring.proofs.Sizes.{paragraphs-append, went_with}

@@ -1,4 +1,4 @@
-use Rattle.std.proofs.Common.{◌∙◌, ap, ◌+◌, ◌≡◌, sym, arith}
+use Rattle.std.proofs.Common.{arith}
 use Rattle.overlay_ring.proofs.Sizes.{paragraphs-more}
 use Rattle.overlay_ring.proofs.seating.total.Goals as goal
 

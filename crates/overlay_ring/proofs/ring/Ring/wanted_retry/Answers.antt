@@ -1,11 +1,10 @@
-use Rattle.std.proofs.Common.{◌≡◌, ◌+◌, ◌-◌, ◌<◌, ◌≤◌, ℕ, length, List, Some, sym, ap, ◌∙◌, inl, arith}
-use Rattle.std.proofs.lemmas.Bool.{cond-true}
+use Rattle.std.proofs.Common.{◌≡◌, ℕ, length, List, Some, sym, ap, ◌∙◌, arith}
 use Rattle.overlay_ring.specs.declared.seat.Seat.{Seat}
 use Rattle.overlay_ring.specs.Seats.{paragraphs}
 use Rattle.overlay_ring.specs.Ring.{Buffer, load_of}
 use Rattle.overlay_ring.proofs.Drops.{drop_count-le}
 use Rattle.overlay_ring.proofs.Counts.{length-lt_from_absent}
-use Rattle.overlay_ring.proofs.Laws.{found-reprieved}
+use Rattle.overlay_ring.proofs.Laws.{found-reprieved, retry_after-found}
 use Rattle.overlay_ring.proofs.Wanted.{seated_from_place, absent_from_place, is_found, is_retried_by, all_known}
 use Rattle.overlay_ring.proofs.ring.Ring.wanted_retry.Goals as goal
 
@@ -13,11 +12,13 @@ pub returns-in-Some : goal.returns-in-Some
 returns-in-Some c =
     let b = c.self.inside in
     let place = rw c.deref.ensures.value at c.in-Some.ensures in
-    let seated = seated_from_place c.args.overlay b.seats.items c.in-Some.at place in
+    let seated = seated_from_place c.args.overlay b.seats.items c.in-Some.place place in
     let found = is_found b.sizes.items b.room c.args.overlay b.seats.items c.self.invariant.1 seated in
     let with_seats : List Seat → Buffer = λ seats. record { sizes = b.sizes.items; room = b.room; seats = seats } in
     rw (← c.self.view_is) (record {
-      ring = ap with_seats (sym (cond-true _ _ _ seated));
+      ring = ap
+          with_seats
+          (retry_after-found b.sizes.items b.room c.args.live.now c.args.retry c.args.overlay b.seats.items seated);
       at = sym place;
       dropped = found.left;
       loaded = found.seated;
