@@ -1,0 +1,10 @@
+pub mod Decided
+pub mod Drops
+pub mod Sizes
+pub mod Reprieve
+pub mod Sound
+pub mod Packing
+pub mod Counts
+pub mod Newest
+pub mod Laws
+pub mod Wanted

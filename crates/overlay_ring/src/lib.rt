@@ -1,0 +1,11 @@
+//! Which overlays a buffer holds and where: a ring of seats, oldest first.
+#![tactic(auto)]
+
+mod ring;
+mod seat;
+mod seating;
+#[cfg(test)]
+mod tests;
+
+pub use ring::Ring;
+pub use seat::{Placement, Seat};
