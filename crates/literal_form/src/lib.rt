@@ -2,7 +2,9 @@
 #![tactic(auto)]
 
 mod act;
+mod bytes;
 mod error;
+mod lexer;
 mod program;
 mod state;
 mod token;
