@@ -10,7 +10,7 @@ use Rattle.literal_form.specs.declared.token.Symbol.TheVariants as symbols
 use Rattle.literal_form.specs.declared.token.Token.{Token}
 use Rattle.literal_form.specs.declared.token.Token.TheVariants as tokens
 use Rattle.literal_form.specs.declared.token.Word.TheVariants as words
-use Rattle.literal_form.specs.Lexeme.{Lexeme, word, text, number, symbol, is_blank, is_letter, is_digit, is_letter_or_digit, is_line_break, quote, word_of, decimal}
+use Rattle.literal_form.specs.Lexeme.{Lexeme, word, text, number, symbol, is_blank, is_letter, is_digit, is_letter_or_digit, is_line_break, quote, word_of, decimal, Lexes}
 use Rattle.literal_form.specs.Statement.{Statement, write, halt, line_end}
 
 infixl 10 ◌>>=◌
@@ -156,3 +156,20 @@ said_from s (t ∷ ts) = do
   next ← state_after s t
   others ← said_from next ts
   Some (said_by s t ++ others)
+
+-- The text is tokens that say these statements from a state on, and complete a program.
+pub record Accepts (s : State) (bytes : List ℕ) (statements : List Statement) : Type 0 where
+  pub tokens : List Lexeme
+  pub lexed : Lexes tokens bytes
+  pub said : said_from s tokens ≡ Some statements
+
+-- ---- how much a token takes and says
+
+-- the fewest bytes that spell a token
+abbrev pub least_size : Lexeme → ℕ
+least_size (text content) = length content + 2
+least_size t = 1
+
+abbrev pub IsSmall : Lexeme → Type 0
+IsSmall (number n) = n < 1000000000
+IsSmall t = Unit {0}
