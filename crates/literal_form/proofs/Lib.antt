@@ -5,3 +5,6 @@ pub mod Quotes
 pub mod Runs
 pub mod Lexing
 pub mod Sentences
+pub mod Sizes
+pub mod Run
+pub mod Pool

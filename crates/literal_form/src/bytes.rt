@@ -2,7 +2,10 @@
 
 ghost use Rattle.std.specs.Prelude.{◌≡◌};
 ghost use Rattle.literal_form.specs.Lexeme.{
-    is_blank as blank, is_digit as digit, is_letter as letter, is_line_break as line_break
+  is_blank as blank,
+  is_digit as digit,
+  is_letter as letter,
+  is_line_break as line_break,
 };
 
 pub fn is_blank(byte: u8) -> bool

@@ -44,7 +44,10 @@ fn token(alloc: Global, text: &[u8]) -> Result<(Token, &[u8]), ReadError>
         [first, ..] if is_letter(*first) => Ok(word(text)),
         [first, ..] if is_digit(*first) => number(text),
         [b'\'', rest @ ..] => text_constant(alloc, rest),
-        [first, rest @ ..] => Ok((Token::Symbol(symbol(*first).ok_or(ReadError::NotYet)?), rest)),
+        [first, rest @ ..] => Ok((
+            Token::Symbol(symbol(*first).ok_or(ReadError::NotYet)?),
+            rest,
+        )),
         [] => Err(ReadError::NotYet),
     }
 }
@@ -54,7 +57,9 @@ fn name_length(text: &[u8]) -> usize
     ensures value { result ≡ prefix_len is_letter_or_digit text.now }
     ensures within { result ≤ length text.now }
 {
-    text.iter().take_while(|byte| is_letter(**byte) || is_digit(**byte)).count()
+    text.iter()
+        .take_while(|byte| is_letter(**byte) || is_digit(**byte))
+        .count()
 }
 
 fn word(text: &[u8]) -> (Token, &[u8])

@@ -44,10 +44,8 @@ pub fn next_state(state: State, token: &Token) -> Option<State>
     match (state, token) {
         (State::Start, Token::Word(Word::Program)) => Some(State::Heading),
         (State::Start | State::Headed, Token::Word(Word::Begin)) => Some(State::Statement),
-        (
-            State::Heading,
-            Token::Word(Word::Name | Word::Write | Word::WriteLn | Word::Halt),
-        ) => Some(State::Named),
+        (State::Heading, Token::Word(Word::Name | Word::Write | Word::WriteLn | Word::Halt)) =>
+            Some(State::Named),
         (State::Named, Token::Symbol(Symbol::Semicolon)) => Some(State::Headed),
         (State::Statement, Token::Word(Word::Write)) => Some(State::Write),
         (State::Statement, Token::Word(Word::WriteLn)) => Some(State::WriteLn),
@@ -63,10 +61,8 @@ pub fn next_state(state: State, token: &Token) -> Option<State>
             State::Statement | State::WriteLn | State::Halt | State::Stated,
             Token::Symbol(Symbol::Semicolon),
         ) => Some(State::Statement),
-        (
-            State::Statement | State::WriteLn | State::Halt | State::Stated,
-            Token::Word(Word::End),
-        ) => Some(State::Ended),
+        (State::Statement | State::WriteLn | State::Halt | State::Stated, Token::Word(Word::End)) =>
+            Some(State::Ended),
         (State::Ended, Token::Symbol(Symbol::Dot)) => Some(State::Complete),
         _ => None,
     }
