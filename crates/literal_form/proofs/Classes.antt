@@ -1,8 +1,8 @@
 -- Classes of bytes, apart from each other.
-use Rattle.std.proofs.Common.{◌≡◌, ℕ, ◌<◌, ◌≤◌, Bool, true, false, ◌||◌, List, [], ◌∷◌, ◌++◌, refl, arith, ne_eqb}
-use Rattle.std.proofs.lemmas.Bool.{or_from, or_left, or_right}
+use Rattle.std.proofs.Common.{◌≡◌, ℕ, ◌≤◌, Bool, true, false, List, [], ◌∷◌, ◌++◌, arith, ne_eqb}
+use Rattle.std.proofs.lemmas.Bool.{or_from, or_right}
 use Rattle.std.proofs.lemmas.Bool.Decides.{nat_tests}
-use Rattle.literal_form.specs.Lexeme.{is_blank, is_letter, is_digit, is_letter_or_digit, quote, AllAre, NotBefore, BeginsWith}
+use Rattle.literal_form.specs.Lexeme.{is_blank, is_letter, is_digit, is_letter_or_digit, AllAre, NotBefore, BeginsWith}
 
 pub letter_from : (b : ℕ) → is_letter b ≡ true → 65 ≤ b
 letter_from b h = grind (arith, nat_tests)

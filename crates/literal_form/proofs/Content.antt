@@ -1,7 +1,7 @@
 -- Reading what stands between quotes.
 use Rattle.std.proofs.Common.{◌≡◌, ℕ, ◌<◌, Bool, true, false, cond, List, [], ◌∷◌, ◌++◌, length, append_assoc, append-nil, ◌∙◌, Option, Some, None, refl, sym, ap, arith, eqb}
 use Rattle.literal_form.specs.Lexeme.{quote, is_line_break}
-use Rattle.literal_form.specs.Reading.{◌>>=◌, with_byte, after_quote, content_byte_at, content_at}
+use Rattle.literal_form.specs.Reading.{◌>>=◌, with_byte, content_byte_at, content_at}
 
 -- what was read before, and what is still read
 abbrev pub with_front : List ℕ → Option (List ℕ × List ℕ) → Option (List ℕ × List ℕ)

@@ -1,5 +1,5 @@
 -- The value of decimal digits.
-use Rattle.std.proofs.Common.{◌≡◌, ℕ, zero, suc, ◌+◌, ◌*◌, ◌-◌, ◌^◌, ◌<◌, ◌≤◌, refl, arith, add-one}
+use Rattle.std.proofs.Common.{◌≡◌, ℕ, suc, ◌+◌, ◌*◌, ◌^◌, ◌<◌, ◌≤◌, arith, add-one}
 use Rattle.std.proofs.Math.Nat.{pow-succ', pow-le-pow_right}
 
 -- one digit more

@@ -1,14 +1,14 @@
 -- The reader of tokens reads the first token, and no other.
-use Rattle.std.proofs.Common.{◌≡◌, ℕ, ◌+◌, ◌*◌, ◌^◌, ◌<◌, ◌≤◌, Bool, true, false, cond, ◌&&◌, List, [], ◌∷◌, ◌++◌, length, take, drop, append_assoc, append-nil, Option, Some, None, refl, sym, ap, ◌∙◌, subst, arith, eqb, leb, inl, inr, ◌⊎◌, length-append}
+use Rattle.std.proofs.Common.{◌≡◌, ℕ, Bool, true, false, cond, ◌&&◌, List, [], ◌∷◌, ◌++◌, length, take, append_assoc, append-nil, Option, Some, None, refl, sym, ap, ◌∙◌, subst, eqb, leb}
 use Rattle.std.specs.List.{list_all, prefix_len}
 use Rattle.std.proofs.lemmas.Bool.{eqb-true, leb-true, le-leb, and_parts, and_from, or_left, or_right, cond-true, cond-false}
 use Rattle.literal_form.specs.declared.token.Symbol.{Symbol}
 use Rattle.literal_form.specs.declared.token.Symbol.TheVariants as symbols
 use Rattle.literal_form.specs.declared.token.Word.{Word}
-use Rattle.literal_form.specs.Lexeme.{Lexeme, word, text, number, symbol, is_blank, is_letter, is_digit, is_letter_or_digit, is_line_break, quote, quoted, word_of, decimal, byte_of, AllAre, NotBefore, BeginsWith, SpellsWord, SpellsNumber, SpellsText, Spells, MayPrecede, Begins}
+use Rattle.literal_form.specs.Lexeme.{Lexeme, word, text, number, symbol, is_blank, is_letter, is_digit, is_letter_or_digit, quote, quoted, word_of, decimal, byte_of, AllAre, NotBefore, BeginsWith, SpellsWord, SpellsNumber, SpellsText, Spells, MayPrecede, Begins}
 use Rattle.literal_form.specs.Reading.{◌>>=◌, after_blanks, word_at, number_from, number_at, content_at, text_at, symbol_of, symbol_at, token_at, front_at, next_at}
 use Rattle.literal_form.proofs.Classes.{letter_not_blank, digit_not_blank, digit_no_letter, digits_are, begins_not}
-use Rattle.literal_form.proofs.Quotes.{content-quoted, Closes, AnswerCloses, content_closes}
+use Rattle.literal_form.proofs.Quotes.{content-quoted, AnswerCloses, content_closes}
 use Rattle.literal_form.proofs.Runs.{Splits, run_splits, take-run, drop-run, AllAre-from_list_all, list_all-from_AllAre}
 
 -- ---- separators

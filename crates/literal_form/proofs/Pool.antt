@@ -1,13 +1,13 @@
 -- What acts say stays the same while the pool grows.
-use Rattle.std.proofs.Common.{◌≡◌, ℕ, ◌+◌, ◌≤◌, ◌<◌, List, [], ◌∷◌, ◌++◌, map, length, take, drop, refl, ap, ◌∙◌, arith}
+use Rattle.std.proofs.Common.{◌≡◌, ℕ, ◌+◌, ◌≤◌, ◌<◌, List, [], ◌∷◌, ◌++◌, length, take, drop, refl, sym, ap, ◌∙◌, arith}
 use Rattle.std.specs.List.{All, AllByRecursion}
 use Rattle.std.proofs.lemmas.List.{take-append-le, drop-append-le, take_all, map-append, length-drop}
 use Rattle.std.proofs.lemmas.List.Elements.{recursion_from_All, All-push, All-weaker}
 use Rattle.std.proofs.Math.Seq.{drop-append_seam}
 use Rattle.literal_form.specs.declared.act.Act.{Act}
 use Rattle.literal_form.specs.declared.act.Act.TheVariants as act
-use Rattle.literal_form.specs.Statement.{Statement, write, halt}
-use Rattle.literal_form.specs.Act.{end_of, code_of, IsWithin, statement_of, statements_in}
+use Rattle.literal_form.specs.Statement.{write}
+use Rattle.literal_form.specs.Act.{end_of, code_of, IsWithin, AreEndToEnd, statement_of, statements_in}
 
 range-grows : (pool more : List ℕ) (from count : ℕ) → from + count ≤ length pool → take count (drop from (pool ++ more)) ≡ take count (drop from pool)
 range-grows pool more from count h =
@@ -43,3 +43,15 @@ within-grows n m acts h all = All-weaker (IsWithin n) (IsWithin m) (λ a w. reco
 
 pub within-push : (n : ℕ) (a : Act) (acts : List Act) → end_of a ≤ n → code_of a < 1000000000 → All (IsWithin n) acts → All (IsWithin n) (acts ++ a ∷ [])
 within-push n a acts h k all = All-push (IsWithin n) acts a all (record { in_pool = h; code = k })
+
+-- ---- one act behind the other
+
+pub laid-write : (start : ℕ) (acts : List Act) (from count end : ℕ) → AreEndToEnd start acts from → end ≡ from + count → AreEndToEnd start (acts ++ act.Write from count ∷ []) end
+laid-write start [] from count end h e = (sym h, sym e)
+laid-write start (act.Write f c ∷ others) from count end h e = (h.0, laid-write (f + c) others from count end h.1 e)
+laid-write start (act.Halt code ∷ others) from count end h e = laid-write start others from count end h e
+
+pub laid-halt : (start : ℕ) (acts : List Act) (code end : ℕ) → AreEndToEnd start acts end → AreEndToEnd start (acts ++ act.Halt code ∷ []) end
+laid-halt start [] code end h = h
+laid-halt start (act.Write f c ∷ others) code end h = (h.0, laid-halt (f + c) others code end h.1)
+laid-halt start (act.Halt k ∷ others) code end h = laid-halt start others code end h

@@ -1,8 +1,8 @@
 -- What is read between quotes is spelled so, and what is spelled so is read.
-use Rattle.std.proofs.Common.{◌≡◌, ℕ, Bool, true, false, cond, List, [], ◌∷◌, ◌++◌, Option, Some, None, refl, sym, ap, ◌∙◌, eqb, subst}
+use Rattle.std.proofs.Common.{◌≡◌, ℕ, Bool, true, false, cond, List, [], ◌∷◌, ◌++◌, Option, Some, None, refl, sym, ap, ◌∙◌, eqb}
 use Rattle.std.proofs.lemmas.Bool.{eqb-true}
 use Rattle.literal_form.specs.Lexeme.{quote, quoted, is_line_break, NoneIs, NotBefore}
-use Rattle.literal_form.specs.Reading.{◌>>=◌, with_byte, content_at, content_byte_at}
+use Rattle.literal_form.specs.Reading.{with_byte, content_at}
 use Rattle.literal_form.proofs.Content.{content-by}
 
 abbrev is_quote : ℕ → Bool

@@ -1,14 +1,14 @@
 -- A run of the states over the tokens of a text.
-use Rattle.std.proofs.Common.{◌≡◌, ℕ, ◌≤◌, List, [], ◌∷◌, ◌++◌, length, append_assoc, append-nil, Option, Some, None, refl, sym, ap, ◌∙◌, subst}
+use Rattle.std.proofs.Common.{◌≡◌, ℕ, ◌≤◌, List, [], ◌∷◌, ◌++◌, length, append_assoc, append-nil, Some, None, refl, sym, ap, ◌∙◌, subst}
 use Rattle.literal_form.specs.declared.state.State.{State}
 use Rattle.literal_form.specs.declared.state.State.TheVariants as states
 use Rattle.literal_form.specs.Lexeme.{Lexeme, Begins, Lexes}
 use Rattle.literal_form.specs.Statement.{Statement}
-use Rattle.literal_form.specs.Grammar.{source_tokens, source_statements}
+use Rattle.literal_form.specs.Grammar.{source_tokens}
 use Rattle.literal_form.specs.Source.{visible, IsSource}
 use Rattle.literal_form.specs.Reading.{next_at, state_after, said_by, said_at_end, said_from, Accepts}
 use Rattle.literal_form.proofs.Lexing.{Answers, answers, next_at-begins, next_at-blank}
-use Rattle.literal_form.proofs.Sentences.{source_said, program_told, Steps, steps}
+use Rattle.literal_form.proofs.Sentences.{source_said, program_told, steps}
 
 -- ---- the tokens of a text are determined
 

@@ -7,7 +7,7 @@ use Rattle.literal_form.specs.declared.token.Word.{Word}
 use Rattle.literal_form.specs.declared.token.Word.TheVariants as words
 use Rattle.literal_form.specs.Lexeme.{Lexeme, word, text, number, symbol}
 use Rattle.literal_form.specs.Statement.{Statement, write, halt, line_end}
-use Rattle.literal_form.specs.Grammar.{Phrase, empty, write_all, new_line, write_line, stop, stop_with, Source, more_constants, arguments, phrase_tokens, more_phrases, heading_tokens, source_tokens, IsUnreserved, IsHeading, phrase_statements, all_statements, source_statements}
+use Rattle.literal_form.specs.Grammar.{Phrase, empty, write_all, new_line, write_line, stop, stop_with, Source, more_constants, phrase_tokens, more_phrases, heading_tokens, source_tokens, IsUnreserved, IsHeading, phrase_statements, all_statements, source_statements}
 use Rattle.literal_form.specs.Reading.{◌>>=◌, state_after, pending, said_by, said_at_end, said_from}
 
 -- what follows the last constant of a list

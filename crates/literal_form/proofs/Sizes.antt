@@ -1,5 +1,5 @@
 -- How many bytes a token takes.
-use Rattle.std.proofs.Common.{◌≡◌, ℕ, ◌+◌, ◌*◌, ◌-◌, ◌^◌, ◌<◌, ◌≤◌, suc, List, [], ◌∷◌, ◌++◌, Bool, true, false, cond, length, length-append, refl, ap, arith, eqb}
+use Rattle.std.proofs.Common.{◌≡◌, ℕ, ◌+◌, ◌*◌, ◌-◌, ◌^◌, ◌<◌, ◌≤◌, suc, List, [], ◌∷◌, Bool, true, false, cond, length, length-append, ap, arith, eqb}
 use Rattle.std.specs.List.{fold}
 use Rattle.std.proofs.Math.Nat.{pow-succ', pow-le-pow_right, mul-le-mul_left}
 use Rattle.literal_form.specs.Lexeme.{Lexeme, word, text, number, symbol, quote, quoted, is_letter, is_digit, decimal, BeginsWith, AllAre, Spells, Begins}

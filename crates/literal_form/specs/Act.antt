@@ -1,5 +1,5 @@
 -- What an act does with the pool of bytes that it lies in.
-use Rattle.std.specs.Prelude.{ℕ, ◌+◌, ◌≤◌, ◌<◌, List, map, take, drop}
+use Rattle.std.specs.Prelude.{◌≡◌, ℕ, ◌+◌, ◌≤◌, ◌<◌, List, [], ◌∷◌, map, take, drop}
 use Rattle.literal_form.specs.declared.act.Act.{Act}
 use Rattle.literal_form.specs.declared.act.Act.TheVariants as act
 use Rattle.literal_form.specs.Statement.{Statement, write, halt}
@@ -24,3 +24,9 @@ statement_of pool (act.Halt code) = halt code
 
 abbrev pub statements_in : List ℕ → List Act → List Statement
 statements_in pool acts = map (statement_of pool) acts
+
+-- Each act writes the bytes behind those of the acts before it, from start on, and the last one ends at end.
+abbrev pub AreEndToEnd : ℕ → List Act → ℕ → Type 0
+AreEndToEnd start [] end = start ≡ end
+AreEndToEnd start (act.Write from length ∷ others) end = (from ≡ start) × AreEndToEnd (from + length) others end
+AreEndToEnd start (act.Halt code ∷ others) end = AreEndToEnd start others end

@@ -18,12 +18,13 @@ pub struct LiteralProgram {
 }
 
 impl LiteralProgram {
-    ghost use Rattle.literal_form.specs.LiteralProgram.{statements_of};
+    ghost use Rattle.literal_form.specs.LiteralProgram.{IsLaidOut, statements_of};
     ghost use Rattle.literal_form.specs.Statement.{halt, write};
 
     /// A program that does nothing.
     pub fn new(alloc: Global) -> LiteralProgram
         ensures says { statements_of result ≡ [] }
+        ensures laid { IsLaidOut result }
         ensures pool { vec_len result.pool ≡ 0 }
         ensures acts { vec_len result.acts ≡ 0 }
     {
@@ -35,8 +36,10 @@ impl LiteralProgram {
 
     /// Adds an act that writes these bytes.
     pub fn write(&mut self, bytes: &[u8]) -> Result<(), AllocError>
+        requires laid { IsLaidOut self.old }
         requires pool_room { vec_len self.old.pool + length bytes.now ≤ 8192 }
         requires acts_room { vec_len self.old.acts < 4096 }
+        ensures laid { OnOk result (IsLaidOut self.new) }
         ensures says { OnOk result (statements_of self.new ≡ statements_of self.old ++ write bytes.now ∷ []) }
         ensures pool { OnOk result (vec_len self.new.pool ≡ vec_len self.old.pool + length bytes.now) }
         ensures acts { OnOk result (vec_len self.new.acts ≡ vec_len self.old.acts + 1) }
@@ -52,8 +55,10 @@ impl LiteralProgram {
 
     /// Adds an act that ends the program.
     pub fn halt(&mut self, code: u32) -> Result<(), AllocError>
+        requires laid { IsLaidOut self.old }
         requires code { code < 1000000000 }
         requires acts_room { vec_len self.old.acts < 4096 }
+        ensures laid { OnOk result (IsLaidOut self.new) }
         ensures says { OnOk result (statements_of self.new ≡ statements_of self.old ++ halt code ∷ []) }
         ensures pool { OnOk result (vec_len self.new.pool ≡ vec_len self.old.pool) }
         ensures acts { OnOk result (vec_len self.new.acts ≡ vec_len self.old.acts + 1) }

@@ -4,7 +4,7 @@ ghost use Rattle.std.specs.Prelude.{◌≡◌, ◌+◌, ◌*◌, ◌≤◌, ◌<
 ghost use Rattle.std.specs.List.{position_or_len};
 ghost use Rattle.literal_form.specs.declared.error.ReadError.TheVariants.{NotYet};
 ghost use Rattle.literal_form.specs.declared.state.State.TheVariants.{Start};
-ghost use Rattle.literal_form.specs.LiteralProgram.{statements_of};
+ghost use Rattle.literal_form.specs.LiteralProgram.{IsLaidOut, statements_of};
 ghost use Rattle.literal_form.specs.Reading.{Accepts, IsSmall, least_size, lexeme_of, pending, said_by};
 ghost use Rattle.literal_form.specs.Source.{IsSource, visible as visible_in};
 ghost use Rattle.literal_form.specs.Statement.{Statement};
@@ -21,6 +21,7 @@ pub const LONGEST_SOURCE: usize = 4096;
 
 /// Reads a program of literals.
 pub fn read_program(alloc: Global, text: &[u8]) -> Result<LiteralProgram, ReadError>
+    ensures laid { IfOk result IsLaidOut }
     ensures ok { IfOk result (λ p. IsSource text.now (statements_of p)) }
     ensures not_yet { result ≡ Err NotYet → (ss : List Statement) → IsSource text.now ss → ⊥ }
 {
@@ -47,6 +48,7 @@ fn visible_length(text: &[u8]) -> usize
 
 fn read_tokens(alloc: Global, text: &[u8]) -> Result<LiteralProgram, ReadError>
     requires { length text.now ≤ 4096 }
+    ensures laid { IfOk result IsLaidOut }
     ensures ok { IfOk result (λ p. Accepts Start text.now (statements_of p)) }
     ensures not_yet { result ≡ Err NotYet → (ss : List Statement) → Accepts Start text.now ss → ⊥ }
 {
@@ -76,8 +78,10 @@ fn read_tokens(alloc: Global, text: &[u8]) -> Result<LiteralProgram, ReadError>
 #[tactic(auto, unfolding(crate::specs::Reading::said_by))]
 fn say(program: &mut LiteralProgram, state: State, token: Token) -> Result<(), AllocError>
     requires small { IsSmall (lexeme_of token) }
+    requires laid { IsLaidOut program.old }
     requires pool_room { vec_len program.old.pool + 2 * least_size (lexeme_of token) ≤ 8192 }
     requires acts_room { vec_len program.old.acts < 4096 }
+    ensures laid { OnOk result (IsLaidOut program.new) }
     ensures says { OnOk result (statements_of program.new ≡ statements_of program.old ++ said_by state (lexeme_of token)) }
     ensures pool { OnOk result (vec_len program.new.pool ≤ vec_len program.old.pool + 2 * least_size (lexeme_of token)) }
     ensures acts { OnOk result (vec_len program.new.acts ≤ vec_len program.old.acts + 1) }
@@ -92,8 +96,10 @@ fn say(program: &mut LiteralProgram, state: State, token: Token) -> Result<(), A
 
 /// Adds what is still to be said of a statement that ends.
 fn say_pending(program: &mut LiteralProgram, state: State) -> Result<(), AllocError>
+    requires laid { IsLaidOut program.old }
     requires pool_room { vec_len program.old.pool + 2 ≤ 8192 }
     requires acts_room { vec_len program.old.acts < 4096 }
+    ensures laid { OnOk result (IsLaidOut program.new) }
     ensures says { OnOk result (statements_of program.new ≡ statements_of program.old ++ pending state) }
     ensures pool { OnOk result (vec_len program.new.pool ≤ vec_len program.old.pool + 2) }
     ensures acts { OnOk result (vec_len program.new.acts ≤ vec_len program.old.acts + 1) }

@@ -1,7 +1,6 @@
 use Rattle.std.proofs.Common.{◌≡◌, Some, None, refl}
-use Rattle.literal_form.specs.Reading.{◌>>=◌, content_byte_at}
-use Rattle.literal_form.specs.Lexeme.{text}
-use Rattle.literal_form.proofs.Content.{content_more, content_ends, content_fails, shorter}
+use Rattle.literal_form.specs.Reading.{content_byte_at}
+use Rattle.literal_form.proofs.Content.{content_more, content_ends, content_fails}
 use Rattle.literal_form.proofs.lexer.text_constant.Goals as goal
 
 pub bytes-preserved : goal.bytes-preserved

@@ -1,11 +1,9 @@
-use Rattle.std.proofs.Common.{◌≡◌, ℕ, ◌+◌, ◌≤◌, ◌++◌, length, List, Some, None, Err, arith, sym, ◌∙◌, subst, ap, rules}
+use Rattle.std.proofs.Common.{◌≡◌, ◌+◌, ◌≤◌, length, List, Some, None, arith, sym, ◌∙◌, subst}
 use Rattle.std.proofs.lemmas.Result.{err_from_is_err_and}
 use Rattle.literal_form.specs.declared.error.ReadError.{ReadError}
 use Rattle.literal_form.specs.declared.error.ReadError.TheVariants.{NotYet}
-use Rattle.literal_form.specs.declared.state.State.{State}
-use Rattle.literal_form.specs.LiteralProgram.{statements_of}
 use Rattle.literal_form.specs.Statement.{Statement}
-use Rattle.literal_form.specs.Reading.{Fails, next_at, lexeme_of, least_size, state_after, said_by}
+use Rattle.literal_form.specs.Reading.{Fails, next_at, lexeme_of, least_size, state_after}
 use Rattle.literal_form.proofs.Run.{Goes, begun, goes_on, wrong_token, wrong_place, too_short, complete, unfinished}
 use Rattle.literal_form.proofs.Sizes.{begins_size, begins_small, least_size-some}
 use Rattle.literal_form.proofs.reading.read_tokens.Goals as goal
@@ -57,6 +55,7 @@ tokens-preserved c =
     let some = least_size-some (lexeme_of c.in-Some.token) in
     let goes = goes_on _ _ _ _ _ _ _ e next c.tokens.invariant.goes in
     record {
+      laid = c.in_ok-say-in-Some.ensures.laid;
       goes = subst (λ (l : List Statement). Goes c.args.text.now c.in-Some-next_state.next c.in-Some.after.now l) (sym c.in_ok-say-in-Some.ensures.says) goes;
       short = omega (arith, c.tokens.invariant.short);
       pool = omega (arith, c.tokens.invariant.pool, c.in_ok-say-in-Some.ensures.pool);
@@ -71,4 +70,4 @@ returns-in-Complete-clause-ok c =
 pub returns-in_default-state : goal.returns-in_default-state
 returns-in_default-state c =
     let e : next_at c.tokens.rest.now ≡ Some None = rw c.in-None.is at c.in_ok-next_token.ensures in
-    record { ok = tt; not_yet = λ h. too_short _ _ _ _ e (unfinished c.tokens.state c.in_default-state.not-Complete) c.tokens.invariant.goes }
+    record { laid = tt; ok = tt; not_yet = λ h. too_short _ _ _ _ e (unfinished c.tokens.state c.in_default-state.not-Complete) c.tokens.invariant.goes }
