@@ -6,7 +6,7 @@ ghost use Rattle.literal_form.specs.Reading.{lexeme_of, state_after};
 use crate::token::{Symbol, Token, Word};
 
 /// What was read last, as far as it matters for what may follow.
-#[derive(Clone, Copy, Debug, PartialEq, Eq)]
+#[derive(Clone, Copy)]
 pub enum State {
     Start,
     /// `program`, whose name is due

@@ -1,7 +1,7 @@
 //! The tokens of a text.
 
 /// A word that the form knows, in either case, or any other name.
-#[derive(Clone, Copy, Debug, PartialEq, Eq)]
+#[derive(Clone, Copy)]
 pub enum Word {
     Program,
     Begin,
@@ -12,7 +12,7 @@ pub enum Word {
     Name,
 }
 
-#[derive(Clone, Copy, Debug, PartialEq, Eq)]
+#[derive(Clone, Copy)]
 pub enum Symbol {
     Open,
     Close,
@@ -21,7 +21,7 @@ pub enum Symbol {
     Dot,
 }
 
-#[derive(Debug, Drop)]
+#[derive(Drop)]
 pub enum Token {
     Word(Word),
     /// A text constant, as the bytes that it stands for.
