@@ -19,7 +19,10 @@ use std::alloc::{AllocError, Global};
 /// The most bytes that a text may have.
 pub const LONGEST_SOURCE: usize = 4096;
 
-/// Reads a program of literals.
+/// Reads a program of literals from a whole text.
+///
+/// `NotYet` comes exactly where the text is no such program, as where it is longer than
+/// `LONGEST_SOURCE`; `NoMemory` where memory runs out.
 pub fn read_program(alloc: Global, text: &[u8]) -> Result<LiteralProgram, ReadError>
     ensures laid { IfOk result IsLaidOut }
     ensures ok { IfOk result (λ p. IsSource text.now (statements_of p)) }
