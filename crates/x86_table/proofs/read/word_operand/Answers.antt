@@ -1,0 +1,16 @@
+use Rattle.std.proofs.Common.{◌≡◌, ◌≢◌, ◌+◌, ◌*◌, ◌<◌, ℕ, List, [], ◌∷◌, ◌++◌, MatchOption, ap, arith}
+use Rattle.x86_table.specs.declared.operand.WordOperand.{WordOperand}
+use Rattle.x86_table.specs.declared.operand.WordOperand.TheVariants as word
+use Rattle.x86_table.specs.Spelling.{memory_modrm, word_modrm, word_override}
+use Rattle.x86_table.proofs.Unique.{place_code-lt, memory_unique}
+use Rattle.x86_table.proofs.read.word_operand.Goals as goal
+
+pub returns-in_err-memory-clause-only : goal.returns-in_err-memory-clause-only
+unfolding word_modrm memory_modrm
+returns-in_err-memory-clause-only c =
+    λ o. elim o as (λ k. (field : ℕ) (rest : List ℕ) → field < 8 → word_override k ≡ c.args.segment → c.args.bytes.now ≡ word_modrm field k ++ rest → MatchOption c.from_residual-in_err-memory.result ⊥ (λ x. (x.0 ≡ k) × (x.1 ≡ field) × (x.2.now ≡ rest))) [ word.Reg r ↦ λ field rest hf es e. absurd (grind arith) | word.Mem m ↦ λ field rest hf es e. absurd (c.in_err-memory.ensures.only m field rest hf es e) ]
+
+pub returns-clause-only : goal.returns-clause-only
+unfolding word_modrm memory_modrm
+returns-clause-only c =
+    λ o. elim o as (λ k. (field : ℕ) (rest : List ℕ) → field < 8 → word_override k ≡ c.args.segment → c.args.bytes.now ≡ word_modrm field k ++ rest → (word.Mem c.in_ok-memory.memory ≡ k) × (c.in_ok-memory.field ≡ field) × (c.in_ok-memory.rest.now ≡ rest)) [ word.Reg r ↦ λ field rest hf es e. absurd (grind arith) | word.Mem m ↦ λ field rest hf es e. let h = c.in_ok-memory.ensures.only m field rest hf es e in (ap word.Mem h.0, h.1, h.2) ]

@@ -1,0 +1,15 @@
+//! The instructions of the 8086 subset, and their bytes.
+#![tactic(auto)]
+
+mod body;
+mod decoding;
+mod encoding;
+mod instr;
+mod operand;
+mod read;
+mod row;
+
+pub use decoding::decode;
+pub use encoding::encode;
+pub use instr::{AluOp, Cond, Count, Form, Immediate, Instr, Pair, ShiftOp, ShortOp, Target, UnaryOp, Width};
+pub use operand::{Base, ByteOperand, ByteReg, DataSeg, Memory, Place, IndirectBase, SegReg, WordOperand, WordReg};
