@@ -1,6 +1,7 @@
 -- The names of a program, as lists of bytes.
-use Rattle.std.specs.Prelude.{ℕ, Bool, not, ◌&&◌, ◌||◌, ◌==◌, nat_le, nat_lt, IsTrue, List, length, slice_index, nat_eq}
+use Rattle.std.specs.Prelude.{ℕ, Bool, not, ◌&&◌, ◌||◌, ◌==◌, nat_le, nat_lt, IsTrue, List, length, slice_index, nat_eq, take, map}
 use Rattle.std.specs.List.{list_all}
+use Rattle.std.specs.Char.{to_ascii_uppercase}
 use Rattle.std.specs.Cmp.Lexicographic.{pointwise}
 
 -- A-Z
@@ -26,6 +27,10 @@ is_name bytes = has_name_length bytes && not (is_digit (slice_index bytes 0))
 
 abbrev pub IsName : List ℕ → Type 0
 IsName bytes = IsTrue (is_name bytes)
+
+-- the first 63 bytes of a word, in upper case
+abbrev pub spelled_by : List ℕ → List ℕ
+spelled_by word = map to_ascii_uppercase (take 63 word)
 
 -- how names, file names and bytes are compared; a map's keys are found by it
 abbrev pub same_bytes : List ℕ → List ℕ → Bool

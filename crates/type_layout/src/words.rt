@@ -1,8 +1,9 @@
 //! Names.
 
-ghost use Rattle.std.specs.Prelude.{⊤, ◌≡◌, ◌≤◌, ◌<◌, ◌&&◌, ◌==◌, ◌↔◌, IsTrue, IsSome, IfSome, length, nat_le};
+ghost use Rattle.std.specs.Prelude.{⊤, ◌≡◌, ◌≤◌, ◌<◌, ◌&&◌, ◌==◌, ◌↔◌, IsTrue, IsSome, IfSome, length, take, map};
 ghost use Rattle.std.specs.List.{list_all};
-ghost use Rattle.type_layout.specs.Words.{is_name_byte, has_name_length, is_name, IsName, same_bytes};
+ghost use Rattle.std.specs.Char.{to_ascii_uppercase};
+ghost use Rattle.type_layout.specs.Words.{is_name_byte, has_name_length, is_name, IsName, spelled_by};
 
 use arrayvec::ArrayVec;
 use std::alloc::AllocError;
@@ -64,6 +65,29 @@ fn is_name(text: &[u8]) -> bool
     has_name_length(text) && !text[0].is_ascii_digit() && are_name_bytes(text)
 }
 
+// The bytes of a word that count.
+fn counted(word: &[u8]) -> &[u8]
+    ensures value { result.now ≡ take NAME_LEN word.now }
+    ensures short { length result.now ≤ NAME_LEN }
+{
+    if word.len() <= NAME_LEN {
+        word
+    } else {
+        &word[..NAME_LEN]
+    }
+}
+
+fn upper_case(word: &[u8]) -> ArrayVec<u8, NAME_LEN>
+    requires { length word.now ≤ NAME_LEN }
+    ensures { result.items ≡ map to_ascii_uppercase word.now }
+{
+    let mut bytes = ArrayVec::new();
+    for byte in word {
+        bytes.push(byte.to_ascii_uppercase());
+    }
+    bytes
+}
+
 impl Name {
     /// The name that these bytes are, where they are one in upper case.
     pub fn new(text: &[u8]) -> Option<Name>
@@ -77,6 +101,15 @@ impl Name {
             Ok(bytes) => Some(Name { bytes }),
             Err(_) => None,
         }
+    }
+
+    /// The name that a word spells without regard to case: its first 63 bytes in upper case, where they are a name.
+    pub fn from_word(word: &[u8]) -> Option<Name>
+        ensures variant { IsSome result ↔ IsName (spelled_by word.now) }
+        ensures value { IfSome result (λ name. name ≡ spelled_by word.now) }
+    {
+        let bytes = upper_case(counted(word));
+        Name::new(bytes.as_slice())
     }
 
     /// The bytes of the name.
