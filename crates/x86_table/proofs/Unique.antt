@@ -73,7 +73,6 @@ word_unique (word.Reg r) (word.Mem n) f g x y hf hg es e = grind (arith, place_c
 word_unique (word.Mem m) (word.Reg s) f g x y hf hg es e = grind (arith, place_code-lt m.place)
 word_unique (word.Mem m) (word.Mem n) f g x y hf hg es e = grind (arith, memory_unique)
 
-
 byte_regs : (r s : ByteReg) (f g : ℕ) → f < 8 → g < 8 → 192 + byte_reg_code r + 8 * f ≡ 192 + byte_reg_code s + 8 * g → (r ≡ s) × (f ≡ g)
 byte_regs r s f g hf hg e =
     let a = byte_reg_code_lt r in
@@ -87,8 +86,6 @@ byte_unique (byte.Reg r) (byte.Reg s) f g x y hf hg es e = grind (arith, byte_re
 byte_unique (byte.Reg r) (byte.Mem n) f g x y hf hg es e = grind (arith, place_code-lt n.place)
 byte_unique (byte.Mem m) (byte.Reg s) f g x y hf hg es e = grind (arith, place_code-lt m.place)
 byte_unique (byte.Mem m) (byte.Mem n) f g x y hf hg es e = grind (arith, memory_unique)
-
-
 
 -- where the first byte says a memory operand
 pub no_word : (o : WordOperand) (field first : ℕ) (tail rest : List ℕ) → field < 8 → first < 192 → first ∷ tail ≡ word_modrm field o ++ rest → (m : Memory) × (o ≡ word.Mem m)

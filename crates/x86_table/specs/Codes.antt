@@ -154,4 +154,3 @@ cond_opcode cond.GreaterOrEqual = 0x7d
 cond_opcode cond.LessOrEqual = 0x7e
 cond_opcode cond.Greater = 0x7f
 cond_opcode cond.Always = 0xeb
-

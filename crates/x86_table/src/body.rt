@@ -67,11 +67,7 @@ fn immediate_of(
 }
 
 #[tactic(auto, unfolding(crate::specs::Spelling::target_width, crate::specs::Spelling::target_body, crate::specs::Spelling::target_override))]
-fn target_of(
-    width: Width,
-    segment: Option<SegReg>,
-    bytes: &[u8],
-) -> Option<(Target, u8, &[u8])>
+fn target_of(width: Width, segment: Option<SegReg>, bytes: &[u8]) -> Option<(Target, u8, &[u8])>
     ensures found { IfSome result (λ x. (x.1 < 8) × (target_width x.0 ≡ width) × (target_override x.0 ≡ segment) × (bytes.now ≡ target_body x.1 x.0 ++ x.2.now)) }
     ensures only { (t : Target) (field : ℕ) (rest : List ℕ) → field < 8 → target_width t ≡ width → target_override t ≡ segment → bytes.now ≡ target_body field t ++ rest → MatchOption result ⊥ (λ x. (x.0 ≡ t) × (x.1 ≡ field) × (x.2.now ≡ rest)) }
 {
@@ -184,30 +180,14 @@ fn fixed_body(row: Row, bytes: &[u8]) -> Option<(Instr, &[u8])>
             let (number, rest) = word_of(bytes)?;
             Some((Instr::MovWord(register, number), rest))
         }
-        Row::Push(register) => {
-            Some((Instr::Push(register), bytes))
-        }
-        Row::Pop(register) => {
-            Some((Instr::Pop(register), bytes))
-        }
-        Row::PushSeg(register) => {
-            Some((Instr::PushSeg(register), bytes))
-        }
-        Row::PopSeg(register) => {
-            Some((Instr::PopSeg(register), bytes))
-        }
-        Row::Inc(register) => {
-            Some((Instr::Inc(register), bytes))
-        }
-        Row::Dec(register) => {
-            Some((Instr::Dec(register), bytes))
-        }
-        Row::Cbw => {
-            Some((Instr::Cbw, bytes))
-        }
-        Row::Cwd => {
-            Some((Instr::Cwd, bytes))
-        }
+        Row::Push(register) => { Some((Instr::Push(register), bytes)) }
+        Row::Pop(register) => { Some((Instr::Pop(register), bytes)) }
+        Row::PushSeg(register) => { Some((Instr::PushSeg(register), bytes)) }
+        Row::PopSeg(register) => { Some((Instr::PopSeg(register), bytes)) }
+        Row::Inc(register) => { Some((Instr::Inc(register), bytes)) }
+        Row::Dec(register) => { Some((Instr::Dec(register), bytes)) }
+        Row::Cbw => { Some((Instr::Cbw, bytes)) }
+        Row::Cwd => { Some((Instr::Cwd, bytes)) }
         Row::JumpShort(cond) => {
             let (distance, rest) = byte_of(bytes)?;
             Some((Instr::JumpShort(cond, distance), rest))
@@ -230,16 +210,12 @@ fn fixed_body(row: Row, bytes: &[u8]) -> Option<(Instr, &[u8])>
             let (code, rest) = word_of(rest)?;
             Some((Instr::CallFar(offset, code), rest))
         }
-        Row::Ret => {
-            Some((Instr::Ret, bytes))
-        }
+        Row::Ret => { Some((Instr::Ret, bytes)) }
         Row::RetDrop => {
             let (count, rest) = word_of(bytes)?;
             Some((Instr::RetDrop(count), rest))
         }
-        Row::RetFar => {
-            Some((Instr::RetFar, bytes))
-        }
+        Row::RetFar => { Some((Instr::RetFar, bytes)) }
         Row::RetFarDrop => {
             let (count, rest) = word_of(bytes)?;
             Some((Instr::RetFarDrop(count), rest))
@@ -248,9 +224,7 @@ fn fixed_body(row: Row, bytes: &[u8]) -> Option<(Instr, &[u8])>
             let (number, rest) = byte_of(bytes)?;
             Some((Instr::Int(number), rest))
         }
-        Row::Cld => {
-            Some((Instr::Cld, bytes))
-        }
+        Row::Cld => { Some((Instr::Cld, bytes)) }
         _ => unreachable!(),
     }
 }

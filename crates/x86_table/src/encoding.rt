@@ -6,8 +6,12 @@ ghost use Rattle.x86_table.specs.Codes.{word_reg_code, byte_reg_code, seg_reg_co
 ghost use Rattle.x86_table.specs.Opcode.{opcode};
 ghost use Rattle.x86_table.specs.Spelling.{word_bytes, prefix, place_code, displacement, memory_modrm, byte_modrm, word_modrm, pair_form, pair_body, pair_override, immediate_width, immediate_body, immediate_override, target_width, target_body, target_override, byte_override, word_override, row_of_instr, segment_override, body, spelling};
 
-use crate::instr::{AluOp, Cond, Count, Form, Immediate, Instr, Pair, ShiftOp, ShortOp, Target, UnaryOp, Width};
-use crate::operand::{Base, ByteOperand, ByteReg, DataSeg, Memory, Place, IndirectBase, SegReg, WordOperand, WordReg};
+use crate::instr::{
+    AluOp, Cond, Count, Form, Immediate, Instr, Pair, ShiftOp, ShortOp, Target, UnaryOp, Width,
+};
+use crate::operand::{
+    Base, ByteOperand, ByteReg, DataSeg, IndirectBase, Memory, Place, SegReg, WordOperand, WordReg,
+};
 use crate::row::Row;
 use arrayvec::ArrayVec;
 
@@ -368,7 +372,9 @@ fn segment_override(instr: Instr) -> Option<SegReg>
 {
     match instr {
         Instr::Mov(pair) | Instr::Alu(_, pair) => pair_override(pair),
-        Instr::MovImmediate(immediate) | Instr::AluImmediate(_, immediate) => immediate_override(immediate),
+        Instr::MovImmediate(immediate) | Instr::AluImmediate(_, immediate) => immediate_override(
+            immediate,
+        ),
         Instr::MovFromSeg(operand, _)
         | Instr::MovToSeg(_, operand)
         | Instr::AluShort(_, operand, _)

@@ -8,7 +8,9 @@ ghost use Rattle.x86_table.specs.declared.operand.ByteOperand.{ByteOperand};
 ghost use Rattle.x86_table.specs.Codes.{base_code, indirect_base_code};
 ghost use Rattle.x86_table.specs.Spelling.{word_bytes, place_code, displacement, memory_modrm, byte_modrm, word_modrm, byte_override, word_override};
 
-use crate::operand::{Base, ByteOperand, Memory, Place, IndirectBase, SegReg, WordOperand, byte_reg, word_reg};
+use crate::operand::{
+    Base, ByteOperand, IndirectBase, Memory, Place, SegReg, WordOperand, byte_reg, word_reg,
+};
 
 pub fn byte_of(bytes: &[u8]) -> Option<(u8, &[u8])>
     ensures found { IfSome result (λ x. bytes.now ≡ x.0 ∷ x.1.now) }
