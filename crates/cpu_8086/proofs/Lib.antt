@@ -1,0 +1,4 @@
+pub mod MemoryLaws
+pub mod FetchLaws
+pub mod StepLaws
+pub mod RunLaws

@@ -1,0 +1,10 @@
+pub mod State
+pub mod Accessors
+pub mod Memory
+pub mod Arithmetic
+pub mod Operand
+pub mod Access
+pub mod Effect
+pub mod Step
+pub mod Process
+pub mod Run

@@ -1,0 +1,11 @@
+//! The 8086 as a machine that executes one instruction at a time, and what a process under DOS does with it.
+#![tactic(auto)]
+
+mod arithmetic;
+mod machine;
+mod process;
+mod registers;
+
+pub use machine::{Event, Machine};
+pub use process::Why;
+pub use registers::{Far, Flag, Reg, Registers};
