@@ -1,0 +1,6 @@
+pub mod Statement
+pub mod Act
+pub mod LiteralProgram
+pub mod Lexeme
+pub mod Grammar
+pub mod Source
