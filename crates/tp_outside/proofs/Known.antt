@@ -1,7 +1,7 @@
 -- Bytes that are told, as calls add to them or take from them.
-use Rattle.std.proofs.Common.{◌≡◌, List, ◌++◌, ℕ, ◌+◌, ◌-◌, refl, ap, sym, ◌∙◌, append_assoc, append-nil, [], Option, Some, None, take, drop, length, length-drop, arith}
-use Rattle.std.proofs.Math.Seq.{take-add}
-use Rattle.std.proofs.lemmas.List.{take_all}
+use Rattle.std.proofs.Common.{◌≡◌, List, ◌++◌, ℕ, ◌+◌, ◌-◌, ◌≤◌, refl, ap, sym, ◌∙◌, append_assoc, append-nil, [], Option, Some, None, take, drop, length, length-drop, length-take, subst, arith}
+use Rattle.std.proofs.Math.Seq.{take-add, take-append_seam}
+use Rattle.std.proofs.lemmas.List.{take_all, drop-drop, take-append-drop}
 use Rattle.std.specs.Io.KnownBytes.{append_known, prepend_known}
 
 -- bytes taken in two calls are those of both
@@ -28,3 +28,13 @@ pub append_known-take : (old now new : Option (List ℕ)) (xs : List ℕ) (i n :
 append_known-take old now new xs i n before step =
     step ∙ ap (λ ys. append_known now (take n ys)) (rest_from xs i) ∙ ap (λ k. append_known k (take n (drop i xs))) before
     ∙ append_known-append_known old (take i xs) (take n (drop i xs)) ∙ ap (append_known old) (sym (take-add i n xs))
+
+-- the first `count` bytes of what a source has left, copied to the front of a buffer
+pub copied_then_rest : (bytes into part : List ℕ) (place count : ℕ) → part ≡ take count (take (length bytes - place) (drop place bytes)) → count ≤ length (take (length bytes - place) (drop place bytes)) → drop place bytes ≡ take count (part ++ drop count into) ++ drop (place + count) bytes
+copied_then_rest bytes into part place count is_part fits =
+    let is_front : part ≡ take count (drop place bytes) = is_part ∙ ap (take count) (rest_from bytes place) in
+    let long : length part ≡ count = omega (arith, ap length is_part, length-take {A = ℕ}) in
+    let front : take count (part ++ drop count into) ≡ part = subst (λ (n : ℕ). take n (part ++ drop count into) ≡ part) long (take-append_seam part (drop count into)) in
+    sym (ap (λ xs. xs ++ drop (place + count) bytes) (front ∙ is_front)
+    ∙ ap (λ xs. take count (drop place bytes) ++ xs) (sym (drop-drop count place bytes))
+    ∙ take-append-drop count (drop place bytes))

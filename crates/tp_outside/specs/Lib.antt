@@ -1,3 +1,6 @@
+pub mod Calls
 pub mod Faults
 pub mod Folder
+pub mod Memory
+pub mod MemoryFolder
 pub mod Streams

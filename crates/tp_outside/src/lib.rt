@@ -1,12 +1,19 @@
 //! What a program asks of the outside: a source of bytes, sinks for bytes, and a folder of files.
 #![tactic(auto)]
 
+mod calls;
 mod faults;
 mod folders;
+mod memory_files;
+mod memory_sink;
+mod memory_source;
 mod sinks;
 mod sources;
 
 pub use faults::{Failed, WriteError};
 pub use folders::Files;
+pub use memory_files::MemoryFiles;
+pub use memory_sink::MemorySink;
+pub use memory_source::MemorySource;
 pub use sinks::{Sink, write_all};
 pub use sources::Source;
