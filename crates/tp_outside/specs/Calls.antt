@@ -1,5 +1,5 @@
 -- The calls of an object in memory.
-use Rattle.std.specs.Prelude.{ℕ, ◌+◌, ◌-◌, ◌^◌, min, List, Bool, nat_eq}
+use Rattle.std.specs.Prelude.{ℕ, ◌+◌, ◌-◌, ◌^◌, min, List, Bool, nat_eq, if◌then◌else◌}
 use Rattle.std.specs.List.{list_any}
 
 -- Which calls fail, by their numbers from 1 on, how many calls there were, and how many faults.
@@ -23,3 +23,7 @@ called calls = record calls { made = one_more calls.made }
 -- After a fault more.
 abbrev pub faulted : Calls → Calls
 faulted calls = record calls { faults = one_more calls.faults }
+
+-- After a call that fails exactly where it is one of those that fail.
+abbrev pub after_call : Calls → Calls
+after_call calls = if is_next_failing calls then faulted (called calls) else called calls

@@ -1,6 +1,6 @@
 ghost use Rattle.std.specs.Prelude.{◌≡◌, ◌<◌, ◌≤◌, ◌↔◌, length, take, None, Some, Err, IfOk, OnOk, OnErr, IfSome, IsErr, IsTrue};
 ghost use Rattle.std.specs.Option.{option_map};
-ghost use Rattle.tp_outside.specs.Calls.{is_next_failing};
+ghost use Rattle.tp_outside.specs.Calls.{is_next_failing, after_call};
 ghost use Rattle.tp_outside.specs.Faults.{HasRisen};
 ghost use Rattle.tp_outside.specs.Folder.{with_known_file, with_file, bytes_of, IsPartAt};
 ghost use Rattle.tp_outside.specs.MemoryFolder.{folder_of, calls_of};
@@ -57,14 +57,35 @@ impl Files for MemoryFiles {
 
     ghost folder = { λ held. Some (folder_of held) };
 
-    fn size(&mut self, name: &str) -> Result<Option<u64>, Failed> {
+    fn size(&mut self, name: &str) -> Result<Option<u64>, Failed>
+        ensures fails { IsErr result ↔ IsTrue (is_next_failing (calls_of self.old)) }
+        ensures calls { calls_of self.new ≡ after_call (calls_of self.old) }
+
+        // As of any files.
+        ensures told { IfSome (Some (folder_of self.old)) (λ held.
+            IfOk result (λ size. size ≡ option_map length (held name.now))) }
+        ensures unchanged { Some (folder_of self.new) ≡ Some (folder_of self.old) }
+        ensures counted { (calls_of self.old).faults ≤ (calls_of self.new).faults }
+        ensures failed { OnErr result (HasRisen (calls_of self.old).faults (calls_of self.new).faults) }
+    {
         if self.calls.begin() {
             return Err(self.calls.fail());
         }
         Ok(self.files.get(name).map(|bytes| bytes.len() as u64))
     }
 
-    fn read_at(&mut self, name: &str, start: u64, into: &mut [u8]) -> Result<usize, Failed> {
+    fn read_at(&mut self, name: &str, start: u64, into: &mut [u8]) -> Result<usize, Failed>
+        ensures fails { IsErr result ↔ IsTrue (is_next_failing (calls_of self.old)) }
+        ensures calls { calls_of self.new ≡ after_call (calls_of self.old) }
+
+        // As of any files.
+        ensures bound { IfOk result (λ count. count ≤ length into.new) }
+        ensures told { IfSome (Some (folder_of self.old)) (λ held.
+            IfOk result (λ count. IsPartAt (bytes_of held name.now) start count into.new)) }
+        ensures unchanged { Some (folder_of self.new) ≡ Some (folder_of self.old) }
+        ensures counted { (calls_of self.old).faults ≤ (calls_of self.new).faults }
+        ensures failed { OnErr result (HasRisen (calls_of self.old).faults (calls_of self.new).faults) }
+    {
         if self.calls.begin() {
             return Err(self.calls.fail());
         }
@@ -78,7 +99,18 @@ impl Files for MemoryFiles {
         Ok(count)
     }
 
-    fn write(&mut self, name: &str, bytes: &[u8]) -> Result<(), WriteError> {
+    fn write(&mut self, name: &str, bytes: &[u8]) -> Result<(), WriteError>
+        ensures fails { (result ≡ Err WriteError.Failed) ↔ IsTrue (is_next_failing (calls_of self.old)) }
+        ensures calls { calls_of self.new ≡ after_call (calls_of self.old) }
+
+        // As of any files.
+        ensures held { OnOk result
+            (Some (folder_of self.new) ≡ with_known_file (Some (folder_of self.old)) name.now bytes.now) }
+        ensures unchanged { OnErr result (Some (folder_of self.new) ≡ Some (folder_of self.old)) }
+        ensures counted { (calls_of self.old).faults ≤ (calls_of self.new).faults }
+        ensures failed { result ≡ Err WriteError.Failed
+            → HasRisen (calls_of self.old).faults (calls_of self.new).faults }
+    {
         if self.calls.begin() {
             let Failed = self.calls.fail();
             return Err(WriteError::Failed);

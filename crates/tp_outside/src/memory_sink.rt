@@ -1,6 +1,6 @@
-ghost use Rattle.std.specs.Prelude.{◌≡◌, ◌<◌, ◌≤◌, ◌↔◌, ◌⊎◌, ◌-◌, [], min, length, take, Some, IfOk, OnErr, IsErr, IsTrue};
+ghost use Rattle.std.specs.Prelude.{◌≡◌, ◌<◌, ◌≤◌, ◌↔◌, ◌⊎◌, ◌-◌, [], min, length, take, Some, IfOk, OnOk, OnErr, IsErr, IsTrue};
 ghost use Rattle.std.specs.Io.KnownBytes.{append_known};
-ghost use Rattle.tp_outside.specs.Calls.{is_next_failing};
+ghost use Rattle.tp_outside.specs.Calls.{is_next_failing, called, faulted};
 ghost use Rattle.tp_outside.specs.Faults.{HasRisen};
 
 use crate::calls::CallCount;
@@ -60,6 +60,8 @@ impl Sink for MemorySink {
     fn write(&mut self, from: &[u8]) -> Result<usize, Failed>
         ensures fails { IsErr result ↔ (IsTrue (is_next_failing self.old.calls)
             ⊎ ((self.old.room ≤ length self.old.contents) × (0 < length from.now))) }
+        ensures calls { OnOk result (self.new.calls ≡ called self.old.calls) }
+        ensures faults { OnErr result (self.new.calls ≡ faulted (called self.old.calls)) }
 
         // As of any sink.
         ensures bound { IfOk result (λ count. count ≤ length from.now) }

@@ -1,6 +1,6 @@
 ghost use Rattle.std.specs.Prelude.{◌≡◌, ◌<◌, ◌≤◌, ◌↔◌, length, take, drop, Some, IfOk, OnErr, IsErr, IsTrue};
 ghost use Rattle.std.specs.Io.KnownBytes.{prepend_known, IsAtEnd};
-ghost use Rattle.tp_outside.specs.Calls.{is_next_failing};
+ghost use Rattle.tp_outside.specs.Calls.{is_next_failing, after_call};
 ghost use Rattle.tp_outside.specs.Faults.{HasRisen};
 
 use crate::calls::CallCount;
@@ -52,6 +52,7 @@ impl Source for MemorySource {
 
     fn read(&mut self, into: &mut [u8]) -> Result<usize, Failed>
         ensures fails { IsErr result ↔ IsTrue (is_next_failing self.old.calls) }
+        ensures calls { self.new.calls ≡ after_call self.old.calls }
 
         // As of any source.
         ensures bound { IfOk result (λ count. count ≤ length into.new) }
