@@ -3,6 +3,7 @@
 
 mod arithmetic;
 mod machine;
+mod memory;
 mod process;
 mod registers;
 

@@ -1,0 +1,2 @@
+pub mod BytesAt
+pub mod WithBytes

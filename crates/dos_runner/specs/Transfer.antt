@@ -1,0 +1,15 @@
+-- What a call that reads bytes into memory did.
+use Rattle.std.specs.Prelude.{◌≡◌, ℕ, ◌≤◌, ◌<◌, List, length, Option}
+use Rattle.std.specs.Io.KnownBytes.{prepend_known, IsAtEnd}
+use Rattle.cpu_8086.specs.State.{State}
+use Rattle.cpu_8086.specs.Process.{with_bytes}
+
+-- The source gave these bytes, and they stand in memory from an offset on. None come only at the source's end, or
+-- where none were asked for.
+pub record ReadPart (segment offset size : ℕ) (old new : State) (before after : Option (List ℕ)) (count : ℕ) : Type 0 where
+  pub given : List ℕ
+  pub counts : length given ≡ count
+  pub within : count ≤ size
+  pub stand : new ≡ record old { memory = with_bytes old.memory segment offset given }
+  pub taken : before ≡ prepend_known given after
+  pub ended : count ≡ 0 → 0 < size → IsAtEnd after
