@@ -1,6 +1,5 @@
 -- The grammar of programs of literals: what is written, as tokens, and what it says.
 use Rattle.std.specs.Prelude.{ℕ, List, [], ◌∷◌, ◌++◌, map, Option, Some, None}
-use Rattle.std.specs.List.{flat_map}
 use Rattle.literal_form.specs.declared.token.Word.{Word}
 use Rattle.literal_form.specs.declared.token.Word.TheVariants as words
 use Rattle.literal_form.specs.declared.token.Symbol.TheVariants as symbols
@@ -76,5 +75,9 @@ phrase_statements (write_line c cs) = map write (c ∷ cs) ++ line_end ∷ []
 phrase_statements stop = halt 0 ∷ []
 phrase_statements (stop_with n) = halt n ∷ []
 
+abbrev pub all_statements : List Phrase → List Statement
+all_statements [] = []
+all_statements (p ∷ ps) = phrase_statements p ++ all_statements ps
+
 abbrev pub source_statements : Source → List Statement
-source_statements s = flat_map phrase_statements (s.first ∷ s.others)
+source_statements s = all_statements (s.first ∷ s.others)

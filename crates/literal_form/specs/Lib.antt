@@ -4,3 +4,4 @@ pub mod LiteralProgram
 pub mod Lexeme
 pub mod Grammar
 pub mod Source
+pub mod Reading

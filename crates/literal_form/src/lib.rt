@@ -2,11 +2,17 @@
 #![tactic(auto)]
 
 mod act;
+mod bytes;
 mod error;
+mod law;
+mod lexer;
 mod program;
+mod reading;
 mod state;
 mod token;
 
 pub use act::Act;
 pub use error::ReadError;
+pub use law::one_meaning;
 pub use program::LiteralProgram;
+pub use reading::{LONGEST_SOURCE, read_program};

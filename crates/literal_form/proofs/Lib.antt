@@ -1,0 +1,10 @@
+pub mod Decimal
+pub mod Content
+pub mod Classes
+pub mod Quotes
+pub mod Runs
+pub mod Lexing
+pub mod Sentences
+pub mod Sizes
+pub mod Run
+pub mod Pool
