@@ -1,5 +1,6 @@
 -- Arithmetic on bytes and words, and the carry and overflow that it leaves.
 use Rattle.std.specs.Prelude.{ℕ, ◌+◌, ◌-◌, ◌*◌, ◌/◌, ◌%◌, ◌^◌, Bool, true, false, not, zero, suc, ◌==◌, ◌&&◌, nat_lt, nat_le, if◌then◌else◌, bit_and, bit_or, bit_xor, ℤ, pos, ◌+ℤ◌, ◌-ℤ◌, neg_ℤ, int_lt}
+use Rattle.std.specs.Int
 use Rattle.std.specs.Int.{cast_signed, cast_unsigned, int_shr, w8, w16, w32}
 use Rattle.x86_table.specs.declared.instr.Width.{Width}
 use Rattle.x86_table.specs.declared.instr.Width.TheVariants as width
@@ -70,9 +71,12 @@ alu_of op.Xor w x y c = bitwise (bit_xor x y)
 alu_of op.Cmp w x y c = difference_of w x y false
 
 -- a signed number as a value of twice the width
+abbrev pub double : Width → Int.Width
+double width.Byte = w16
+double width.Word = w32
+
 abbrev pub twice_as_wide : Width → ℤ → ℕ
-twice_as_wide width.Byte z = cast_unsigned w16 z
-twice_as_wide width.Word z = cast_unsigned w32 z
+twice_as_wide w z = cast_unsigned (double w) z
 
 -- the bytes 80h to FFh as words are FF80h to FFFFh
 abbrev pub sign_extend : ℕ → ℕ

@@ -5,6 +5,7 @@ pub mod Arithmetic
 pub mod Operand
 pub mod Access
 pub mod Effect
+pub mod Direct
 pub mod Step
 pub mod Process
 pub mod Run

@@ -1,8 +1,9 @@
 -- Bytes that are told, as calls add to them or take from them.
-use Rattle.std.proofs.Common.{◌≡◌, List, ◌++◌, ℕ, ◌+◌, ◌-◌, ◌≤◌, refl, ap, sym, ◌∙◌, append_assoc, append-nil, [], Option, Some, None, take, drop, length, length-drop, length-take, subst, arith}
+use Rattle.std.proofs.Common.{◌≡◌, List, ◌++◌, ℕ, ◌+◌, ◌-◌, ◌≤◌, refl, ap, sym, ◌∙◌, append_assoc, append-nil, [], Option, Some, None, Result, Ok, Err, OnErr, take, drop, length, length-drop, length-take, subst, arith}
 use Rattle.std.proofs.Math.Seq.{take-add, take-append_seam}
 use Rattle.std.proofs.lemmas.List.{take_all, drop-drop, take-append-drop}
 use Rattle.std.specs.Io.KnownBytes.{append_known, prepend_known}
+use Rattle.tp_outside.specs.Streams.{GaveSome}
 
 -- bytes taken in two calls are those of both
 pub append_known-append_known : (known : Option (List ℕ)) (xs ys : List ℕ) → append_known (append_known known xs) ys ≡ append_known known (xs ++ ys)
@@ -38,3 +39,13 @@ copied_then_rest bytes into part place count is_part fits =
     sym (ap (λ xs. xs ++ drop (place + count) bytes) (front ∙ is_front)
     ∙ ap (λ xs. take count (drop place bytes) ++ xs) (sym (drop-drop count place bytes))
     ∙ take-append-drop count (drop place bytes))
+
+-- what a source gave in two calls
+pub gave_both : (old now new : Option (List ℕ)) (xs ys : List ℕ) → old ≡ prepend_known xs now → now ≡ prepend_known ys new → GaveSome old new
+gave_both old now new xs ys first second =
+    record { bytes = xs ++ ys; given = first ∙ ap (prepend_known xs) second ∙ prepend_known-prepend_known new xs ys }
+
+-- a fact that holds anyway holds after an error
+pub on_err : {T E P : Type 0} (r : Result T E) → P → OnErr r P
+on_err (Ok x) holds = tt
+on_err (Err e) holds = holds

@@ -1,10 +1,13 @@
-ghost use Rattle.std.specs.Prelude.{◌≡◌, ◌≤◌, take, Err, IfOk, IfSome, OnErr};
+ghost use Rattle.std.specs.Prelude.{◌≡◌, ◌<◌, ◌≤◌, take, Err, IfOk, IfSome, OnErr, vec_len};
 ghost use Rattle.std.specs.Option.{option_map};
 ghost use Rattle.tp_outside.specs.Faults.{HasRisen};
+ghost use Rattle.std.specs.Io.KnownBytes.{prepend_known, IsAtEnd};
 ghost use Rattle.tp_outside.specs.Folder.{bytes_of};
+ghost use Rattle.tp_outside.specs.Streams.{GaveSome};
 
 use crate::faults::ReadError;
 use crate::folders::Files;
+use crate::sources::Source;
 use std::alloc::Global;
 
 /// How many bytes are asked for at a time.
@@ -54,6 +57,34 @@ pub fn read_front<F: Files>(
         }
         bytes.extend_from_slice(&chunk[..count])?;
         at += count as u64;
+    }
+    Ok(bytes)
+}
+
+/// The next bytes of a source: `limit` of them, or fewer where it ends before. After an error some bytes may
+/// have been given and are lost.
+pub fn read_source<S: Source>(
+    alloc: Global,
+    source: &mut S,
+    limit: usize,
+) -> Result<Vec<u8>, ReadError>
+    ensures given { IfOk result (λ bytes.
+        S.remaining source.old ≡ prepend_known bytes.items (S.remaining source.new)) }
+    ensures bound { IfOk result (λ bytes. vec_len bytes ≤ limit) }
+    ensures ended { IfOk result (λ bytes. vec_len bytes < limit → IsAtEnd (S.remaining source.new)) }
+    ensures lost { OnErr result (GaveSome (S.remaining source.old) (S.remaining source.new)) }
+    ensures counted { S.faults source.old ≤ S.faults source.new }
+    ensures failed { result ≡ Err ReadError.Failed → HasRisen (S.faults source.old) (S.faults source.new) }
+{
+    let mut bytes = Vec::new(alloc);
+    let mut chunk = [0; CHUNK];
+    while bytes.len() < limit {
+        let room = (limit - bytes.len()).min(CHUNK);
+        let count = source.read(&mut chunk[..room])?;
+        if count == 0 {
+            return Ok(bytes);
+        }
+        bytes.extend_from_slice(&chunk[..count])?;
     }
     Ok(bytes)
 }

@@ -1,0 +1,4 @@
+pub mod Words
+pub mod Format
+pub mod Spelling
+pub mod Load

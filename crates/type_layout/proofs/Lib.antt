@@ -1,0 +1,4 @@
+pub mod Given
+pub mod WellFormed
+pub mod Local
+pub mod Measured
