@@ -4,10 +4,7 @@
 mod arithmetic;
 mod machine;
 mod memory;
-<<<<<<< HEAD
-=======
 mod operand;
->>>>>>> cb23ad6198d54450e5609350a18c864d9653a8fd
 mod process;
 mod registers;
 

@@ -21,21 +21,21 @@ fn next_offset(offset: u16) -> u16
 
 impl Machine {
     #[tactic(auto, unfolding(crate::specs::Memory::load_byte))]
-    pub(crate) fn load_byte(&self, segment: u16, offset: u16) -> u8
+    pub fn load_byte(&self, segment: u16, offset: u16) -> u8
         ensures { result ≡ load_byte self.now.memory segment offset }
     {
         self.byte(address(segment, offset))
     }
 
     #[tactic(auto, unfolding(crate::specs::Memory::store_byte))]
-    pub(crate) fn store_byte(&mut self, segment: u16, offset: u16, value: u8)
+    pub fn store_byte(&mut self, segment: u16, offset: u16, value: u8)
         ensures { self.new ≡ record self.old { memory = store_byte self.old.memory segment offset value } }
     {
         self.set_byte(address(segment, offset), value);
     }
 
     #[tactic(auto, unfolding(crate::specs::Memory::load_word))]
-    pub(crate) fn load_word(&self, segment: u16, offset: u16) -> u16
+    pub fn load_word(&self, segment: u16, offset: u16) -> u16
         ensures { result ≡ load_word self.now.memory segment offset }
     {
         let low = self.load_byte(segment, offset);
@@ -44,7 +44,7 @@ impl Machine {
     }
 
     #[tactic(auto, unfolding(crate::specs::Memory::store_word))]
-    pub(crate) fn store_word(&mut self, segment: u16, offset: u16, value: u16)
+    pub fn store_word(&mut self, segment: u16, offset: u16, value: u16)
         ensures { self.new ≡ record self.old { memory = store_word self.old.memory segment offset value } }
     {
         self.store_byte(segment, offset, (value % 256) as u8);
