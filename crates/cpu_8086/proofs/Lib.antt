@@ -4,3 +4,4 @@ pub mod StepLaws
 pub mod RunLaws
 pub mod DirectLaws
 pub mod SignedLaws
+pub mod ShiftLaws

@@ -1,6 +1,6 @@
 -- The effect of an instruction without a tree: on the state itself, as the code computes it. That it is what the
 -- tree does over memory is a law (`direct_law`).
-use Rattle.std.specs.Prelude.{ℕ, zero, suc, nat_le, Option, Some, None, ◌+◌, ◌-◌, ◌*◌, ◌/◌, ◌%◌, ◌==◌, Bool, true, false, not, if◌then◌else◌}
+use Rattle.std.specs.Prelude.{ℕ, zero, suc, nat_le, Option, Some, None, ◌+◌, ◌-◌, ◌/◌, ◌%◌, ◌==◌, false, if◌then◌else◌}
 use Rattle.x86_table.specs.declared.operand.WordReg.{WordReg}
 use Rattle.x86_table.specs.declared.operand.DataSeg.{DataSeg}
 use Rattle.x86_table.specs.declared.operand.SegReg.{SegReg}
@@ -23,18 +23,15 @@ use Rattle.x86_table.specs.declared.instr.AluOp.TheVariants as op
 use Rattle.x86_table.specs.declared.instr.UnaryOp.{UnaryOp}
 use Rattle.x86_table.specs.declared.instr.UnaryOp.TheVariants as unary
 use Rattle.x86_table.specs.declared.instr.ShiftOp.{ShiftOp}
-use Rattle.x86_table.specs.declared.instr.ShiftOp.TheVariants as shift
-use Rattle.x86_table.specs.declared.instr.Cond.{Cond}
 use Rattle.x86_table.specs.declared.instr.Instr.{Instr}
 use Rattle.x86_table.specs.declared.instr.Instr.TheVariants as instr
 use Rattle.cpu_8086.specs.declared.machine.Event.{Event}
 use Rattle.cpu_8086.specs.declared.machine.Event.TheVariants.{Ran, Service, Divide, Unknown}
-use Rattle.cpu_8086.specs.declared.arithmetic.Outcome.{Outcome}
 use Rattle.cpu_8086.specs.declared.arithmetic.Shifted.{Shifted}
 use Rattle.cpu_8086.specs.declared.registers.Registers.{Registers}
 use Rattle.cpu_8086.specs.State.{State}
 use Rattle.cpu_8086.specs.Memory.{load_byte, store_byte, load_word, store_word}
-use Rattle.cpu_8086.specs.Arithmetic.{size, half, top, bit, sum_of, difference_of, alu_of, sign_extend, rotated_left, rotated_right, times}
+use Rattle.cpu_8086.specs.Arithmetic.{size, top, sum_of, difference_of, alu_of, sign_extend, shift_of}
 use Rattle.cpu_8086.specs.Operand.{word_reg, with_word_reg, byte_reg, with_byte_reg, with_data_seg, offset_of, usual_segment}
 use Rattle.cpu_8086.specs.Access.{raised, lowered, at_offset, far_called, far_returned}
 use Rattle.cpu_8086.specs.Effect.{with_flags, alu_op, counted, width_of, dividend, with_halves, multiplied, multiplied_signed, count_of, with_shift_flags, jump_by, jump_if, indices_after}
@@ -169,23 +166,13 @@ unary_on s unary.Mul t v = ran (with_registers s (multiplied s.registers (width_
 unary_on s unary.Imul t v = ran (with_registers s (multiplied_signed s.registers (width_of t) v))
 unary_on s unary.Div t v = divided_by s (width_of t) v
 
--- ## Shifts, place by place
-
-abbrev pub turn : ShiftOp → Width → Shifted → Shifted
-turn shift.Rcl w s = rotated_left w s
-turn shift.Rcr w s = rotated_right w s
-turn shift.Shl w s = record { value = (2 * s.value) % size w; carry = top w s.value }
-turn shift.Shr w s = record { value = s.value / 2; carry = s.value % 2 == 1 }
-turn shift.Sar w s = record { value = s.value / 2 + half w * bit (top w s.value); carry = s.value % 2 == 1 }
-
-unfoldable pub turns : ShiftOp → Width → ℕ → Bool → ℕ → Shifted
-turns p w v c n = times n (turn p w) (record { value = v; carry = c })
+-- ## Shifts
 
 unfoldable pub shifted_to : State → ShiftOp → ℕ → Target → ℕ → Shifted → State
 shifted_to s p n t v out = with_target (with_registers s (with_shift_flags s.registers p (width_of t) n v out)) t out.value
 
 unfoldable pub shifted_by : State → ShiftOp → ℕ → Target → State
-shifted_by s p n t = if n == 0 then s else (let v = target_value s t in shifted_to s p n t v (turns p (width_of t) v s.registers.carry n))
+shifted_by s p n t = if n == 0 then s else (let v = target_value s t in shifted_to s p n t v (shift_of p (width_of t) v s.registers.carry n))
 
 -- ## Calls and returns
 
@@ -205,9 +192,9 @@ returned_far s n = far_returned s.registers s.memory n
 
 unfoldable pub moved_byte : ℕ → State → State
 moved_byte segment s = record s {
-    registers = indices_after s.registers;
-    memory = store_byte s.memory s.registers.es s.registers.di (load_byte s.memory segment s.registers.si);
-  }
+  registers = indices_after s.registers;
+  memory = store_byte s.memory s.registers.es s.registers.di (load_byte s.memory segment s.registers.si);
+}
 
 abbrev pub moved_bytes : ℕ → ℕ → State → State
 moved_bytes segment zero s = s

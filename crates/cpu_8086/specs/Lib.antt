@@ -6,6 +6,7 @@ pub mod Operand
 pub mod Access
 pub mod Effect
 pub mod Direct
+pub mod Places
 pub mod Step
 pub mod Process
 pub mod Run

@@ -2,8 +2,8 @@
 
 ghost use Rattle.std.specs.Prelude.{◌≡◌, ◌*◌, ◌<◌, ◌+ℤ◌, ◌-ℤ◌, ◌*ℤ◌, ◌≤ℤ◌, ◌<ℤ◌, pos, neg_ℤ, not};
 ghost use Rattle.std.specs.Int.RustNames.{FitsSigned};
-ghost use Rattle.cpu_8086.specs.Arithmetic.{size, half, bit, top, signed, fits, double, sum_of, difference_of, bitwise, alu_of, twice_as_wide, sign_extend, shift_overflow};
-ghost use Rattle.cpu_8086.specs.Direct.{turn, turns};
+ghost use Rattle.cpu_8086.specs.Arithmetic.{size, half, bit, top, signed, fits, double, sum_of, difference_of, bitwise, alu_of, twice_as_wide, sign_extend, shift_of, shift_overflow};
+ghost use Rattle.cpu_8086.specs.Places.{turn, turns};
 
 use x86_table::{AluOp, ShiftOp, Width};
 
@@ -77,7 +77,10 @@ fn sum_overflows(width: Width, x: u16, y: u16, carry: bool) -> bool
     requires y { y < size width }
     ensures { result ≡ not (fits width (signed width x +ℤ signed width y +ℤ pos (bit carry))) }
 {
-    !fits(width, signed(width, x) + signed(width, y) + i32::from(carry))
+    !fits(
+        width,
+        signed(width, x) + signed(width, y) + i32::from(carry),
+    )
 }
 
 /// The same for the difference of two signed numbers less a borrow.
@@ -86,7 +89,10 @@ fn difference_overflows(width: Width, x: u16, y: u16, borrow: bool) -> bool
     requires y { y < size width }
     ensures { result ≡ not (fits width (signed width x -ℤ signed width y -ℤ pos (bit borrow))) }
 {
-    !fits(width, signed(width, x) - signed(width, y) - i32::from(borrow))
+    !fits(
+        width,
+        signed(width, x) - signed(width, y) - i32::from(borrow),
+    )
 }
 
 /// The sum of two numbers and a carry.
@@ -230,20 +236,28 @@ fn turn(op: ShiftOp, width: Width, before: Shifted) -> Shifted
 }
 
 /// So many places.
-#[tactic(auto, unfolding(crate::specs::Direct::turns))]
-pub fn turns(op: ShiftOp, width: Width, value: u16, carry: bool, count: u8) -> Shifted
+#[tactic(auto, unfolding(crate::specs::Places::turns))]
+fn turns(op: ShiftOp, width: Width, value: u16, carry: bool, count: u8) -> Shifted
     requires { value < size width }
     ensures value { result ≡ turns op width value carry count }
     ensures fits { result.value < size width }
 {
-    let mut shifted = Shifted {
-        value,
-        carry,
-    };
+    let mut shifted = Shifted { value, carry };
     for _place in 0..count {
         shifted = turn(op, width, shifted);
     }
     shifted
+}
+
+/// A shift by so many places, with the carry that was there.
+#[tactic(auto, using(crate::proofs::ShiftLaws::turns_shift))]
+pub fn shift(op: ShiftOp, width: Width, value: u16, carry: bool, count: u8) -> Shifted
+    requires width { value < size width }
+    requires some { 0 < count }
+    ensures value { result ≡ shift_of op width value carry count }
+    ensures fits { result.value < size width }
+{
+    turns(op, width, value, carry, count)
 }
 
 /// The overflow that a shift by one place leaves.

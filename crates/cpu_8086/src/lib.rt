@@ -2,11 +2,15 @@
 #![tactic(auto)]
 
 mod arithmetic;
+mod compute;
+mod execute;
 mod machine;
 mod memory;
 mod operand;
 mod process;
 mod registers;
+mod step;
+mod transfer;
 
 pub use machine::{Event, Machine};
 pub use process::Why;

@@ -213,7 +213,10 @@ impl Machine {
         match operand {
             ByteOperand::Reg(register) => self.registers.byte_reg(register),
             ByteOperand::Mem(memory) => {
-                self.load_byte(self.segment_of(memory), self.registers.offset_of(memory.place))
+                self.load_byte(
+                    self.segment_of(memory),
+                    self.registers.offset_of(memory.place),
+                )
             }
         }
     }
@@ -225,7 +228,10 @@ impl Machine {
         match operand {
             WordOperand::Reg(register) => self.registers.word_reg(register),
             WordOperand::Mem(memory) => {
-                self.load_word(self.segment_of(memory), self.registers.offset_of(memory.place))
+                self.load_word(
+                    self.segment_of(memory),
+                    self.registers.offset_of(memory.place),
+                )
             }
         }
     }

@@ -1,4 +1,4 @@
-use Rattle.std.proofs.Common.{sym, subst, ℤ, ◌*ℤ◌}
+use Rattle.std.proofs.Common.{sym, subst, ℤ}
 use Rattle.std.specs.Int.RustNames.{FitsSigned}
 use Rattle.cpu_8086.specs.Arithmetic.{double}
 use Rattle.cpu_8086.proofs.SignedLaws.{product_fits, product_round}
