@@ -1,28 +1,51 @@
--- What a call that runs a process did.
-use Rattle.std.specs.Prelude.{◌≡◌, ℕ, ◌≤◌, Bool, true, List, [], ◌++◌, length, take, Option}
-use Rattle.std.specs.Io.KnownBytes.{append_known, prepend_known, IsAtEnd}
-use Rattle.tp_outside.specs.Streams.{TakesPrefix}
+-- Parts of a run: what they do to a process.
+use Rattle.std.specs.Prelude.{◌≡◌, ℕ, zero, ◌+◌, Bool, true, List, [], ◌++◌, length, drop}
 use Rattle.cpu_8086.specs.State.{State}
-use Rattle.cpu_8086.specs.Process.{Process, Status, Running, Ended, Stopped}
-use Rattle.cpu_8086.specs.Run.{Runs}
-use Rattle.dos_runner.specs.declared.run.RunEnd.{RunEnd}
-use Rattle.dos_runner.specs.declared.run.RunEnd.TheVariants as run_end
+use Rattle.cpu_8086.specs.Process.{Process, Status, Running, serviced}
+use Rattle.cpu_8086.specs.Run.{Goes, Runs}
+
+-- The process that runs on this machine, after it took and wrote so much.
+abbrev pub running : State → List ℕ → ℕ → List ℕ → List ℕ → Process
+running machine input taken out err = record { machine = machine; input = input; taken = taken; out = out; err = err; status = Running }
 
 -- The process that begins with this machine and this input.
 abbrev pub process_of : State → List ℕ → Process
-process_of machine input = record { machine = machine; input = input; taken = 0; out = []; err = []; status = Running }
+process_of machine input = running machine input 0 [] []
 
 -- The input begins with the bytes that a source gave, and has no more where the source said that it ended.
-pub record IsInput (given : List ℕ) (exhausted : Bool) (input : List ℕ) : Type 0 where
+pub record IsInput (given : List ℕ) (over : Bool) (input : List ℕ) : Type 0 where
   pub rest : List ℕ
   pub parts : input ≡ given ++ rest
-  pub over : exhausted ≡ true → rest ≡ []
+  pub ended : over ≡ true → rest ≡ []
 
--- How a run ended, by the status that the process then has after so many events.
-abbrev pub Reports : RunEnd → Status → ℕ → ℕ → Type 0
-Reports (run_end.Ended code) status events limit = status ≡ Ended code
-Reports (run_end.Stopped cs ip why) status events limit = status ≡ Stopped cs ip why
-Reports (run_end.Limit taken) status events limit = (status ≡ Running) × (taken ≡ limit) × (events ≡ limit)
-Reports run_end.InputFault status events limit = status ≡ Running
-Reports run_end.OutputFault status events limit = status ≡ Running
-Reports run_end.ErrorsFault status events limit = status ≡ Running
+-- What part of a run does: the machine and the status that it leaves, the bytes that it gained from the input, and
+-- those that it wrote to the output and to the errors.
+pub record Progress : Type 0 where
+  pub machine : State
+  pub gained : List ℕ
+  pub out : List ℕ
+  pub err : List ℕ
+  pub status : Status
+
+-- The process with this input after that part, before which it had taken and written so much.
+abbrev pub advanced : List ℕ → ℕ → List ℕ → List ℕ → Progress → Process
+advanced input taken out err progress = record {
+  machine = progress.machine;
+  input = input;
+  taken = taken + length progress.gained;
+  out = out ++ progress.out;
+  err = err ++ progress.err;
+  status = progress.status;
+}
+
+-- So many events do this, from the start on, whatever the input is behind the bytes that the source gave.
+abbrev pub IsRun : ℕ → State → Bool → Progress → Type 0
+IsRun events start over progress = (input : List ℕ) → IsInput progress.gained over input → Runs events (process_of start input) (advanced input 0 [] [] progress)
+
+-- The event that comes at a machine does this.
+abbrev pub IsEvent : State → Bool → Progress → Type 0
+IsEvent old over progress = (input : List ℕ) (taken : ℕ) (out err : List ℕ) → IsInput progress.gained over (drop taken input) → Goes (running old input taken out err) (advanced input taken out err progress)
+
+-- INT n does this, which took a machine from old to t.
+abbrev pub IsService : State → State → ℕ → Bool → Progress → Type 0
+IsService old t n over progress = (input : List ℕ) (taken : ℕ) (out err : List ℕ) → IsInput progress.gained over (drop taken input) → serviced (running old input taken out err) t n ≡ advanced input taken out err progress

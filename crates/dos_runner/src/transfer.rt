@@ -1,11 +1,12 @@
 //! Bytes between the machine's memory and the outside.
 
-ghost use Rattle.std.specs.Prelude.{◌≡◌, ◌≤◌, ◌+◌, ◌%◌, ◌-◌, length, OnOk, OnErr, true, false, Bool, IfOk};
-ghost use Rattle.std.specs.Io.KnownBytes.{append_known, prepend_known, IsAtEnd};
+ghost use Rattle.std.specs.Prelude.{◌≡◌, ◌≤◌, ◌<◌, length, OnOk, OnErr, IfOk};
+ghost use Rattle.std.specs.Io.KnownBytes.{append_known};
 ghost use Rattle.tp_outside.specs.Faults.{HasRisen};
 ghost use Rattle.tp_outside.specs.Streams.{TakesPrefix};
+ghost use Rattle.cpu_8086.specs.Memory.{address, load_byte, store_byte};
 ghost use Rattle.cpu_8086.specs.Process.{bytes_at, with_bytes};
-ghost use Rattle.dos_runner.specs.Transfer.{ReadPart};
+ghost use Rattle.dos_runner.specs.Transfer.{ReadPart, ReadBytes};
 
 use cpu_8086::Machine;
 use tp_outside::{Failed, Sink, Source, write_all};
@@ -13,13 +14,35 @@ use tp_outside::{Failed, Sink, Source, write_all};
 /// How many bytes go to a sink or come from a source at once, at the most.
 const CHUNK: u16 = 256;
 
+/// The linear address of an offset in a segment.
+fn address(segment: u16, offset: u16) -> u32
+    ensures value { result ≡ address segment offset }
+    ensures inside { result < 1048576 }
+{
+    (16 * u32::from(segment) + u32::from(offset)) % 0x10_0000
+}
+
+#[tactic(auto, unfolding(cpu_8086::specs::Memory::load_byte))]
+fn load_byte(machine: &Machine, segment: u16, offset: u16) -> u8
+    ensures { result ≡ load_byte machine.now.memory segment offset }
+{
+    machine.byte(address(segment, offset))
+}
+
+#[tactic(auto, unfolding(cpu_8086::specs::Memory::store_byte))]
+fn store_byte(machine: &mut Machine, segment: u16, offset: u16, value: u8)
+    ensures { machine.new ≡ record machine.old { memory = store_byte machine.old.memory segment offset value } }
+{
+    machine.set_byte(address(segment, offset), value);
+}
+
 /// Copies the bytes from an offset on, which wraps, until `into` is full.
 fn gather(machine: &Machine, segment: u16, offset: u16, into: &mut [u8])
     ensures { into.new ≡ bytes_at machine.now.memory segment offset (length into.old) }
 {
     let mut place = offset;
     for byte in into.iter_mut() {
-        *byte = machine.load_byte(segment, place);
+        *byte = load_byte(machine, segment, place);
         place = place.wrapping_add(1);
     }
 }
@@ -78,7 +101,7 @@ fn scatter(machine: &mut Machine, segment: u16, offset: u16, bytes: &[u8])
 {
     let mut place = offset;
     for byte in bytes {
-        machine.store_byte(segment, place, *byte);
+        store_byte(machine, segment, place, *byte);
         place = place.wrapping_add(1);
     }
 }
@@ -105,4 +128,36 @@ fn read_part<S: Source>(
     let count = source.read(part)?;
     scatter(machine, segment, offset, &part[..count]);
     Ok(count as u16)
+}
+
+/// Reads so many bytes from a source to an offset on, which wraps, or fewer where the source ends before. A source
+/// that is over is not asked.
+pub fn read_bytes<S: Source>(
+    machine: &mut Machine,
+    segment: u16,
+    offset: u16,
+    count: u16,
+    over: &mut bool,
+    source: &mut S,
+) -> Result<u16, Failed>
+    ensures read { IfOk result (λ done. ReadBytes segment offset count machine.old machine.new over.old over.new
+        (S.remaining source.old) (S.remaining source.new) done) }
+    ensures counted { S.faults source.old ≤ S.faults source.new }
+    ensures failed { OnErr result (HasRisen (S.faults source.old) (S.faults source.new)) }
+{
+    if *over {
+        return Ok(0);
+    }
+    let mut done = 0;
+    while done < count {
+        let size = (count - done).min(CHUNK);
+        let place = offset.wrapping_add(done);
+        let part = read_part(machine, segment, place, size, source)?;
+        if part == 0 {
+            *over = true;
+            return Ok(done);
+        }
+        done += part;
+    }
+    Ok(done)
 }

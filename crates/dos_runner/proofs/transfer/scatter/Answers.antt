@@ -7,6 +7,6 @@ loop-byte-preserved c =
     let place_is = c.loop-byte.invariant.place_is in
     record {
       place_is = omega (arith, place_is);
-      stand = put_more c.args.machine.now c.loop-byte.machine c.store_byte.new.self c.args.segment c.args.offset c.loop-byte.byte-index c.loop-byte.place
+      stand = put_more c.args.machine.now c.loop-byte.machine c.store_byte.new.machine c.args.segment c.args.offset c.loop-byte.byte-index c.loop-byte.place
         c.args.bytes.now c.ranges.offset.fits c.loop-byte-test.true place_is c.loop-byte.invariant.stand c.store_byte.ensures;
     }
