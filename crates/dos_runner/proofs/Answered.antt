@@ -12,17 +12,28 @@ use Rattle.dos_runner.specs.Run.{Progress}
 use Rattle.dos_runner.specs.Outside.{Outside, Gave, Progresses, FailsReading, Advances}
 use Rattle.dos_runner.proofs.Composition.{gave_none, took_none}
 
+-- the outside by its parts
+abbrev pub outside : (input output errors : Option (List ℕ)) (input_faults output_faults errors_faults : ℕ) → Outside
+outside input output errors input_faults output_faults errors_faults = record {
+  input = input;
+  output = output;
+  errors = errors;
+  input_faults = input_faults;
+  output_faults = output_faults;
+  errors_faults = errors_faults;
+}
+
 -- the parts of the outside that an event leaves alone
 pub record IsQuiet (o o' : Outside) : Type 0 where
   pub input : o'.input ≡ o.input
   pub output : o'.output ≡ o.output
   pub errors : o'.errors ≡ o.errors
 
-pub goes_quietly : (Is : Progress → Type 0) (new : State) (over : Bool) (o o' : Outside) → Is (record { machine = new; gained = []; out = []; err = []; status = Running }) → IsQuiet o o' → Progresses Is None new over over o o'
-goes_quietly Is new over o o' does quiet = record {
-  progress = record { machine = new; gained = []; out = []; err = []; status = Running };
+pub goes_quietly : (Is : Progress → Type 0) (new m : State) (over : Bool) (o o' : Outside) → new ≡ m → Is (record { machine = m; gained = []; out = []; err = []; status = Running }) → IsQuiet o o' → Progresses Is None new over over o o'
+goes_quietly Is new m over o o' same does quiet = record {
+  progress = record { machine = m; gained = []; out = []; err = []; status = Running };
   does = does;
-  leaves = (refl, refl);
+  leaves = (sym same, refl);
   reads = gave_none over o.input o'.input quiet.input;
   wrote = took_none o.output o'.output quiet.output;
   told = took_none o.errors o'.errors quiet.errors;
@@ -51,22 +62,22 @@ stops_quietly Is new last cs ip why over o o' does quiet = record {
   rose = tt;
 }
 
-pub goes_writing : (Is : Progress → Type 0) (new : State) (out : List ℕ) (over : Bool) (o o' : Outside) → Is (record { machine = new; gained = []; out = out; err = []; status = Running }) → o'.input ≡ o.input → o'.output ≡ append_known o.output out → o'.errors ≡ o.errors → Progresses Is None new over over o o'
-goes_writing Is new out over o o' does input output errors = record {
-  progress = record { machine = new; gained = []; out = out; err = []; status = Running };
+pub goes_writing : (Is : Progress → Type 0) (new m : State) (out : List ℕ) (over : Bool) (o o' : Outside) → new ≡ m → Is (record { machine = m; gained = []; out = out; err = []; status = Running }) → o'.input ≡ o.input → o'.output ≡ append_known o.output out → o'.errors ≡ o.errors → Progresses Is None new over over o o'
+goes_writing Is new m out over o o' same does input output errors = record {
+  progress = record { machine = m; gained = []; out = out; err = []; status = Running };
   does = does;
-  leaves = (refl, refl);
+  leaves = (sym same, refl);
   reads = gave_none over o.input o'.input input;
   wrote = output;
   told = took_none o.errors o'.errors errors;
   rose = tt;
 }
 
-pub goes_telling : (Is : Progress → Type 0) (new : State) (err : List ℕ) (over : Bool) (o o' : Outside) → Is (record { machine = new; gained = []; out = []; err = err; status = Running }) → o'.input ≡ o.input → o'.output ≡ o.output → o'.errors ≡ append_known o.errors err → Progresses Is None new over over o o'
-goes_telling Is new err over o o' does input output errors = record {
-  progress = record { machine = new; gained = []; out = []; err = err; status = Running };
+pub goes_telling : (Is : Progress → Type 0) (new m : State) (err : List ℕ) (over : Bool) (o o' : Outside) → new ≡ m → Is (record { machine = m; gained = []; out = []; err = err; status = Running }) → o'.input ≡ o.input → o'.output ≡ o.output → o'.errors ≡ append_known o.errors err → Progresses Is None new over over o o'
+goes_telling Is new m err over o o' same does input output errors = record {
+  progress = record { machine = m; gained = []; out = []; err = err; status = Running };
   does = does;
-  leaves = (refl, refl);
+  leaves = (sym same, refl);
   reads = gave_none over o.input o'.input input;
   wrote = took_none o.output o'.output output;
   told = errors;
@@ -95,11 +106,11 @@ fails_telling Is new last err over o o' does input output errors rose = record {
   rose = rose;
 }
 
-pub goes_reading : (Is : Progress → Type 0) (new : State) (gained : List ℕ) (over over' : Bool) (o o' : Outside) → Is (record { machine = new; gained = gained; out = []; err = []; status = Running }) → Gave gained over over' o.input o'.input → o'.output ≡ o.output → o'.errors ≡ o.errors → Progresses Is None new over over' o o'
-goes_reading Is new gained over over' o o' does input output errors = record {
-  progress = record { machine = new; gained = gained; out = []; err = []; status = Running };
+pub goes_reading : (Is : Progress → Type 0) (new m : State) (gained : List ℕ) (over over' : Bool) (o o' : Outside) → new ≡ m → Is (record { machine = m; gained = gained; out = []; err = []; status = Running }) → Gave gained over over' o.input o'.input → o'.output ≡ o.output → o'.errors ≡ o.errors → Progresses Is None new over over' o o'
+goes_reading Is new m gained over over' o o' same does input output errors = record {
+  progress = record { machine = m; gained = gained; out = []; err = []; status = Running };
   does = does;
-  leaves = (refl, refl);
+  leaves = (sym same, refl);
   reads = input;
   wrote = took_none o.output o'.output output;
   told = took_none o.errors o'.errors errors;
@@ -109,7 +120,13 @@ goes_reading Is new gained over over' o o' does input output errors = record {
 -- what is such is also so
 progresses_so : (P Q : Progress → Type 0) (end : Option RunEnd) (new : State) (over over' : Bool) (o o' : Outside) → ((progress : Progress) → P progress → Q progress) → Progresses P end new over over' o o' → Progresses Q end new over over' o o'
 progresses_so P Q end new over over' o o' so part = record {
-  progress = part.progress; does = so part.progress part.does; leaves = part.leaves; reads = part.reads; wrote = part.wrote; told = part.told; rose = part.rose;
+  progress = part.progress;
+  does = so part.progress part.does;
+  leaves = part.leaves;
+  reads = part.reads;
+  wrote = part.wrote;
+  told = part.told;
+  rose = part.rose;
 }
 
 pub advances_so : (P Q : Progress → Type 0) (end : Option RunEnd) (new : State) (over over' : Bool) (o o' : Outside) → ((progress : Progress) → P progress → Q progress) → Advances P end new over over' o o' → Advances Q end new over over' o o'

@@ -67,5 +67,5 @@ prefix_of_row m s o done size count part old now new fits within before is_part 
       count = done + k;
       within = omega (arith, long);
       taken = step.taken ∙ ap (λ bs. append_known now (take k bs)) is_part ∙ ap (λ known. append_known known (take k b)) before
-        ∙ append_known-append_known old (bytes_at m s o done) (take k b) ∙ ap (append_known old) (sym front);
+          ∙ append_known-append_known old (bytes_at m s o done) (take k b) ∙ ap (append_known old) (sym front);
     }

@@ -151,24 +151,39 @@ comes_to_limit limit start now over o o1 before = record {
 -- the event ends the run
 pub ends_by : (end : RunEnd) (events limit : ℕ) (start now new : State) (over over' : Bool) (o o1 o2 : Outside) → events < limit → Counts o o1 → Progresses (IsRun events start over) None now false over o o1 → Advances (IsEvent now over') (Some end) new over over' o1 o2 → RunsTo end limit start new o o2
 ends_by (ends.Ended code) events limit start now new over over' o o1 o2 below counts before event = record {
-  events = events + 1; bound = omega arith; exhausted = over'; limited = tt;
+  events = events + 1;
+  bound = omega arith;
+  exhausted = over';
+  limited = tt;
   run = further (Some (ends.Ended code)) events start now new over over' o o1 o2 counts before event event.reads;
 }
 ends_by (ends.Stopped cs ip why) events limit start now new over over' o o1 o2 below counts before event = record {
-  events = events + 1; bound = omega arith; exhausted = over'; limited = tt;
+  events = events + 1;
+  bound = omega arith;
+  exhausted = over';
+  limited = tt;
   run = further (Some (ends.Stopped cs ip why)) events start now new over over' o o1 o2 counts before event event.reads;
 }
 ends_by ends.OutputFault events limit start now new over over' o o1 o2 below counts before event = record {
-  events = events + 1; bound = omega arith; exhausted = over'; limited = tt;
+  events = events + 1;
+  bound = omega arith;
+  exhausted = over';
+  limited = tt;
   run = further (Some ends.OutputFault) events start now new over over' o o1 o2 counts before event event.reads;
 }
 ends_by ends.ErrorsFault events limit start now new over over' o o1 o2 below counts before event = record {
-  events = events + 1; bound = omega arith; exhausted = over'; limited = tt;
+  events = events + 1;
+  bound = omega arith;
+  exhausted = over';
+  limited = tt;
   run = further (Some ends.ErrorsFault) events start now new over over' o o1 o2 counts before event event.reads;
 }
 ends_by (ends.Limit taken) events limit start now new over over' o o1 o2 below counts before event = absurd event
 ends_by ends.InputFault events limit start now new over over' o o1 o2 below counts before event = record {
-  events = events; bound = omega arith; exhausted = over; limited = tt;
+  events = events;
+  bound = omega arith;
+  exhausted = over;
+  limited = tt;
   run = record {
     progress = before.progress;
     does = before.does;

@@ -23,5 +23,5 @@ put_more old now new s o i place bytes fits within place_is before step =
     let long : length (take i bytes) ≡ i = omega (arith, length-take {A = ℕ}) in
     let at : (o + length (take i bytes)) % 65536 ≡ place = ap (λ n. (o + n) % 65536) long ∙ sym place_is in
     let whole : with_bytes m s o (take (i + 1) bytes) ≡ store_byte row s place b =
-        ap (with_bytes m s o) (take_more bytes i 0 within) ∙ with_bytes-append m s o (take i bytes) (b ∷ []) fits ∙ ap (λ p. store_byte row s p b) at in
+    ap (with_bytes m s o) (take_more bytes i 0 within) ∙ with_bytes-append m s o (take i bytes) (b ∷ []) fits ∙ ap (λ p. store_byte row s p b) at in
     step ∙ ap (λ (t : State). record t { memory = store_byte t.memory s place b }) before ∙ ap (λ x. record old { memory = x }) (sym whole)

@@ -1,6 +1,6 @@
 //! One event of a process: an instruction, with the service that it asks for.
 
-ghost use Rattle.std.specs.Prelude.{◌≡◌, ℕ, ◌≤◌, ◌/◌, Bool, Option, List, OnOk, OnErr};
+ghost use Rattle.std.specs.Prelude.{◌≡◌, ℕ, ◌≤◌, ◌/◌, Bool, false, OnOk, OnErr};
 ghost use Rattle.std.specs.Io.KnownBytes.{append_known};
 ghost use Rattle.tp_outside.specs.Faults.{HasRisen};
 ghost use Rattle.tp_outside.specs.Streams.{TakesPrefix};
@@ -39,6 +39,38 @@ fn write_to<K: Sink>(machine: &mut Machine, sink: &mut K) -> Result<(), Failed>
     Ok(())
 }
 
+/// AH = 40h, at the handle of the output.
+fn write_output<K: Sink>(machine: &mut Machine, output: &mut K) -> Option<RunEnd>
+    requires function { machine.old.registers.ax / 256 ≡ 64 }
+    requires handle { machine.old.registers.bx ≡ 1 }
+    ensures served { (before : State) (over : Bool) (rest : Outside) →
+        Advances (IsService before machine.old 33 over) result machine.new over over
+        (record rest { output = K.contents output.old; output_faults = K.faults output.old })
+        (record rest { output = K.contents output.new; output_faults = K.faults output.new }) }
+    ensures counted { K.faults output.old ≤ K.faults output.new }
+{
+    match write_to(machine, output) {
+        Ok(()) => None,
+        Err(_) => Some(RunEnd::OutputFault),
+    }
+}
+
+/// AH = 40h, at the handle of the errors.
+fn write_errors<E: Sink>(machine: &mut Machine, errors: &mut E) -> Option<RunEnd>
+    requires function { machine.old.registers.ax / 256 ≡ 64 }
+    requires handle { machine.old.registers.bx ≡ 2 }
+    ensures served { (before : State) (over : Bool) (rest : Outside) →
+        Advances (IsService before machine.old 33 over) result machine.new over over
+        (record rest { errors = E.contents errors.old; errors_faults = E.faults errors.old })
+        (record rest { errors = E.contents errors.new; errors_faults = E.faults errors.new }) }
+    ensures counted { E.faults errors.old ≤ E.faults errors.new }
+{
+    match write_to(machine, errors) {
+        Ok(()) => None,
+        Err(_) => Some(RunEnd::ErrorsFault),
+    }
+}
+
 /// AH = 40h: writes to the handle BX.
 fn write_call<K: Sink, E: Sink>(
     machine: &mut Machine,
@@ -49,28 +81,26 @@ fn write_call<K: Sink, E: Sink>(
     ensures served { (before : State) (over : Bool) (rest : Outside) →
         Advances (IsService before machine.old 33 over) result machine.new over over
         (record rest {
-            output = K.contents output.old; errors = E.contents errors.old;
-            output_faults = K.faults output.old; errors_faults = E.faults errors.old;
+          output = K.contents output.old;
+          errors = E.contents errors.old;
+          output_faults = K.faults output.old;
+          errors_faults = E.faults errors.old;
         })
         (record rest {
-            output = K.contents output.new; errors = E.contents errors.new;
-            output_faults = K.faults output.new; errors_faults = E.faults errors.new;
+          output = K.contents output.new;
+          errors = E.contents errors.new;
+          output_faults = K.faults output.new;
+          errors_faults = E.faults errors.new;
         }) }
     ensures output_counted { K.faults output.old ≤ K.faults output.new }
     ensures errors_counted { E.faults errors.old ≤ E.faults errors.new }
 {
     let handle = machine.reg(Reg::Bx);
     if handle == 1 {
-        return match write_to(machine, output) {
-            Ok(()) => None,
-            Err(_) => Some(RunEnd::OutputFault),
-        };
+        return write_output(machine, output);
     }
     if handle == 2 {
-        return match write_to(machine, errors) {
-            Ok(()) => None,
-            Err(_) => Some(RunEnd::ErrorsFault),
-        };
+        return write_errors(machine, errors);
     }
     answer(machine, 6, true);
     None
@@ -113,12 +143,20 @@ fn dos_call<S: Source, K: Sink, E: Sink>(
     ensures served { (before : State) → before.cs ≡ at.segment → before.registers.ip ≡ at.offset →
         Advances (IsService before machine.old 33 over.new) result machine.new over.old over.new
         (record {
-            input = S.remaining input.old; output = K.contents output.old; errors = E.contents errors.old;
-            input_faults = S.faults input.old; output_faults = K.faults output.old; errors_faults = E.faults errors.old;
+          input = S.remaining input.old;
+          output = K.contents output.old;
+          errors = E.contents errors.old;
+          input_faults = S.faults input.old;
+          output_faults = K.faults output.old;
+          errors_faults = E.faults errors.old;
         })
         (record {
-            input = S.remaining input.new; output = K.contents output.new; errors = E.contents errors.new;
-            input_faults = S.faults input.new; output_faults = K.faults output.new; errors_faults = E.faults errors.new;
+          input = S.remaining input.new;
+          output = K.contents output.new;
+          errors = E.contents errors.new;
+          input_faults = S.faults input.new;
+          output_faults = K.faults output.new;
+          errors_faults = E.faults errors.new;
         }) }
     ensures input_counted { S.faults input.old ≤ S.faults input.new }
     ensures output_counted { K.faults output.old ≤ K.faults output.new }
@@ -133,7 +171,9 @@ fn dos_call<S: Source, K: Sink, E: Sink>(
         return read_call(machine, over, input);
     }
     if function == 0x4C {
-        return Some(RunEnd::Ended { code: (ax % 256) as u8 });
+        return Some(RunEnd::Ended {
+            code: (ax % 256) as u8,
+        });
     }
     Some(RunEnd::Stopped {
         cs: at.segment,
@@ -155,12 +195,20 @@ fn serve<S: Source, K: Sink, E: Sink>(
     ensures served { (before : State) → before.cs ≡ at.segment → before.registers.ip ≡ at.offset →
         Advances (IsService before machine.old number over.new) result machine.new over.old over.new
         (record {
-            input = S.remaining input.old; output = K.contents output.old; errors = E.contents errors.old;
-            input_faults = S.faults input.old; output_faults = K.faults output.old; errors_faults = E.faults errors.old;
+          input = S.remaining input.old;
+          output = K.contents output.old;
+          errors = E.contents errors.old;
+          input_faults = S.faults input.old;
+          output_faults = K.faults output.old;
+          errors_faults = E.faults errors.old;
         })
         (record {
-            input = S.remaining input.new; output = K.contents output.new; errors = E.contents errors.new;
-            input_faults = S.faults input.new; output_faults = K.faults output.new; errors_faults = E.faults errors.new;
+          input = S.remaining input.new;
+          output = K.contents output.new;
+          errors = E.contents errors.new;
+          input_faults = S.faults input.new;
+          output_faults = K.faults output.new;
+          errors_faults = E.faults errors.new;
         }) }
     ensures input_counted { S.faults input.old ≤ S.faults input.new }
     ensures output_counted { K.faults output.old ≤ K.faults output.new }
@@ -194,32 +242,39 @@ pub fn advance<S: Source, K: Sink, E: Sink>(
 ) -> Option<RunEnd>
     ensures advanced { Advances (IsEvent machine.old over.new) result machine.new over.old over.new
         (record {
-            input = S.remaining input.old; output = K.contents output.old; errors = E.contents errors.old;
-            input_faults = S.faults input.old; output_faults = K.faults output.old; errors_faults = E.faults errors.old;
+          input = S.remaining input.old;
+          output = K.contents output.old;
+          errors = E.contents errors.old;
+          input_faults = S.faults input.old;
+          output_faults = K.faults output.old;
+          errors_faults = E.faults errors.old;
         })
         (record {
-            input = S.remaining input.new; output = K.contents output.new; errors = E.contents errors.new;
-            input_faults = S.faults input.new; output_faults = K.faults output.new; errors_faults = E.faults errors.new;
+          input = S.remaining input.new;
+          output = K.contents output.new;
+          errors = E.contents errors.new;
+          input_faults = S.faults input.new;
+          output_faults = K.faults output.new;
+          errors_faults = E.faults errors.new;
         }) }
     ensures input_counted { S.faults input.old ≤ S.faults input.new }
     ensures output_counted { K.faults output.old ≤ K.faults output.new }
     ensures errors_counted { E.faults errors.old ≤ E.faults errors.new }
 {
-    let at = Far {
-        offset: machine.reg(Reg::Ip),
-        segment: machine.reg(Reg::Cs),
-    };
+    let offset = machine.reg(Reg::Ip);
+    let segment = machine.reg(Reg::Cs);
+    let at = Far { offset, segment };
     match machine.step() {
         Event::Ran => None,
         Event::Service(number) => serve(machine, number, at, over, input, output, errors),
         Event::Divide => Some(RunEnd::Stopped {
-            cs: at.segment,
-            ip: at.offset,
+            cs: segment,
+            ip: offset,
             why: Why::Divide,
         }),
         Event::Unknown { .. } => Some(RunEnd::Stopped {
-            cs: at.segment,
-            ip: at.offset,
+            cs: segment,
+            ip: offset,
             why: Why::Opcode,
         }),
     }

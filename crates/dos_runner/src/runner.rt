@@ -35,12 +35,20 @@ pub fn run<S: Source, K: Sink, E: Sink>(
 ) -> RunEnd
     ensures run { RunsTo result limit machine.old machine.new
         (record {
-            input = S.remaining input.old; output = K.contents output.old; errors = E.contents errors.old;
-            input_faults = S.faults input.old; output_faults = K.faults output.old; errors_faults = E.faults errors.old;
+          input = S.remaining input.old;
+          output = K.contents output.old;
+          errors = E.contents errors.old;
+          input_faults = S.faults input.old;
+          output_faults = K.faults output.old;
+          errors_faults = E.faults errors.old;
         })
         (record {
-            input = S.remaining input.new; output = K.contents output.new; errors = E.contents errors.new;
-            input_faults = S.faults input.new; output_faults = K.faults output.new; errors_faults = E.faults errors.new;
+          input = S.remaining input.new;
+          output = K.contents output.new;
+          errors = E.contents errors.new;
+          input_faults = S.faults input.new;
+          output_faults = K.faults output.new;
+          errors_faults = E.faults errors.new;
         }) }
     ensures input_counted { S.faults input.old ≤ S.faults input.new }
     ensures output_counted { K.faults output.old ≤ K.faults output.new }
@@ -48,8 +56,9 @@ pub fn run<S: Source, K: Sink, E: Sink>(
 {
     let mut over = false;
     for event in 0..limit {
-        if let Some(end) = advance(machine, &mut over, input, output, errors) {
-            return end;
+        match advance(machine, &mut over, input, output, errors) {
+            Some(end) => return end,
+            None => (),
         }
     }
     RunEnd::Limit { taken: limit }

@@ -97,7 +97,8 @@ pub fn write_bytes<K: Sink>(
 /// Puts bytes from an offset on, which wraps.
 fn scatter(machine: &mut Machine, segment: u16, offset: u16, bytes: &[u8])
     ensures { machine.new ≡ record machine.old {
-        memory = with_bytes machine.old.memory segment offset bytes.now } }
+      memory = with_bytes machine.old.memory segment offset bytes.now;
+    } }
 {
     let mut place = offset;
     for byte in bytes {

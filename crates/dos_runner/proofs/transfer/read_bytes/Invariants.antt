@@ -6,6 +6,7 @@ use Rattle.dos_runner.proofs.transfer.read_bytes.Given as goal
 abbrev pub invariant-loop-done : goal.invariant-loop-done
 invariant-loop-done g l = record {
   read : ReadSoFar l.segment l.offset l.count l.initial.machine l.machine (g.S.Source.remaining l.initial.source) (g.S.Source.remaining l.source) l.done;
+  over : l.over ≡ false;
   counted : g.S.Source.faults l.initial.source ≤ g.S.Source.faults l.source;
 }
 

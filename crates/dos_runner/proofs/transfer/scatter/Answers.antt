@@ -8,5 +8,5 @@ loop-byte-preserved c =
     record {
       place_is = omega (arith, place_is);
       stand = put_more c.args.machine.now c.loop-byte.machine c.store_byte.new.machine c.args.segment c.args.offset c.loop-byte.byte-index c.loop-byte.place
-        c.args.bytes.now c.ranges.offset.fits c.loop-byte-test.true place_is c.loop-byte.invariant.stand c.store_byte.ensures;
+          c.args.bytes.now c.ranges.offset.fits c.loop-byte-test.true place_is c.loop-byte.invariant.stand c.store_byte.ensures;
     }

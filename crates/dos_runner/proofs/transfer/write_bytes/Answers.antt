@@ -18,8 +18,8 @@ loop-done-preserved g c =
     record {
       within = omega (arith, c.min-size.ensures, c.loop-done.invariant.within);
       contents = more_written m c.args.segment c.args.offset c.loop-done.done c.min-size.result
-        (bytes_at m c.args.segment ((c.args.offset + c.loop-done.done) % 65536) c.min-size.result)
-        (g.K.Sink.contents c.args.sink.now) (g.K.Sink.contents c.loop-done.sink) (g.K.Sink.contents c.write_part.new.sink)
-        c.ranges.offset.fits c.loop-done.invariant.contents refl c.in_ok-write_part.ensures.written;
+          (bytes_at m c.args.segment ((c.args.offset + c.loop-done.done) % 65536) c.min-size.result)
+          (g.K.Sink.contents c.args.sink.now) (g.K.Sink.contents c.loop-done.sink) (g.K.Sink.contents c.write_part.new.sink)
+          c.ranges.offset.fits c.loop-done.invariant.contents refl c.in_ok-write_part.ensures.written;
       counted = omega (arith, c.loop-done.invariant.counted, c.write_part.ensures.counted);
     }
