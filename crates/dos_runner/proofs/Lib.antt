@@ -1,0 +1,6 @@
+pub mod Answered
+pub mod BytesAt
+pub mod Composition
+pub mod Reading
+pub mod Services
+pub mod WithBytes

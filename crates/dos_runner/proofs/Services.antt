@@ -1,0 +1,138 @@
+-- What the services do to a process.
+use Rattle.std.proofs.Common.{◌≡◌, ◌≢◌, ℕ, zero, suc, ◌+◌, ◌/◌, ◌%◌, ◌<◌, ◌≤◌, ◌==◌, Bool, true, false, List, [], ◌∷◌, ◌++◌, length, take, drop, Option, None, refl, sym, ap, ◌∙◌, subst, arith, append-nil, inl, inr, ◌⊎◌}
+use Rattle.std.specs.Prelude.{if◌then◌else◌}
+use Rattle.std.proofs.Math.Seq.{take-append_seam}
+use Rattle.std.proofs.lemmas.List.{take_all}
+use Rattle.std.proofs.lemmas.Bool.{cases_lt, ne_eqb}
+use Rattle.cpu_8086.specs.declared.process.Why.{Why}
+use Rattle.cpu_8086.specs.declared.process.Why.TheVariants as why
+use Rattle.cpu_8086.specs.declared.machine.Event.{Event}
+use Rattle.cpu_8086.specs.declared.machine.Event.TheVariants as events
+use Rattle.cpu_8086.specs.State.{State}
+use Rattle.cpu_8086.specs.Process.{Process, Status, Running, Ended, Stopped, stopped, serviced, after_step, answered, written_bytes, with_bytes, given}
+use Rattle.cpu_8086.specs.Step.{Steps}
+use Rattle.cpu_8086.specs.Run.{Goes}
+use Rattle.dos_runner.specs.Run.{running, IsInput, Progress, advanced, IsEvent, IsService}
+use Rattle.dos_runner.specs.Outside.{Outside, Progresses}
+use Rattle.dos_runner.specs.Transfer.{ReadBytes}
+use Rattle.dos_runner.proofs.Answered.{goes_reading}
+
+-- the process with these fields
+abbrev pub process : State → List ℕ → ℕ → List ℕ → List ℕ → Status → Process
+process machine input taken out err status = record { machine = machine; input = input; taken = taken; out = out; err = err; status = status }
+
+-- a progress without input
+with_out : (m : State) (status : Status) (input : List ℕ) (taken : ℕ) (out err more told : List ℕ) → process m input taken (out ++ more) (err ++ told) status ≡ advanced input taken out err (record { machine = m; gained = []; out = more; err = told; status = status })
+with_out m status input taken out err more told =
+    let e : taken ≡ taken + 0 = omega arith in
+    ap (λ n. process m input n (out ++ more) (err ++ told) status) e
+
+-- a progress that leaves the outside alone
+pub quiet : (m : State) (status : Status) (input : List ℕ) (taken : ℕ) (out err : List ℕ) → process m input taken out err status ≡ advanced input taken out err (record { machine = m; gained = []; out = []; err = []; status = status })
+quiet m status input taken out err =
+    ap (λ xs. process m input taken xs err status) (sym (append-nil out)) ∙ ap (λ xs. process m input taken (out ++ []) xs status) (sym (append-nil err)) ∙ with_out m status input taken out err [] []
+
+pub writes_output : (before t : State) (over : Bool) → t.registers.ax / 256 ≡ 64 → t.registers.bx ≡ 1 → IsService before t 33 over (record { machine = answered t t.registers.cx false; gained = []; out = written_bytes t; err = []; status = Running })
+writes_output before t over function handle input taken out err is_input =
+    let m : State = answered t t.registers.cx false in
+    let e : serviced (running before input taken out err) t 33 ≡ process m input taken (out ++ written_bytes t) err Running = rw function (rw handle refl) in
+    e ∙ ap (λ xs. process m input taken (out ++ written_bytes t) xs Running) (sym (append-nil err)) ∙ with_out m Running input taken out err (written_bytes t) []
+
+pub writes_errors : (before t : State) (over : Bool) → t.registers.ax / 256 ≡ 64 → t.registers.bx ≡ 2 → IsService before t 33 over (record { machine = answered t t.registers.cx false; gained = []; out = []; err = written_bytes t; status = Running })
+writes_errors before t over function handle input taken out err is_input =
+    let m : State = answered t t.registers.cx false in
+    let e : serviced (running before input taken out err) t 33 ≡ process m input taken out (err ++ written_bytes t) Running = rw function (rw handle refl) in
+    e ∙ ap (λ xs. process m input taken xs (err ++ written_bytes t) Running) (sym (append-nil out)) ∙ with_out m Running input taken out err [] (written_bytes t)
+
+pub writes_nowhere : (before t : State) (over : Bool) → t.registers.ax / 256 ≡ 64 → t.registers.bx ≢ 1 → t.registers.bx ≢ 2 → IsService before t 33 over (record { machine = answered t 6 true; gained = []; out = []; err = []; status = Running })
+writes_nowhere before t over function one two input taken out err is_input =
+    let e : serviced (running before input taken out err) t 33 ≡ process (answered t 6 true) input taken out err Running = rw function (rw (ne_eqb t.registers.bx 1 one) (rw (ne_eqb t.registers.bx 2 two) refl)) in
+    e ∙ quiet (answered t 6 true) Running input taken out err
+
+-- the bytes that came are those that the function reads
+came : (gained left : List ℕ) (n : ℕ) (over : Bool) → IsInput gained over left → length gained ≤ n → (length gained < n → over ≡ true) → take n left ≡ gained
+came gained left n over is_input within short =
+    let some : take n left ≡ take n (gained ++ is_input.rest) = ap (take n) is_input.parts in
+    let fewer : length gained < n → take n left ≡ gained = λ h.
+    some ∙ ap (λ xs. take n (gained ++ xs)) (is_input.ended (short h)) ∙ ap (take n) (append-nil gained) ∙ take_all n gained within in
+    let all : n ≤ length gained → take n left ≡ gained = λ h.
+    let same : n ≡ length gained = omega arith in
+    some ∙ ap (λ k. take k (gained ++ is_input.rest)) same ∙ take-append_seam gained is_input.rest in
+    elim (cases_lt (length gained) n) [ inl h ↦ fewer h | inr h ↦ all h ]
+
+pub reads_input : (before t : State) (over : Bool) (gained : List ℕ) → t.registers.ax / 256 ≡ 63 → t.registers.bx ≡ 0 → length gained ≤ t.registers.cx → (length gained < t.registers.cx → over ≡ true) → IsService before t 33 over (record { machine = given t gained; gained = gained; out = []; err = []; status = Running })
+reads_input before t over gained function handle within short input taken out err is_input =
+    let read : List ℕ = take t.registers.cx (drop taken input) in
+    let e : serviced (running before input taken out err) t 33 ≡ process (given t read) input (taken + length read) out err Running = rw function (rw handle refl) in
+    e ∙ ap (λ xs. process (given t xs) input (taken + length xs) out err Running) (came gained (drop taken input) t.registers.cx over is_input within short)
+    ∙ ap (λ xs. process (given t gained) input (taken + length gained) xs err Running) (sym (append-nil out))
+    ∙ ap (λ xs. process (given t gained) input (taken + length gained) (out ++ []) xs Running) (sym (append-nil err))
+
+-- a read that went well
+pub read_goes_on : (before t mid new : State) (segment offset count done : ℕ) (over over' : Bool) (o o' : Outside) → t.registers.ax / 256 ≡ 63 → t.registers.bx ≡ 0 → segment ≡ t.registers.ds → offset ≡ t.registers.dx → count ≡ t.registers.cx → ReadBytes segment offset count t mid over over' o.input o'.input done → new ≡ answered mid done false → o'.output ≡ o.output → o'.errors ≡ o.errors → Progresses (IsService before t 33 over') None new over over' o o'
+read_goes_on before t mid new segment offset count done over over' o o' function handle ds dx cx read answer output errors =
+    let gained : List ℕ = read.gained in
+    let counts : length gained ≡ done = read.counts in
+    let at_most : done ≤ count = read.within in
+    let within : length gained ≤ t.registers.cx = omega arith in
+    let fewer : length gained < t.registers.cx → done < count = λ h. omega arith in
+    let row : ℕ → ℕ → List ℕ = λ s p. with_bytes t.memory s p gained in
+    let f : List ℕ → ℕ → State = λ m n. answered (record t { memory = m }) n false in
+    let same : new ≡ given t gained =
+    answer ∙ ap (λ (x : State). answered x done false) read.stand ∙ ap (λ s. f (row s offset) done) ds ∙ ap (λ p. f (row t.registers.ds p) done) dx
+    ∙ ap (λ n. f (row t.registers.ds t.registers.dx) n) (sym counts) in
+    goes_reading (IsService before t 33 over') new (given t gained) gained over over' o o' same
+    (reads_input before t over' gained function handle within (λ h. read.short (fewer h))) read.gave output errors
+
+pub reads_nowhere : (before t : State) (over : Bool) → t.registers.ax / 256 ≡ 63 → t.registers.bx ≢ 0 → IsService before t 33 over (record { machine = answered t 6 true; gained = []; out = []; err = []; status = Running })
+reads_nowhere before t over function handle input taken out err is_input =
+    let e : serviced (running before input taken out err) t 33 ≡ process (answered t 6 true) input taken out err Running = rw function (rw (ne_eqb t.registers.bx 0 handle) refl) in
+    e ∙ quiet (answered t 6 true) Running input taken out err
+
+pub exits : (before t : State) (over : Bool) (code : ℕ) → t.registers.ax / 256 ≡ 76 → code ≡ t.registers.ax % 256 → IsService before t 33 over (record { machine = t; gained = []; out = []; err = []; status = Ended code })
+exits before t over code function same input taken out err is_input =
+    let e : serviced (running before input taken out err) t 33 ≡ process t input taken out err (Ended (t.registers.ax % 256)) = rw function refl in
+    e ∙ ap (λ k. process t input taken out err (Ended k)) (sym same) ∙ quiet t (Ended code) input taken out err
+
+-- a process that is stopped where it stands
+stops_at : (before : State) (cs ip : ℕ) (why : Why) (input : List ℕ) (taken : ℕ) (out err : List ℕ) → before.cs ≡ cs → before.registers.ip ≡ ip → stopped (running before input taken out err) why ≡ advanced input taken out err (record { machine = before; gained = []; out = []; err = []; status = Stopped cs ip why })
+stops_at before cs ip why input taken out err segment offset =
+    ap (λ k. process before input taken out err (Stopped k before.registers.ip why)) segment ∙ ap (λ k. process before input taken out err (Stopped cs k why)) offset
+    ∙ quiet before (Stopped cs ip why) input taken out err
+
+pub has_no_function : (before t : State) (over : Bool) (cs ip function : ℕ) → before.cs ≡ cs → before.registers.ip ≡ ip → t.registers.ax / 256 ≡ function → function ≢ 64 → function ≢ 63 → function ≢ 76 → IsService before t 33 over (record { machine = before; gained = []; out = []; err = []; status = Stopped cs ip (why.Function function) })
+has_no_function before t over cs ip function segment offset same write read exit input taken out err is_input =
+    let e : serviced (running before input taken out err) t 33 ≡ stopped (running before input taken out err) (why.Function function) = rw same (rw (ne_eqb function 64 write) (rw (ne_eqb function 63 read) (rw (ne_eqb function 76 exit) refl))) in
+    e ∙ stops_at before cs ip (why.Function function) input taken out err segment offset
+
+pub only_goes_on : (before t : State) (n : ℕ) (over : Bool) → n ≡ 96 → IsService before t n over (record { machine = t; gained = []; out = []; err = []; status = Running })
+only_goes_on before t n over same input taken out err is_input =
+    let e : serviced (running before input taken out err) t n ≡ process t input taken out err Running = rw same refl in
+    e ∙ quiet t Running input taken out err
+
+pub has_no_stub : (before t : State) (n : ℕ) (over : Bool) (cs ip : ℕ) → before.cs ≡ cs → before.registers.ip ≡ ip → n ≡ 63 → IsService before t n over (record { machine = before; gained = []; out = []; err = []; status = Stopped cs ip why.NoStub })
+has_no_stub before t n over cs ip segment offset same input taken out err is_input =
+    let e : serviced (running before input taken out err) t n ≡ stopped (running before input taken out err) why.NoStub = rw same refl in
+    e ∙ stops_at before cs ip why.NoStub input taken out err segment offset
+
+pub has_no_service : (before t : State) (n : ℕ) (over : Bool) (cs ip : ℕ) → before.cs ≡ cs → before.registers.ip ≡ ip → n ≢ 33 → n ≢ 96 → n ≢ 63 → IsService before t n over (record { machine = before; gained = []; out = []; err = []; status = Stopped cs ip (why.Interrupt n) })
+has_no_service before t n over cs ip segment offset dos other stub input taken out err is_input =
+    let e : serviced (running before input taken out err) t n ≡ stopped (running before input taken out err) (why.Interrupt n) = rw (ne_eqb n 33 dos) (rw (ne_eqb n 96 other) (rw (ne_eqb n 63 stub) refl)) in
+    e ∙ stops_at before cs ip (why.Interrupt n) input taken out err segment offset
+
+-- the event of an instruction that asks for no service
+goes_by : (before t : State) (event : Event) (input : List ℕ) (taken : ℕ) (out err : List ℕ) (q : Process) → Steps before t event → after_step (running before input taken out err) t event ≡ q → Goes (running before input taken out err) q
+goes_by before t event input taken out err q steps result = record { running = refl; machine = t; event = event; steps = steps; result = sym result }
+
+pub ran : (before t : State) (over : Bool) → Steps before t events.Ran → IsEvent before over (record { machine = t; gained = []; out = []; err = []; status = Running })
+ran before t over steps input taken out err is_input = goes_by before t events.Ran input taken out err _ steps (quiet t Running input taken out err)
+
+pub divides_by_zero : (before t : State) (over : Bool) (cs ip : ℕ) → before.cs ≡ cs → before.registers.ip ≡ ip → Steps before t events.Divide → IsEvent before over (record { machine = before; gained = []; out = []; err = []; status = Stopped cs ip why.Divide })
+divides_by_zero before t over cs ip segment offset steps input taken out err is_input = goes_by before t events.Divide input taken out err _ steps (stops_at before cs ip why.Divide input taken out err segment offset)
+
+pub meets_unknown : (before t : State) (over : Bool) (cs ip cs' ip' : ℕ) → before.cs ≡ cs → before.registers.ip ≡ ip → Steps before t (events.Unknown cs' ip') → IsEvent before over (record { machine = before; gained = []; out = []; err = []; status = Stopped cs ip why.Opcode })
+meets_unknown before t over cs ip cs' ip' segment offset steps input taken out err is_input = goes_by before t (events.Unknown cs' ip') input taken out err _ steps (stops_at before cs ip why.Opcode input taken out err segment offset)
+
+-- an instruction that asks for a service, and the service
+pub is_served : (before t : State) (n : ℕ) (over : Bool) (progress : Progress) → Steps before t (events.Service n) → IsService before t n over progress → IsEvent before over progress
+is_served before t n over progress steps service input taken out err is_input = goes_by before t (events.Service n) input taken out err _ steps (service input taken out err is_input)

@@ -1,0 +1,21 @@
+use Rattle.std.proofs.Common.{◌≡◌, ◌≤◌, ◌+◌, ◌%◌, refl, arith}
+use Rattle.dos_runner.proofs.Reading.{read_more, all_read}
+use Rattle.dos_runner.proofs.transfer.read_bytes.Goals as goal
+
+pub loop-done-preserved : goal.loop-done-preserved
+loop-done-preserved g c =
+    let within : c.loop-done.done + c.min-size.result ≤ c.args.count = omega (arith, c.min-size.ensures, c.loop-done-test.true) in
+    record {
+      read = read_more c.args.segment c.args.offset c.args.count c.min-size.result ((c.args.offset + c.loop-done.done) % 65536)
+          c.args.machine.now c.loop-done.machine c.read_part.new.machine
+          (g.S.Source.remaining c.args.source.now) (g.S.Source.remaining c.loop-done.source) (g.S.Source.remaining c.read_part.new.source)
+          c.loop-done.done c.in_ok-part.part c.ranges.offset.fits within refl c.loop-done.invariant.read c.in_ok-part.ensures.read;
+      over = c.loop-done.invariant.over;
+      counted = omega (arith, c.loop-done.invariant.counted, c.read_part.ensures.counted);
+    }
+
+pub returns-clause-read : goal.returns-clause-read
+returns-clause-read g c =
+    all_read c.args.segment c.args.offset c.args.count c.args.machine.now c.loop-done.machine c.args.over.now c.loop-done.over
+    (g.S.Source.remaining c.args.source.now) (g.S.Source.remaining c.loop-done.source) c.loop-done.done
+    c.if-over.false c.loop-done.invariant.over c.loop-done-test.false c.loop-done.invariant.read

@@ -1,0 +1,101 @@
+-- What a run, an event or a service does to the outside.
+use Rattle.std.specs.Prelude.{◌≡◌, ◌≤◌, ℕ, Bool, false, true, List, [], Option, None, Some}
+use Rattle.std.specs.Io.KnownBytes.{append_known, prepend_known, IsAtEnd}
+use Rattle.tp_outside.specs.Faults.{HasRisen}
+use Rattle.tp_outside.specs.Streams.{TakesPrefix}
+use Rattle.cpu_8086.specs.State.{State}
+use Rattle.cpu_8086.specs.Process.{Status, Running, Ended, Stopped}
+use Rattle.dos_runner.specs.declared.runner.RunEnd.{RunEnd}
+use Rattle.dos_runner.specs.declared.runner.RunEnd.TheVariants as ends
+use Rattle.dos_runner.specs.Run.{Progress, IsRun}
+
+-- The bytes that the source has left and that the sinks have taken, where they are told, and the counts of faults.
+pub record Outside : Type 0 where
+  pub input : Option (List ℕ)
+  pub output : Option (List ℕ)
+  pub errors : Option (List ℕ)
+  pub input_faults : ℕ
+  pub output_faults : ℕ
+  pub errors_faults : ℕ
+
+-- No count of faults falls.
+pub record Counts (old new : Outside) : Type 0 where
+  pub input : old.input_faults ≤ new.input_faults
+  pub output : old.output_faults ≤ new.output_faults
+  pub errors : old.errors_faults ≤ new.errors_faults
+
+-- A source gave these bytes. Whether it is over, which it says once, is known before and afterwards: it is asked no
+-- more then, and has no byte left.
+pub record Gave (gained : List ℕ) (over over' : Bool) (old new : Option (List ℕ)) : Type 0 where
+  pub given : old ≡ prepend_known gained new
+  pub stays_over : over ≡ true → (gained ≡ []) × (over' ≡ true)
+  pub at_end : (over ≡ true → IsAtEnd old) → over' ≡ true → IsAtEnd new
+
+-- How a part of a run ended it, or None where the process goes on: the machine and the status that are left.
+abbrev pub Leaves : Option RunEnd → State → State → Status → Type 0
+Leaves None new last status = (last ≡ new) × (status ≡ Running)
+Leaves (Some (ends.Limit taken)) new last status = (last ≡ new) × (status ≡ Running)
+Leaves (Some (ends.Ended code)) new last status = status ≡ Ended code
+Leaves (Some (ends.Stopped cs ip why)) new last status = status ≡ Stopped cs ip why
+Leaves (Some ends.InputFault) new last status = status ≡ Running
+Leaves (Some ends.OutputFault) new last status = status ≡ Running
+Leaves (Some ends.ErrorsFault) new last status = status ≡ Running
+
+-- What the source gave. After its fault nothing is known.
+abbrev pub Reads : Option RunEnd → List ℕ → Bool → Bool → Option (List ℕ) → Option (List ℕ) → Type 0
+Reads (Some ends.InputFault) gained over over' old new = Unit {0}
+Reads end gained over over' old new = Gave gained over over' old new
+
+-- What the output took of the bytes that were written: all, but for its fault.
+abbrev pub Wrote : Option RunEnd → Option (List ℕ) → Option (List ℕ) → List ℕ → Type 0
+Wrote (Some ends.OutputFault) old new out = TakesPrefix old new out
+Wrote end old new out = new ≡ append_known old out
+
+-- The same of the errors.
+abbrev pub Told : Option RunEnd → Option (List ℕ) → Option (List ℕ) → List ℕ → Type 0
+Told (Some ends.ErrorsFault) old new err = TakesPrefix old new err
+Told end old new err = new ≡ append_known old err
+
+-- A fault was counted by what it names.
+abbrev pub Rose : Option RunEnd → Outside → Outside → Type 0
+Rose (Some ends.InputFault) old new = HasRisen old.input_faults new.input_faults
+Rose (Some ends.OutputFault) old new = HasRisen old.output_faults new.output_faults
+Rose (Some ends.ErrorsFault) old new = HasRisen old.errors_faults new.errors_faults
+Rose end old new = Unit {0}
+
+-- A part of a run made progress that is such: it left the machine at new, and the outside as o'.
+pub record Progresses (Is : Progress → Type 0) (end : Option RunEnd) (new : State) (over over' : Bool) (o o' : Outside) : Type 0 where
+  pub progress : Progress
+  pub does : Is progress
+  pub leaves : Leaves end new progress.machine progress.status
+  pub reads : Reads end progress.gained over over' o.input o'.input
+  pub wrote : Wrote end o.output o'.output progress.out
+  pub told : Told end o.errors o'.errors progress.err
+  pub rose : Rose end o o'
+
+-- The source failed in an event, which then did nothing else.
+pub record FailsReading (o o' : Outside) : Type 0 where
+  pub wrote : o'.output ≡ o.output
+  pub told : o'.errors ≡ o.errors
+  pub rose : HasRisen o.input_faults o'.input_faults
+
+-- What an event or a service does. It knows no limit.
+abbrev pub Advances : (Progress → Type 0) → Option RunEnd → State → Bool → Bool → Outside → Outside → Type 0
+Advances Is (Some ends.InputFault) new over over' o o' = FailsReading o o'
+Advances Is (Some (ends.Limit taken)) new over over' o o' = ⊥
+Advances Is end new over over' o o' = Progresses Is end new over over' o o'
+
+-- A run comes to its limit with as many events as were allowed.
+abbrev pub Limited : RunEnd → ℕ → ℕ → Type 0
+Limited (ends.Limit taken) events limit = (taken ≡ limit) × (events ≡ limit)
+Limited end events limit = Unit {0}
+
+-- A call that runs a process on the machine from old on ended so: what the run of at most so many events did, for
+-- each input that the source may have had. After an input fault that is the run before the event that asked for
+-- bytes. After a fault of the output or of the errors it is the run with the event whose bytes were not taken whole.
+pub record RunsTo (result : RunEnd) (limit : ℕ) (old new : State) (o o' : Outside) : Type 0 where
+  pub events : ℕ
+  pub bound : events ≤ limit
+  pub exhausted : Bool
+  pub run : Progresses (IsRun events old exhausted) (Some result) new false exhausted o o'
+  pub limited : Limited result events limit

@@ -1,0 +1,8 @@
+//! The DOS-like runner: a process runs on the 8086, and its DOS calls reach the outside.
+#![tactic(auto)]
+
+mod event;
+mod runner;
+mod transfer;
+
+pub use runner::{RunEnd, run};

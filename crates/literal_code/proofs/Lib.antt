@@ -1,0 +1,4 @@
+pub mod Stands
+pub mod Acts
+pub mod Placed
+pub mod Image
