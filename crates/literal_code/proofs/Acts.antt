@@ -105,16 +105,20 @@ Texts m d pool [] = Unit {0}
 Texts m d pool (act.Write from count ∷ acts) = (bytes_at m d from count ≡ take count (drop from pool)) × Texts m d pool acts
 Texts m d pool (act.Halt code ∷ acts) = Texts m d pool acts
 
-abbrev pub EndsSo : List ℕ → List ℕ → ℕ → Registers → List ℕ → List ℕ → ℕ → Type 0
-EndsSo m input taken g out out' code = (n : ℕ) × (g' : Registers) × Runs n (process m input taken g out) (over m input taken g' out' code)
+-- Within so many events the program has ended with a code.
+pub record EndsSo (m input : List ℕ) (taken : ℕ) (g : Registers) (out out' : List ℕ) (code most : ℕ) : Type 0 where
+  pub events : ℕ
+  pub last : Registers
+  pub runs : Runs events (process m input taken g out) (over m input taken last out' code)
+  pub few : events ≤ most
 
-pub acts_run : (m input : List ℕ) (taken : ℕ) (g : Registers) (out : List ℕ) (o d : ℕ) (pool : List ℕ) (acts : List Act) → IsReady g o d → o + acts_size acts ≤ 65535 → Stands m o (acts_code acts) → Texts m d pool acts → EndsSo m input taken g out (out ++ (mean (statements_in pool acts)).out) (mean (statements_in pool acts)).code
+pub acts_run : (m input : List ℕ) (taken : ℕ) (g : Registers) (out : List ℕ) (o d : ℕ) (pool : List ℕ) (acts : List Act) → IsReady g o d → o + acts_size acts ≤ 65535 → Stands m o (acts_code acts) → Texts m d pool acts → EndsSo m input taken g out (out ++ (mean (statements_in pool acts)).out) (mean (statements_in pool acts)).code (4 * length acts + 2)
 unfolding word_bytes
 acts_run m input taken g out o d pool [] ready fits stands texts =
     let r = halt_runs m input taken g out o d 0 ready fits stands in
     let e : out ++ [] ≡ out = append-nil out in
-    let P : List ℕ → Type 0 = λ w. EndsSo m input taken g out w 0 in
-    subst P (sym e) (2, r.0, r.1)
+    let P : List ℕ → Type 0 = λ w. EndsSo m input taken g out w 0 2 in
+    subst P (sym e) (record { events = 2; last = r.0; runs = r.1; few = omega arith })
 acts_run m input taken g out o d pool (act.Write from count ∷ acts) ready fits stands texts =
     let bytes : List ℕ = take count (drop from pool) in
     let first = write_runs m input taken g out o d from count ready (omega arith) (stands.0, (stands.1.0, (stands.1.1.0, (stands.1.1.1.0, tt)))) in
@@ -125,16 +129,24 @@ acts_run m input taken g out o d pool (act.Write from count ∷ acts) ready fits
     let code = (mean (statements_in pool acts)).code in
     let p = process m input taken g out in
     let middle = process m input taken first.0 (out ++ bytes_at m d from count) in
-    let last = over m input taken rest.1 ((out ++ bytes_at m d from count) ++ after) code in
-    let all : EndsSo m input taken g out ((out ++ bytes_at m d from count) ++ after) code = (4 + rest.0, rest.1, runs_compose 4 rest.0 p middle last first.1 rest.2) in
+    let last = over m input taken rest.last ((out ++ bytes_at m d from count) ++ after) code in
+    let few = rest.few in
+    let most : ℕ = 4 * suc (length acts) + 2 in
+    let all : EndsSo m input taken g out ((out ++ bytes_at m d from count) ++ after) code most = record {
+      events = 4 + rest.events;
+      last = rest.last;
+      runs = runs_compose 4 rest.events p middle last first.1 rest.runs;
+      few = omega arith;
+    } in
     let same : (out ++ bytes_at m d from count) ++ after ≡ out ++ (bytes ++ after) = ap (λ w. (out ++ w) ++ after) texts.0 ∙ append_assoc out bytes after in
-    let P : List ℕ → Type 0 = λ w. EndsSo m input taken g out w code in
+    let P : List ℕ → Type 0 = λ w. EndsSo m input taken g out w code most in
     subst P same all
 acts_run m input taken g out o d pool (act.Halt code ∷ acts) ready fits stands texts =
     let r = halt_runs m input taken g out o d code ready (omega arith) (stands.0, (stands.1.0, tt)) in
     let e : out ++ [] ≡ out = append-nil out in
-    let P : List ℕ → Type 0 = λ w. EndsSo m input taken g out w (code % 256) in
-    subst P (sym e) (2, r.0, r.1)
+    let most : ℕ = 4 * suc (length acts) + 2 in
+    let P : List ℕ → Type 0 = λ w. EndsSo m input taken g out w (code % 256) most in
+    subst P (sym e) (record { events = 2; last = r.0; runs = r.1; few = omega arith })
 
 pub start_runs : (m input : List ℕ) (taken : ℕ) (g : Registers) (out : List ℕ) (segment : ℕ) → g.ip ≡ 0 → Stands m 0 (start_code segment) → Comes 3 m input taken g out out 8 segment
 unfolding word_bytes word_modrm

@@ -1,4 +1,6 @@
 pub mod Stands
 pub mod Acts
 pub mod Placed
-pub mod Image
+pub mod ImageLaws
+pub mod Whole
+pub mod CodeLaws

@@ -1,6 +1,7 @@
-//! The 8086 code of a program of literals, and what it does.
+//! The 8086 code of a program of literals, and its executable.
 #![tactic(auto)]
 
-/// scratch
-pub fn law() {
-}
+mod code;
+mod image;
+
+pub use image::executable;

@@ -1,0 +1,29 @@
+-- When an executable does what a program of literals means.
+use Rattle.std.specs.Prelude.{◌≡◌, ℕ, ◌≤◌, List}
+use Rattle.cpu_8086.specs.Process.{Process, Ended}
+use Rattle.cpu_8086.specs.Run.{Runs}
+use Rattle.literal_form.specs.Statement as statement
+use Rattle.literal_form.specs.Statement.{Statement, mean}
+use Rattle.mz_file.specs.Format.{IsExecutable, exe_of}
+use Rattle.mz_file.specs.Load.{started, FitsWithBuffer}
+
+-- The process that the bytes start comes, after some number of events, to the end that is meant: with the same
+-- code, and the same bytes on its output and on its errors.
+pub record EndsAs (bytes input : List ℕ) (meant : statement.Ended) : Type 0 where
+  pub events : ℕ
+  pub last : Process
+  pub runs : Runs events (started bytes input) last
+  pub ends : last.status ≡ Ended meant.code
+  pub out : last.out ≡ meant.out
+  pub err : last.err ≡ meant.err
+
+-- The same after at most so many events.
+pub record EndsWithin (most : ℕ) (bytes input : List ℕ) (meant : statement.Ended) : Type 0 where
+  pub run : EndsAs bytes input meant
+  pub few : run.events ≤ most
+
+-- The bytes are an executable, and with any input and any buffer for overlays that fits below segment A000h they do
+-- what the statements mean.
+pub record Agrees (statements : List Statement) (bytes : List ℕ) : Type 0 where
+  pub executable : IsExecutable bytes
+  pub runs : (buffer : ℕ) → buffer ≤ 40960 → FitsWithBuffer (exe_of bytes) buffer → (input : List ℕ) → EndsAs bytes input (mean statements)

@@ -1,0 +1,142 @@
+//! The executable of a program of literals.
+
+ghost use Rattle.std.specs.Prelude.{◌≡◌, ◌≤◌, ◌++◌, ℕ, List, [], ◌∷◌, OnOk, IfOk, replicate};
+ghost use Rattle.literal_form.specs.Statement.{mean};
+ghost use Rattle.literal_form.specs.LiteralProgram.{statements_of};
+ghost use Rattle.mz_file.specs.Format.{Denotes};
+ghost use Rattle.mz_file.specs.Spelling.{IsWritable};
+ghost use Rattle.mz_file.specs.Load.{IsLoadable, paragraphs_taken};
+ghost use Rattle.literal_code.specs.Code.{start_code, error_code, spelled};
+ghost use Rattle.literal_code.specs.Image.{executable_of, image_of, data_segment, code_size};
+ghost use Rattle.literal_code.specs.Agrees.{Agrees, EndsWithin};
+
+use crate::code::{acts_code, push_error_routine, push_start};
+use cpu_8086::Far;
+use literal_form::LiteralProgram;
+use mz_file::{Block, Exe, FarList, Segments};
+use std::alloc::{AllocError, Global};
+use type_layout::Bytes;
+
+/// The size of the stack in bytes, as it is where a source doesn't say.
+const STACK_BYTES: u16 = 16384;
+
+/// The size of the heap in bytes.
+const HEAP_BYTES: u32 = 196_608;
+
+fn push_zeros(bytes: &mut Bytes, count: usize) -> Result<(), AllocError>
+    ensures { OnOk result (bytes.new ≡ bytes.old ++ replicate count 0) }
+{
+    for _ in 0..count {
+        bytes.push(0)?;
+    }
+    Ok(())
+}
+
+/// An image, and where its parts lie.
+#[derive(Drop)]
+struct Image {
+    bytes: Bytes,
+    data_segment: u16,
+    code_size: u16,
+}
+
+/// The parts of an image, one behind the other: the start, the code of the acts, the error routine, zeros, the texts,
+/// and the byte that says whether an overlay manager is installed.
+fn join(alloc: Global, segment: u16, body: &[u8], gap: usize, pool: &[u8]) -> Result<Bytes, AllocError>
+    ensures { IfOk result (λ bytes. bytes ≡ spelled (start_code segment) ++ body.now ++ spelled error_code
+        ++ replicate gap 0 ++ pool.now ++ 0 ∷ []) }
+{
+    let mut bytes = Bytes::new(alloc);
+    push_start(&mut bytes, segment)?;
+    bytes.extend_from_slice(body)?;
+    push_error_routine(&mut bytes)?;
+    push_zeros(&mut bytes, gap)?;
+    bytes.extend_from_slice(pool)?;
+    bytes.push(0)?;
+    Ok(bytes)
+}
+
+/// The code, and behind it the data.
+fn lay_out(alloc: Global, program: &LiteralProgram) -> Result<Image, AllocError>
+    ensures bytes { IfOk result (λ made. made.bytes ≡ image_of program.now.pool.items program.now.acts.items) }
+    ensures segment { IfOk result (λ made. made.data_segment ≡ data_segment program.now.acts.items) }
+    ensures size { IfOk result (λ made. made.code_size ≡ code_size program.now.acts.items) }
+{
+    let body = acts_code(alloc, program)?;
+    let size = 8 + body.len() + 4;
+    let data_segment = (size + 15) / 16;
+    let gap = 16 * data_segment - size;
+    let bytes = join(alloc, data_segment as u16, body.as_slice(), gap, program.pool.as_slice())?;
+    Ok(Image {
+        bytes,
+        data_segment: data_segment as u16,
+        code_size: size as u16,
+    })
+}
+
+/// The relocation of the data segment's word, in the first instruction.
+fn relocations(alloc: Global) -> Result<FarList, AllocError>
+    ensures { IfOk result (λ list. list ≡ record { offset = 1; segment = 0 } ∷ []) }
+{
+    let mut list = FarList::new(alloc);
+    list.push(Far {
+        offset: 1,
+        segment: 0,
+    })?;
+    Ok(list)
+}
+
+fn assemble(alloc: Global, program: &LiteralProgram) -> Result<Exe, AllocError>
+    ensures { IfOk result (λ exe. exe ≡ executable_of program.now.pool.items program.now.acts.items) }
+{
+    let Image {
+        bytes,
+        data_segment,
+        code_size,
+    } = lay_out(alloc, program)?;
+    let relocations = relocations(alloc)?;
+    Ok(Exe {
+        image: bytes,
+        relocations,
+        entry: Far {
+            offset: 0,
+            segment: 0,
+        },
+        stack: Far {
+            offset: STACK_BYTES,
+            segment: data_segment + (program.pool.len() as u16 + 1 + 15) / 16,
+        },
+        extra: (STACK_BYTES + 15) / 16 + ((HEAP_BYTES + 15) / 16) as u16,
+        block: Block {
+            stubs: Segments::new(alloc),
+            largest: 0,
+            error_routine: Far {
+                offset: code_size - 4,
+                segment: 0,
+            },
+            installed: Far {
+                offset: program.pool.len() as u16,
+                segment: data_segment,
+            },
+            stack: STACK_BYTES,
+            heap: HEAP_BYTES,
+            data_segment,
+            data_bytes: program.pool.len() as u16 + 1,
+        },
+    })
+}
+
+/// The executable of a program of literals. It does what the program means: each list of bytes that stands for it
+/// agrees with the program's statements, and its run is short.
+pub fn executable(alloc: Global, program: &LiteralProgram) -> Result<Exe, AllocError>
+    ensures writable { IfOk result IsWritable }
+    ensures loadable { IfOk result IsLoadable }
+    ensures agrees { IfOk result (λ exe. (bytes : List ℕ) →
+        Denotes bytes exe → Agrees (statements_of program.now) bytes) }
+    ensures short { IfOk result (λ exe. (bytes input : List ℕ) →
+        Denotes bytes exe → EndsWithin 16389 bytes input (mean (statements_of program.now))) }
+    ensures fits { IfOk result (λ exe. paragraphs_taken exe ≤ 0xA000) }
+{
+    let exe = assemble(alloc, program)?;
+    Ok(exe)
+}
