@@ -1,9 +1,8 @@
 -- What each type of a table gives, as the table grows.
-use Rattle.std.proofs.Common.{◌≡◌, ℕ, ◌+◌, List, [], ◌∷◌, ◌++◌, length, refl, arith, sym, ap, ◌∙◌, subst, append_assoc, length-append, get_or, ◌<◌, append-nil, zero-add}
+use Rattle.std.proofs.Common.{◌≡◌, ℕ, ◌+◌, List, [], ◌∷◌, ◌++◌, length, refl, arith, ◌∙◌, append_assoc, length-append, get_or, ◌<◌, append-nil, zero-add}
 use Rattle.std.proofs.Math.ListN.{get_or-append}
 use Rattle.std.proofs.Math.Seq.{get_or-append_seam}
 use Rattle.type_layout.specs.declared.definitions.TypeDef.{TypeDef}
-use Rattle.type_layout.specs.declared.layout.Layout.{Layout}
 use Rattle.type_layout.specs.Layouts.{given_by, layout_by, layouts_of}
 
 pub length-given_by : {A : Type 0} (rule : List TypeDef → List A → TypeDef → A) (before : List TypeDef) (given : List A) (types : List TypeDef)
@@ -12,14 +11,14 @@ length-given_by rule before given [] = omega arith
 length-given_by {A} rule before given (one ∷ rest) =
     let more : List A = given ++ rule before given one ∷ [] in
     let rec : length (given_by rule (before ++ one ∷ []) more rest) ≡ length more + length rest =
-        length-given_by rule (before ++ one ∷ []) more rest in
+    length-given_by rule (before ++ one ∷ []) more rest in
     let len : length more ≡ length given + 1 = length-append given (rule before given one ∷ []) in
     omega arith
 
 -- a table that grows by one type gives what it gave, and what the rule gives at that type
 pub given_by-push : {A : Type 0} (rule : List TypeDef → List A → TypeDef → A) (before : List TypeDef) (given : List A) (types : List TypeDef) (one : TypeDef)
     → given_by rule before given (types ++ one ∷ [])
-      ≡ given_by rule before given types ++ rule (before ++ types) (given_by rule before given types) one ∷ []
+    ≡ given_by rule before given types ++ rule (before ++ types) (given_by rule before given types) one ∷ []
 given_by-push rule before given [] one = rw append-nil refl
 given_by-push rule before given (first ∷ rest) one =
     let rec = given_by-push rule (before ++ first ∷ []) (given ++ rule before given first ∷ []) rest one in

@@ -2,3 +2,4 @@ pub mod Given
 pub mod WellFormed
 pub mod Local
 pub mod Measured
+pub mod FieldPlaces

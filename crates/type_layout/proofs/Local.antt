@@ -1,16 +1,14 @@
 -- What a type takes depends on the types before it alone.
-use Rattle.std.proofs.Common.{◌≡◌, ℕ, zero, suc, ◌+◌, ◌<◌, List, [], ◌∷◌, ◌++◌, length, get_or, Option, Some, None, refl, arith, sym, ap, ◌∙◌, subst, append-nil}
-use Rattle.std.specs.List.{All, sum_by, slice_get}
+use Rattle.std.proofs.Common.{◌≡◌, ℕ, zero, suc, ◌+◌, ◌<◌, List, [], ◌∷◌, ◌++◌, length, Option, Some, None, refl, arith, sym, ap, ◌∙◌}
+use Rattle.std.specs.List.{All, slice_get}
 use Rattle.std.proofs.lemmas.List.Sums.{sum_by-cons}
 use Rattle.std.proofs.lemmas.List.Elements.{All-head, All-tail}
-use Rattle.std.proofs.lemmas.Option.{slice_get_within}
 use Rattle.type_layout.specs.declared.definitions.TypeId.{TypeId}
 use Rattle.type_layout.specs.declared.definitions.Field.{Field}
 use Rattle.type_layout.specs.declared.definitions.TypeDef.{TypeDef}
 use Rattle.type_layout.specs.declared.definitions.TypeDef.TheVariants.{Ordinal, Str, SetOf, ArrayOf, RecordOf, PointerTo, ObjectOf, Procedural}
 use Rattle.type_layout.specs.declared.layout.Layout.{Layout}
-use Rattle.type_layout.specs.Layouts.{bounds_at, bounds_of, plain, layout_in, size_in, fields_size, inherited, object_by, layout_by, layouts_of, placed_from, offsets_in, offsets_by, offsets_of}
-use Rattle.type_layout.specs.Storage.{count_between, set_bytes}
+use Rattle.type_layout.specs.Layouts.{bounds_at, bounds_of, plain, layout_in, size_in, fields_size, inherited, layout_by, layouts_of, placed_from, offsets_in, offsets_by, offsets_of}
 use Rattle.type_layout.specs.Table.{IsOrdinal, IsByteRange, IsObject, IsAncestor, IsDefinedOver}
 use Rattle.type_layout.proofs.Given.{get_or-given_by-front}
 
@@ -44,8 +42,8 @@ fields_size-same old new n (field ∷ fields) same within =
     let rec = fields_size-same old new n fields same (All-tail (λ (f : Field). f.ty.0 < n) field fields within) in
     let here = same field.ty (All-head (λ (f : Field). f.ty.0 < n) field fields within) in
     sum_by-cons (λ (f : Field). size_in new f.ty) field fields
-      ∙ omega (arith, rec, here)
-      ∙ sym (sum_by-cons (λ (f : Field). size_in old f.ty) field fields)
+    ∙ omega (arith, rec, here)
+    ∙ sym (sum_by-cons (λ (f : Field). size_in old f.ty) field fields)
 
 placed_from-same : (old new : List Layout) (n at : ℕ) (fields : List Field)
     → ((id : TypeId) → id.0 < n → size_in new id ≡ size_in old id)
@@ -100,6 +98,9 @@ module _ (front back : List TypeDef) where
       placed_from-same (layouts_of front) (layouts_of (front ++ back)) (length front) 0 fields size-front is
   offsets_by-front (PointerTo target) is = refl
   offsets_by-front (ObjectOf parent dynamic fields methods) is =
-      rw (offsets-front parent is.0, inherited-front parent is.0,
-        placed_from-same (layouts_of front) (layouts_of (front ++ back)) (length front) (inherited (layouts_of front) parent).size fields size-front is.1) refl
+      rw (
+        offsets-front parent is.0,
+        inherited-front parent is.0,
+        placed_from-same (layouts_of front) (layouts_of (front ++ back)) (length front) (inherited (layouts_of front) parent).size fields size-front is.1,
+      ) refl
   offsets_by-front (Procedural header) is = refl

@@ -1,5 +1,5 @@
 -- The equations of layouts and offsets, at each type of a well-formed table.
-use Rattle.std.proofs.Common.{◌≡◌, ℕ, zero, suc, ◌+◌, ◌<◌, List, [], ◌∷◌, ◌++◌, length, get_or, Option, Some, None, refl, arith, sym, ap, ◌∙◌, subst, append_assoc, length-append}
+use Rattle.std.proofs.Common.{◌≡◌, ℕ, zero, suc, ◌+◌, List, [], ◌∷◌, ◌++◌, length, Some, refl, arith, sym, ◌∙◌, subst, append_assoc, length-append}
 use Rattle.std.specs.List.{slice_get}
 use Rattle.type_layout.specs.declared.definitions.TypeId.{TypeId}
 use Rattle.type_layout.specs.declared.definitions.TypeDef.{TypeDef}
@@ -53,6 +53,6 @@ offsets-round types id one r =
 
 pub is_measured : (types : List TypeDef) → AllDefined [] types → IsMeasured types
 is_measured types all = record {
-    layouts = λ id one found. layout-round types id one (round types id.0 one all found);
-    offsets = λ id one found. offsets-round types id one (round types id.0 one all found);
-  }
+  layouts = λ id one found. layout-round types id one (round types id.0 one all found);
+  offsets = λ id one found. offsets-round types id one (round types id.0 one all found);
+}

@@ -1,5 +1,5 @@
 -- A table stays well formed as it grows.
-use Rattle.std.proofs.Common.{◌≡◌, ℕ, ◌+◌, ◌<◌, ◌≤◌, ◌^◌, List, [], ◌∷◌, ◌++◌, length, Option, Some, None, cond, true, false, Bool, refl, arith, sym, ap, ◌∙◌, subst, append_assoc, length-append, append-nil}
+use Rattle.std.proofs.Common.{◌≡◌, ℕ, ◌+◌, ◌<◌, ◌≤◌, ◌^◌, List, [], ◌∷◌, ◌++◌, length, Some, None, cond, refl, arith, sym, subst, append_assoc, length-append, append-nil}
 use Rattle.std.specs.List.{All, position}
 use Rattle.std.proofs.lemmas.List.Elements.{All-push, All-weaker}
 use Rattle.std.proofs.lemmas.List.Quantifiers.{position-Some}
@@ -8,8 +8,8 @@ use Rattle.type_layout.specs.declared.definitions.Origin.{Origin}
 use Rattle.type_layout.specs.declared.layout.Layout.{Layout}
 use Rattle.type_layout.specs.Words.{same_bytes}
 use Rattle.type_layout.specs.Layouts.{layout_by, layouts_of, size_over}
-use Rattle.type_layout.specs.Table.{Table, IsWellFormed, IsKept, IsAddable, IsDefinedOver, AllDefined, place_of, with_unit, with_type}
-use Rattle.type_layout.proofs.Given.{layouts_of-push, length-layouts_of}
+use Rattle.type_layout.specs.Table.{Table, IsKept, IsAddable, IsDefinedOver, AllDefined, place_of, with_unit, with_type}
+use Rattle.type_layout.proofs.Given.{layouts_of-push}
 
 pub AllDefined-push : (before types : List TypeDef) (one : TypeDef) → AllDefined before types → IsDefinedOver (before ++ types) one
     → AllDefined before (types ++ one ∷ [])
@@ -39,13 +39,13 @@ with_type-kept table layouts origin number one kept addable small few few_units 
       well_formed = record {
         defined = AllDefined-push [] table.types one well.defined addable.defined;
         fits = rw layouts_of-push (All-push (λ (layout : Layout). layout.size ≤ 65520) (layouts_of table.types)
-          (layout_by table.types (layouts_of table.types) one) well.fits small);
+            (layout_by table.types (layouts_of table.types) one) well.fits small);
         origins = omega (arith, well.origins, length-append table.origins ((record { unit = place_of table.units origin; number = number }) ∷ []), length-append table.types (one ∷ []));
         known = All-push (λ (o : Origin). o.unit < length (with_unit table.units origin)) table.origins
-          (record { unit = place_of table.units origin; number = number })
-          (All-weaker (λ (o : Origin). o.unit < length table.units) (λ (o : Origin). o.unit < length (with_unit table.units origin))
+            (record { unit = place_of table.units origin; number = number })
+            (All-weaker (λ (o : Origin). o.unit < length table.units) (λ (o : Origin). o.unit < length (with_unit table.units origin))
             (λ o h. omega (arith, units.0)) table.origins well.known)
-          units.1;
+            units.1;
         few = omega (arith, length-append table.types (one ∷ []));
         few_units = few_units;
       };

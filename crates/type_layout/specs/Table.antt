@@ -1,8 +1,6 @@
 -- A table of types.
-use Rattle.std.specs.Prelude.{◌≡◌, ℕ, ◌+◌, ◌^◌, ◌<◌, ◌≤◌, ℤ, pos, ◌≤ℤ◌, Bool, List, [], ◌∷◌, ◌++◌, All, Option, Some, None, length, slice_get, position, unwrap_or, cond, is_some}
+use Rattle.std.specs.Prelude.{◌≡◌, ℕ, ◌^◌, ◌<◌, ◌≤◌, pos, ◌≤ℤ◌, List, [], ◌∷◌, ◌++◌, All, Option, Some, None, length, slice_get, position, unwrap_or, cond, is_some}
 use Rattle.type_layout.specs.declared.definitions.TypeId.{TypeId}
-use Rattle.type_layout.specs.declared.definitions.Field.{Field}
-use Rattle.type_layout.specs.declared.definitions.Method.{Method}
 use Rattle.type_layout.specs.declared.definitions.TypeDef.{TypeDef}
 use Rattle.type_layout.specs.declared.definitions.TypeDef.TheVariants.{Ordinal, Str, SetOf, ArrayOf, RecordOf, PointerTo, ObjectOf, Procedural}
 use Rattle.type_layout.specs.declared.definitions.Origin.{Origin}
@@ -86,7 +84,7 @@ pub record IsAddable (table : Table) (origin : List ℕ) (one : TypeDef) : Type 
 -- a table after a type was added
 abbrev pub with_type : Table → List ℕ → ℕ → TypeDef → Table
 with_type table origin number one = record {
-    types = table.types ++ one ∷ [];
-    origins = table.origins ++ (record { unit = place_of table.units origin; number = number }) ∷ [];
-    units = with_unit table.units origin
-  }
+  types = table.types ++ one ∷ [];
+  origins = table.origins ++ (record { unit = place_of table.units origin; number = number }) ∷ [];
+  units = with_unit table.units origin;
+}

@@ -108,7 +108,11 @@ pub(crate) fn layout_over(types: &[TypeDef], layouts: &[Layout], one: &TypeDef, 
     ensures { result ≡ layout_by types.now layouts.now one.now }
 {
     let class_field = match one {
-        TypeDef::ObjectOf { parent, dynamic, .. } => class_field(inherited(layouts, *parent), *dynamic, size),
+        TypeDef::ObjectOf {
+            parent,
+            dynamic,
+            ..
+        } => class_field(inherited(layouts, *parent), *dynamic, size),
         _ => None,
     };
     Layout { size, class_field }

@@ -1,11 +1,12 @@
 //! The table of types.
 
-ghost use Rattle.std.specs.Prelude.{◌≡◌, ◌+◌, ◌-◌, ◌^◌, ◌<◌, ◌≤◌, ◌∷◌, [], ◌++◌, ◌↔◌, ℕ, min, Some, Err, IfOk, IfSome, OnOk, OnErr, IsOk, length, slice_get, position, vec_len, vec_capacity, IfErr};
+ghost use Rattle.std.specs.Prelude.{All, IsTrue, ◌≡◌, ◌+◌, ◌-◌, ◌^◌, ◌<◌, ◌≤◌, ◌∷◌, [], ◌++◌, ◌↔◌, ℕ, min, Some, Err, IfOk, IfSome, OnOk, OnErr, IsOk, length, slice_get, position, vec_len, vec_capacity, IfErr};
 ghost use Rattle.type_layout.specs.Words.{same_bytes};
-ghost use Rattle.type_layout.specs.Layouts.{layouts_of, size_over};
+ghost use Rattle.type_layout.specs.Layouts.{layouts_of, size_over, HasFieldsOf, IsMeasured};
 ghost use Rattle.type_layout.specs.Table.{IsWellFormed, IsAddable, place_of, with_unit, with_type};
 
 use crate::layout::{Layout, layout_over, size_over};
+use crate::wanted::{has_methods_of, is_defined_over};
 use crate::{Name, Names, Origin, TypeDef, TypeId};
 use std::alloc::{AllocError, Global};
 use std::marker::Model;
@@ -107,6 +108,15 @@ impl Types {
         }
     }
 
+    /// Whether the table takes this type, if its size is no hindrance: its parts by value have smaller ids and
+    /// are of the right kind, and the routines of its methods are of the unit that is its origin.
+    pub fn takes(&self, origin: &Name, one: &TypeDef) -> bool
+        ensures { IsTrue result ↔ IsAddable self.now origin.now one.now }
+    {
+        let unit = place_of(&self.units, origin).unwrap_or(self.units.len());
+        is_defined_over(self.types.as_slice(), one) && has_methods_of(unit, one)
+    }
+
     /// Adds a type with its origin: the unit that declares it, and a number in that unit.
     pub fn add(&mut self, origin: Name, number: u32, one: TypeDef) -> Result<TypeId, TypeError>
         requires { IsAddable self.old origin one }
@@ -124,7 +134,12 @@ impl Types {
         if place >= MOST {
             return Err(TypeError::NoMemory);
         }
-        let layout = layout_over(self.types.as_slice(), self.layouts.as_slice(), &one, size as u32);
+        let layout = layout_over(
+            self.types.as_slice(),
+            self.layouts.as_slice(),
+            &one,
+            size as u32,
+        );
         self.types.reserve(1)?;
         self.origins.reserve(1)?;
         self.layouts.reserve(1)?;
@@ -139,6 +154,7 @@ impl Types {
     pub fn count(&self) -> u32
         ensures value { result ≡ length self.now.types }
         ensures well_formed { IsWellFormed self.now }
+        ensures measured { IsMeasured self.now.types }
     {
         self.types.len() as u32
     }
@@ -147,6 +163,15 @@ impl Types {
     pub fn get(&self, id: TypeId) -> &TypeDef
         requires { id.0 < length self.now.types }
         ensures { slice_get self.now.types id.0 ≡ Some result.now }
+    {
+        &self.types[id.0 as usize]
+    }
+
+    // The type with this id, and how its fields lie in it.
+    pub(crate) fn get_laid(&self, id: TypeId) -> &TypeDef
+        requires { id.0 < length self.now.types }
+        ensures is { slice_get self.now.types id.0 ≡ Some result.now }
+        ensures fields { HasFieldsOf self.now.types id result.now }
     {
         &self.types[id.0 as usize]
     }
@@ -169,7 +194,9 @@ impl Types {
 
     /// The sizes and class fields of the types.
     pub(crate) fn layouts(&self) -> &[Layout]
-        ensures { result.now ≡ layouts_of self.now.types }
+        ensures value { result.now ≡ layouts_of self.now.types }
+        ensures count { length result.now ≡ length self.now.types }
+        ensures fits { All (λ layout. layout.size ≤ TYPE_LIMIT) result.now }
     {
         self.layouts.as_slice()
     }
