@@ -1,5 +1,5 @@
 -- The parts of a run, one behind the other.
-use Rattle.std.proofs.Common.{◌≡◌, ℕ, zero, suc, ◌+◌, ◌<◌, ◌≤◌, Bool, true, false, List, [], ◌∷◌, ◌++◌, length, length-append, take, drop, refl, sym, ap, ◌∙◌, subst, arith, append_assoc, Option, None, Some, inl, inr}
+use Rattle.std.proofs.Common.{◌≡◌, ℕ, ◌+◌, ◌<◌, ◌≤◌, Bool, true, false, List, [], ◌++◌, length, length-append, take, drop, refl, sym, ap, ◌∙◌, subst, arith, append_assoc, Option, None, Some, inl, inr}
 use Rattle.std.proofs.Math.Seq.{take-append-add, drop-append_seam}
 use Rattle.std.specs.Io.KnownBytes.{append_known, prepend_known, IsAtEnd}
 use Rattle.tp_outside.specs.Faults.{HasRisen}
@@ -12,7 +12,7 @@ use Rattle.cpu_8086.proofs.RunLaws.{runs_one, runs_compose}
 use Rattle.dos_runner.specs.declared.runner.RunEnd.{RunEnd}
 use Rattle.dos_runner.specs.declared.runner.RunEnd.TheVariants as ends
 use Rattle.dos_runner.specs.Run.{running, process_of, IsInput, Progress, advanced, IsRun, IsEvent}
-use Rattle.dos_runner.specs.Outside.{Outside, Counts, Gave, Leaves, Reads, Wrote, Told, Rose, Progresses, FailsReading, Advances, Limited, RunsTo}
+use Rattle.dos_runner.specs.Outside.{Outside, Counts, Gave, Reads, Wrote, Told, Rose, Progresses, Advances, RunsTo}
 
 pub prepend_known-nil : (known : Option (List ℕ)) → prepend_known [] known ≡ known
 prepend_known-nil None = refl
