@@ -138,16 +138,6 @@ further end events start now new over over' o o1 o2 counts before event gave =
 pub goes_on : (events : ℕ) (start now new : State) (over over' : Bool) (o o1 o2 : Outside) → Counts o o1 → Progresses (IsRun events start over) None now false over o o1 → Advances (IsEvent now over') None new over over' o1 o2 → Progresses (IsRun (events + 1) start over') None new false over' o o2
 goes_on events start now new over over' o o1 o2 counts before event = further None events start now new over over' o o1 o2 counts before event event.reads
 
--- the run has come to its limit
-pub comes_to_limit : (limit : ℕ) (start now : State) (over : Bool) (o o1 : Outside) → Progresses (IsRun limit start over) None now false over o o1 → RunsTo (ends.Limit limit) limit start now o o1
-comes_to_limit limit start now over o o1 before = record {
-  events = limit;
-  bound = omega arith;
-  exhausted = over;
-  run = record { progress = before.progress; does = before.does; leaves = before.leaves; reads = before.reads; wrote = before.wrote; told = before.told; rose = tt };
-  limited = (refl, refl);
-}
-
 -- the event ends the run
 pub ends_by : (end : RunEnd) (events limit : ℕ) (start now new : State) (over over' : Bool) (o o1 o2 : Outside) → events < limit → Counts o o1 → Progresses (IsRun events start over) None now false over o o1 → Advances (IsEvent now over') (Some end) new over over' o1 o2 → RunsTo end limit start new o o2
 ends_by (ends.Ended code) events limit start now new over over' o o1 o2 below counts before event = record {

@@ -1,5 +1,5 @@
 -- What a call that runs a process tells, where the process is known to end.
-use Rattle.std.proofs.Common.{◌≡◌, ◌≢◌, ℕ, zero, suc, ◌+◌, ◌-◌, ◌==◌, ◌/◌, ◌<◌, ◌≤◌, Bool, true, false, List, [], ◌∷◌, ◌++◌, length, length-append, take, refl, sym, ap, ◌∙◌, subst, arith, append_assoc, append-nil, Option, None, Some, inl, inr}
+use Rattle.std.proofs.Common.{◌≡◌, ◌≢◌, ℕ, zero, suc, ◌+◌, ◌-◌, ◌==◌, ◌/◌, ◌<◌, ◌≤◌, Bool, true, false, List, [], ◌++◌, length, length-append, take, refl, sym, ap, ◌∙◌, subst, arith, append_assoc, append-nil, Option, inl, inr}
 use Rattle.std.specs.Prelude.{if◌then◌else◌}
 use Rattle.std.proofs.lemmas.Bool.{cases_lt}
 use Rattle.std.proofs.lemmas.List.{take-append-le, take_all}
@@ -44,12 +44,12 @@ split (suc m) n p r runs =
 longest : (m n : ℕ) (p q r : Process) → Runs m p q → q.status ≢ Running → Runs n p r → n ≤ m
 longest m n p q r final over runs =
     let longer : m < n → ⊥ = λ h.
-        let e : n ≡ m + suc (n - (m + 1)) = omega arith in
-        let R : ℕ → Type 0 = λ k. Runs k p r in
-        let parts = split m (suc (n - (m + 1))) p r (subst R e runs) in
-        let same : parts.0 ≡ q = runs_deterministic m p parts.0 q parts.1 final in
-        let next : Goes parts.0 parts.2.0 = parts.2.1 in
-        over (ap (λ (x : Process). x.status) (sym same) ∙ next.running) in
+    let e : n ≡ m + suc (n - (m + 1)) = omega arith in
+    let R : ℕ → Type 0 = λ k. Runs k p r in
+    let parts = split m (suc (n - (m + 1))) p r (subst R e runs) in
+    let same : parts.0 ≡ q = runs_deterministic m p parts.0 q parts.1 final in
+    let next : Goes parts.0 parts.2.0 = parts.2.1 in
+    over (ap (λ (x : Process). x.status) (sym same) ∙ next.running) in
     elim (cases_lt m n) [ inl h ↦ absurd (longer h) | inr h ↦ h ]
 
 -- two runs that end are one
@@ -223,9 +223,9 @@ concludes (ends.Limit taken) limit start new code out err known o o' called =
     let count : called.events ≡ limit = called.limited.1 in
     let running : progress.status ≡ Running = called.run.leaves.1 in
     let differs : k.events ≡ called.events → ⊥ = λ e.
-        let R : ℕ → Type 0 = λ n. Runs n p k.last in
-        let same : q ≡ k.last = runs_deterministic called.events p q k.last runs (subst R e k.runs) in
-        over (ap (λ (x : Process). x.status) (sym same) ∙ running) in
+    let R : ℕ → Type 0 = λ n. Runs n p k.last in
+    let same : q ≡ k.last = runs_deterministic called.events p q k.last runs (subst R e k.runs) in
+    over (ap (λ (x : Process). x.status) (sym same) ∙ running) in
     let longer : limit < k.events = elim (cases_lt limit k.events) [ inl h ↦ h | inr h ↦ absurd (differs (omega arith)) ] in
     (called.limited.0, (input, longer))
 concludes ends.InputFault limit start new code out err known o o' called =
