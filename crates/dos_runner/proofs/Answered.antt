@@ -1,15 +1,15 @@
 -- What a service or an event does to the outside, by how it ends.
-use Rattle.std.proofs.Common.{◌≡◌, ℕ, Bool, List, [], refl, sym, ap, ◌∙◌, Option, None, Some}
+use Rattle.std.proofs.Common.{◌≡◌, ℕ, Bool, List, [], refl, sym, Option, None, Some}
 use Rattle.std.specs.Io.KnownBytes.{append_known}
 use Rattle.tp_outside.specs.Faults.{HasRisen}
 use Rattle.tp_outside.specs.Streams.{TakesPrefix}
 use Rattle.cpu_8086.specs.declared.process.Why.{Why}
 use Rattle.cpu_8086.specs.State.{State}
-use Rattle.cpu_8086.specs.Process.{Status, Running, Ended, Stopped}
+use Rattle.cpu_8086.specs.Process.{Running, Ended, Stopped}
 use Rattle.dos_runner.specs.declared.runner.RunEnd.{RunEnd}
 use Rattle.dos_runner.specs.declared.runner.RunEnd.TheVariants as ends
 use Rattle.dos_runner.specs.Run.{Progress}
-use Rattle.dos_runner.specs.Outside.{Outside, Gave, Progresses, FailsReading, Advances}
+use Rattle.dos_runner.specs.Outside.{Outside, Gave, Progresses, Advances}
 use Rattle.dos_runner.proofs.Composition.{gave_none, took_none}
 
 -- the outside by its parts

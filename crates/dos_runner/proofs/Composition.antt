@@ -1,5 +1,5 @@
 -- The parts of a run, one behind the other.
-use Rattle.std.proofs.Common.{◌≡◌, ℕ, zero, suc, ◌+◌, ◌<◌, ◌≤◌, Bool, true, false, List, [], ◌∷◌, ◌++◌, length, length-append, take, drop, refl, sym, ap, ◌∙◌, subst, arith, append_assoc, Option, None, Some, inl, inr}
+use Rattle.std.proofs.Common.{◌≡◌, ℕ, ◌+◌, ◌<◌, ◌≤◌, Bool, true, false, List, [], ◌++◌, length, length-append, take, drop, refl, sym, ap, ◌∙◌, subst, arith, append_assoc, Option, None, Some, inl, inr}
 use Rattle.std.proofs.Math.Seq.{take-append-add, drop-append_seam}
 use Rattle.std.specs.Io.KnownBytes.{append_known, prepend_known, IsAtEnd}
 use Rattle.tp_outside.specs.Faults.{HasRisen}
@@ -12,7 +12,7 @@ use Rattle.cpu_8086.proofs.RunLaws.{runs_one, runs_compose}
 use Rattle.dos_runner.specs.declared.runner.RunEnd.{RunEnd}
 use Rattle.dos_runner.specs.declared.runner.RunEnd.TheVariants as ends
 use Rattle.dos_runner.specs.Run.{running, process_of, IsInput, Progress, advanced, IsRun, IsEvent}
-use Rattle.dos_runner.specs.Outside.{Outside, Counts, Gave, Leaves, Reads, Wrote, Told, Rose, Progresses, FailsReading, Advances, Limited, RunsTo}
+use Rattle.dos_runner.specs.Outside.{Outside, Counts, Gave, Reads, Wrote, Told, Rose, Progresses, Advances, RunsTo}
 
 pub prepend_known-nil : (known : Option (List ℕ)) → prepend_known [] known ≡ known
 prepend_known-nil None = refl
@@ -137,16 +137,6 @@ further end events start now new over over' o o1 o2 counts before event gave =
 -- the process goes on
 pub goes_on : (events : ℕ) (start now new : State) (over over' : Bool) (o o1 o2 : Outside) → Counts o o1 → Progresses (IsRun events start over) None now false over o o1 → Advances (IsEvent now over') None new over over' o1 o2 → Progresses (IsRun (events + 1) start over') None new false over' o o2
 goes_on events start now new over over' o o1 o2 counts before event = further None events start now new over over' o o1 o2 counts before event event.reads
-
--- the run has come to its limit
-pub comes_to_limit : (limit : ℕ) (start now : State) (over : Bool) (o o1 : Outside) → Progresses (IsRun limit start over) None now false over o o1 → RunsTo (ends.Limit limit) limit start now o o1
-comes_to_limit limit start now over o o1 before = record {
-  events = limit;
-  bound = omega arith;
-  exhausted = over;
-  run = record { progress = before.progress; does = before.does; leaves = before.leaves; reads = before.reads; wrote = before.wrote; told = before.told; rose = tt };
-  limited = (refl, refl);
-}
 
 -- the event ends the run
 pub ends_by : (end : RunEnd) (events limit : ℕ) (start now new : State) (over over' : Bool) (o o1 o2 : Outside) → events < limit → Counts o o1 → Progresses (IsRun events start over) None now false over o o1 → Advances (IsEvent now over') (Some end) new over over' o1 o2 → RunsTo end limit start new o o2

@@ -1,6 +1,7 @@
 pub mod Answered
 pub mod BytesAt
 pub mod Composition
+pub mod Conclusion
 pub mod Reading
 pub mod Services
 pub mod WithBytes

@@ -1,5 +1,5 @@
 -- Parts of a run: what they do to a process.
-use Rattle.std.specs.Prelude.{◌≡◌, ℕ, zero, ◌+◌, Bool, true, List, [], ◌++◌, length, drop}
+use Rattle.std.specs.Prelude.{◌≡◌, ℕ, ◌+◌, Bool, true, List, [], ◌++◌, length, drop}
 use Rattle.cpu_8086.specs.State.{State}
 use Rattle.cpu_8086.specs.Process.{Process, Status, Running, serviced}
 use Rattle.cpu_8086.specs.Run.{Goes, Runs}

@@ -6,3 +6,6 @@ mod runner;
 mod transfer;
 
 pub use runner::{RunEnd, run};
+
+#[cfg(test)]
+mod tests;

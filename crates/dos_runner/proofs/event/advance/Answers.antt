@@ -1,8 +1,8 @@
-use Rattle.std.proofs.Common.{◌≡◌, refl, sym}
+use Rattle.std.proofs.Common.{refl, sym}
 use Rattle.cpu_8086.specs.declared.process.Why.TheVariants as why
 use Rattle.dos_runner.specs.Outside.{Outside}
 use Rattle.dos_runner.specs.Run.{IsEvent, IsService}
-use Rattle.dos_runner.proofs.Answered.{outside, IsQuiet, goes_quietly, stops_quietly, advances_so}
+use Rattle.dos_runner.proofs.Answered.{outside, goes_quietly, stops_quietly, advances_so}
 use Rattle.dos_runner.proofs.Services.{ran, divides_by_zero, meets_unknown, is_served}
 use Rattle.dos_runner.proofs.event.advance.Goals as goal
 

@@ -1,8 +1,8 @@
-use Rattle.std.proofs.Common.{◌≡◌, ℕ, ◌∙◌, ◌/◌, ◌%◌, refl, sym, ap}
+use Rattle.std.proofs.Common.{ℕ, ◌∙◌, ◌/◌, ◌%◌, refl, sym, ap}
 use Rattle.cpu_8086.specs.declared.process.Why.TheVariants as why
 use Rattle.dos_runner.specs.Outside.{Outside}
 use Rattle.dos_runner.specs.Run.{IsService}
-use Rattle.dos_runner.proofs.Answered.{outside, IsQuiet, ends_quietly, stops_quietly}
+use Rattle.dos_runner.proofs.Answered.{outside, ends_quietly, stops_quietly}
 use Rattle.dos_runner.proofs.Services.{exits, has_no_function}
 use Rattle.dos_runner.proofs.event.dos_call.Goals as goal
 

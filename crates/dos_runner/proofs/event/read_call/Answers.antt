@@ -3,7 +3,7 @@ use Rattle.cpu_8086.specs.Process.{answered}
 use Rattle.std.specs.Prelude.{true}
 use Rattle.dos_runner.specs.Outside.{Outside}
 use Rattle.dos_runner.specs.Run.{IsService}
-use Rattle.dos_runner.proofs.Answered.{outside, IsQuiet, goes_quietly}
+use Rattle.dos_runner.proofs.Answered.{outside, goes_quietly}
 use Rattle.dos_runner.proofs.Services.{read_goes_on, reads_nowhere}
 use Rattle.dos_runner.proofs.event.read_call.Goals as goal
 

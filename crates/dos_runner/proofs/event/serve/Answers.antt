@@ -1,8 +1,8 @@
-use Rattle.std.proofs.Common.{◌≡◌, refl}
+use Rattle.std.proofs.Common.{refl}
 use Rattle.cpu_8086.specs.declared.process.Why.TheVariants as why
 use Rattle.dos_runner.specs.Outside.{Outside}
 use Rattle.dos_runner.specs.Run.{IsService}
-use Rattle.dos_runner.proofs.Answered.{outside, IsQuiet, goes_quietly, stops_quietly}
+use Rattle.dos_runner.proofs.Answered.{outside, goes_quietly, stops_quietly}
 use Rattle.dos_runner.proofs.Services.{only_goes_on, has_no_stub, has_no_service}
 use Rattle.dos_runner.proofs.event.serve.Goals as goal
 

@@ -1,9 +1,9 @@
-use Rattle.std.proofs.Common.{◌≡◌, ◌∙◌, refl}
+use Rattle.std.proofs.Common.{◌∙◌, refl}
 use Rattle.std.specs.Prelude.{true}
 use Rattle.cpu_8086.specs.Process.{answered}
 use Rattle.dos_runner.specs.Outside.{Outside}
 use Rattle.dos_runner.specs.Run.{IsService}
-use Rattle.dos_runner.proofs.Answered.{outside, IsQuiet, goes_quietly}
+use Rattle.dos_runner.proofs.Answered.{outside, goes_quietly}
 use Rattle.dos_runner.proofs.Services.{writes_nowhere}
 use Rattle.dos_runner.proofs.event.write_call.Goals as goal
 

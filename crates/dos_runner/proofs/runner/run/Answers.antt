@@ -1,4 +1,4 @@
-use Rattle.std.proofs.Common.{◌≡◌, ◌≤◌, arith}
+use Rattle.std.proofs.Common.{arith}
 use Rattle.dos_runner.specs.Outside.{Outside, Counts}
 use Rattle.dos_runner.proofs.Answered.{outside}
 use Rattle.dos_runner.proofs.Composition.{started, goes_on, ends_by}

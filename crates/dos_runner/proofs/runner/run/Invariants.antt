@@ -1,4 +1,4 @@
-use Rattle.std.proofs.Common.{◌≡◌, ℕ, ◌≤◌, Bool, false, Option, None}
+use Rattle.std.proofs.Common.{false, None}
 use Rattle.dos_runner.specs.Run.{IsRun}
 use Rattle.dos_runner.specs.Outside.{Outside, Counts, Progresses}
 use Rattle.dos_runner.proofs.runner.run.Given as goal

@@ -1,4 +1,4 @@
-use Rattle.std.proofs.Common.{◌≡◌, ℕ, ◌<◌, length, arith, ◌∙◌, sym}
+use Rattle.std.proofs.Common.{◌≡◌, ◌<◌, length, arith, ◌∙◌, sym}
 use Rattle.std.proofs.lemmas.Grind.{same_number_lists}
 use Rattle.cpu_8086.specs.Process.{bytes_at}
 use Rattle.dos_runner.proofs.BytesAt.{length-bytes_at, get_or-bytes_at}

@@ -1,4 +1,4 @@
-use Rattle.std.proofs.Common.{◌≡◌, ◌≤◌, ◌+◌, ◌%◌, refl, arith}
+use Rattle.std.proofs.Common.{◌≤◌, ◌+◌, ◌%◌, refl, arith}
 use Rattle.dos_runner.proofs.Reading.{read_more, all_read}
 use Rattle.dos_runner.proofs.transfer.read_bytes.Goals as goal
 

@@ -1,6 +1,5 @@
-use Rattle.std.proofs.Common.{◌≡◌, ℕ, ◌≤◌, ◌-◌, Bool, false}
+use Rattle.std.proofs.Common.{◌≡◌, ◌≤◌, ◌-◌, false}
 use Rattle.dos_runner.proofs.Reading.{ReadSoFar}
-use Rattle.cpu_8086.specs.State.{State}
 use Rattle.dos_runner.proofs.transfer.read_bytes.Given as goal
 
 abbrev pub invariant-loop-done : goal.invariant-loop-done

@@ -1,4 +1,4 @@
-use Rattle.std.proofs.Common.{◌≡◌, ◌+◌, ◌%◌, arith}
+use Rattle.std.proofs.Common.{arith}
 use Rattle.dos_runner.proofs.WithBytes.{put_more}
 use Rattle.dos_runner.proofs.transfer.scatter.Goals as goal
 

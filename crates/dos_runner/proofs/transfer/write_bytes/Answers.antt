@@ -1,4 +1,4 @@
-use Rattle.std.proofs.Common.{◌≡◌, ◌≤◌, ℕ, ◌+◌, ◌%◌, refl, arith}
+use Rattle.std.proofs.Common.{◌≤◌, ◌+◌, ◌%◌, refl, arith}
 use Rattle.cpu_8086.specs.Process.{bytes_at}
 use Rattle.dos_runner.proofs.BytesAt.{more_written, prefix_of_row}
 use Rattle.dos_runner.proofs.transfer.write_bytes.Goals as goal

@@ -1,4 +1,4 @@
-use Rattle.std.proofs.Common.{◌≡◌, ℕ, ◌<◌, ◌≤◌, ◌-◌, Option, List}
+use Rattle.std.proofs.Common.{◌≡◌, ℕ, ◌≤◌, ◌-◌, Option, List}
 use Rattle.std.specs.Io.KnownBytes.{append_known}
 use Rattle.cpu_8086.specs.Process.{bytes_at}
 use Rattle.dos_runner.proofs.transfer.write_bytes.Given as goal
