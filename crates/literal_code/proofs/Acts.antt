@@ -70,10 +70,11 @@ write_runs m input taken g out o d from count ready fits stands =
     let p = process m input taken g out in
     let p1 = process m input taken g1 out in
     let p2 = process m input taken g2 out in
-    let q = process m input taken g5 (out ++ written) in
-    (g5,
-    runs_after 3 p p1 q s1 (runs_after 2 p1 p2 q s2 (runs_after 1 p2 p3 q s3 (runs_one p3 q s4''))),
-    record { at = omega arith; segment_is = ready.segment_is; handle = ready.handle })
+    let q = process m input taken g5 (out ++ written) in (
+      g5,
+      runs_after 3 p p1 q s1 (runs_after 2 p1 p2 q s2 (runs_after 1 p2 p3 q s3 (runs_one p3 q s4''))),
+      record { at = omega arith; segment_is = ready.segment_is; handle = ready.handle },
+    )
 
 -- the program has ended
 abbrev pub over : List ℕ → List ℕ → ℕ → Registers → List ℕ → ℕ → Process

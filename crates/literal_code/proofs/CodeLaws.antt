@@ -51,7 +51,7 @@ image_from_parts segment gap body pool acts is_body is_gap is_segment =
     let b : List ℕ = spelled (acts_code acts) in
     let e : List ℕ = spelled error_code in
     let code : s ++ b ++ e ≡ spelled (program_code d acts) =
-        sym (spelled-append (start_code d ++ acts_code acts) error_code ∙ ap (λ bs. bs ++ e) (spelled-append (start_code d) (acts_code acts))) in
+    sym (spelled-append (start_code d ++ acts_code acts) error_code ∙ ap (λ bs. bs ++ e) (spelled-append (start_code d) (acts_code acts))) in
     ap (λ g. spelled (start_code g) ++ body ++ e ++ replicate gap 0 ++ pool ++ 0 ∷ []) is_segment
     ∙ ap (λ bs. s ++ bs ++ e ++ replicate gap 0 ++ pool ++ 0 ∷ []) is_body
     ∙ ap (λ g. s ++ b ++ e ++ replicate g 0 ++ pool ++ 0 ∷ []) is_gap

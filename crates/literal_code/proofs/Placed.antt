@@ -20,11 +20,12 @@ pub stands_from : (m : List ℕ) (o : ℕ) (is : List Instr) → ((k : ℕ) → 
 stands_from m o [] lies = tt
 stands_from m o (i ∷ is) lies =
     let n = length (spelling i) in
-    let whole : length (spelling i ++ spelled is) ≡ n + length (spelled is) = length-append (spelling i) (spelled is) in
-    (λ k h. lies k (omega (arith, whole)) ∙ get_or_append_left (spelling i) (spelled is) 0 k h,
-    stands_from m (o + n) is (λ k h.
-        let e : 1792 + (o + n) + k ≡ 1792 + o + (n + k) = omega arith in
-        ap (λ x. slice_index m x) e ∙ lies (n + k) (omega (arith, whole)) ∙ get_or-append-add (spelling i) (spelled is) k 0))
+    let whole : length (spelling i ++ spelled is) ≡ n + length (spelled is) = length-append (spelling i) (spelled is) in (
+      λ k h. lies k (omega (arith, whole)) ∙ get_or_append_left (spelling i) (spelled is) 0 k h,
+      stands_from m (o + n) is (λ k h.
+          let e : 1792 + (o + n) + k ≡ 1792 + o + (n + k) = omega arith in
+          ap (λ x. slice_index m x) e ∙ lies (n + k) (omega (arith, whole)) ∙ get_or-append-add (spelling i) (spelled is) k 0),
+    )
 
 pub stands_front : (m : List ℕ) (o : ℕ) (is js : List Instr) → Stands m o (is ++ js) → Stands m o is
 stands_front m o [] js stands = tt

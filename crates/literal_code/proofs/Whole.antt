@@ -54,12 +54,12 @@ program_runs pool acts input few short within =
     let small : d + 0x70 < 65536 = omega arith in
     let size = length-program_code (d + 0x70) acts in
     let code_stands : Stands m 0 (program_code (d + 0x70) acts) = stands_from m 0 (program_code (d + 0x70) acts)
-        (λ k h. byte_loaded pool acts k small (omega (arith, size)) ∙ code_lies (d + 0x70) pool acts k h) in
+    (λ k h. byte_loaded pool acts k small (omega (arith, size)) ∙ code_lies (d + 0x70) pool acts k h) in
     let whole = stands_front m 0 (start_code (d + 0x70) ++ acts_code acts) error_code code_stands in
     let base : 16 * (d + 0x70) ≡ 1792 + 16 * d = omega arith in
     let lies : (k : ℕ) → k < length pool → slice_index m (1792 + 16 * d + k) ≡ slice_index pool k = λ k h.
-        let e : 1792 + 16 * d + k ≡ 1792 + (16 * d + k) = omega arith in
-        ap (slice_index m) e ∙ byte_loaded pool acts (16 * d + k) small (omega arith) ∙ pool_lies (d + 0x70) pool acts k h in
+    let e : 1792 + 16 * d + k ≡ 1792 + (16 * d + k) = omega arith in
+    ap (slice_index m) e ∙ byte_loaded pool acts (16 * d + k) small (omega arith) ∙ pool_lies (d + 0x70) pool acts k h in
     let texts = texts_lie m (d + 0x70) pool acts (text_lies m (1792 + 16 * d) (d + 0x70) pool base (omega arith) short lies) (recursion_from_All (IsWithin (length pool)) acts within) in
     let g : Registers = start_registers exe in
     let first = start_runs m input 0 g [] (d + 0x70) refl (whole.0, (whole.1.0, (whole.1.1.0, tt))) in

@@ -42,7 +42,13 @@ struct Image {
 
 /// The parts of an image, one behind the other: the start, the code of the acts, the error routine, zeros, the texts,
 /// and the byte that says whether an overlay manager is installed.
-fn join(alloc: Global, segment: u16, body: &[u8], gap: usize, pool: &[u8]) -> Result<Bytes, AllocError>
+fn join(
+    alloc: Global,
+    segment: u16,
+    body: &[u8],
+    gap: usize,
+    pool: &[u8],
+) -> Result<Bytes, AllocError>
     ensures { IfOk result (λ bytes. bytes ≡ spelled (start_code segment) ++ body.now ++ spelled error_code
         ++ replicate gap 0 ++ pool.now ++ 0 ∷ []) }
 {
@@ -66,7 +72,13 @@ fn lay_out(alloc: Global, program: &LiteralProgram) -> Result<Image, AllocError>
     let size = 8 + body.len() + 4;
     let data_segment = (size + 15) / 16;
     let gap = 16 * data_segment - size;
-    let bytes = join(alloc, data_segment as u16, body.as_slice(), gap, program.pool.as_slice())?;
+    let bytes = join(
+        alloc,
+        data_segment as u16,
+        body.as_slice(),
+        gap,
+        program.pool.as_slice(),
+    )?;
     Ok(Image {
         bytes,
         data_segment: data_segment as u16,

@@ -1,3 +1,5 @@
 pub mod Joined
 pub mod FileLaws
 pub mod WordLaws
+pub mod RanLaws
+pub mod TurboLaws

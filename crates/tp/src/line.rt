@@ -42,7 +42,11 @@ fn hexadecimal_digit(digit: u16) -> u8
     requires { digit < 16 }
     ensures { result ≡ digit_glyph false digit }
 {
-    if digit < 10 { b'0' + digit as u8 } else { b'a' + (digit - 10) as u8 }
+    if digit < 10 {
+        b'0' + digit as u8
+    } else {
+        b'a' + (digit - 10) as u8
+    }
 }
 
 fn hexadecimal(word: u16) -> [u8; 4]

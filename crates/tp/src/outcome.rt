@@ -64,7 +64,11 @@ impl Outcome {
             Outcome::Program { code } => *code,
             Outcome::InstructionLimit { taken: _ } => 251,
             Outcome::Refused(_) => 252,
-            Outcome::Stopped { cs: _, ip: _, why: _ } => 253,
+            Outcome::Stopped {
+                cs: _,
+                ip: _,
+                why: _,
+            } => 253,
             Outcome::InputFault => 254,
             Outcome::OutputFault => 254,
             Outcome::ErrorsFault => 254,

@@ -2,7 +2,6 @@
 
 ghost use Rattle.std.specs.Prelude.{◌≡◌, ℕ, List, map, Some, IfSome, string_bytes, [], ◌∷◌};
 ghost use Rattle.std.specs.List.{list_all};
-
 ghost use Rattle.tp.specs.Words.{IsGo, is_identifier_byte};
 
 use type_layout::Name;

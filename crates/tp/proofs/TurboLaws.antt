@@ -1,0 +1,147 @@
+-- From what a command does, and its line, to what the top call promises.
+use Rattle.std.proofs.Common.{◌≡◌, ◌⊎◌, inl, inr, ℕ, ◌+◌, ◌<◌, ◌≤◌, List, [], ◌∷◌, ◌++◌, Option, Some, None, sym, ap, ◌∙◌, refl, subst, arith}
+use Rattle.std.specs.Prelude.{IfSome, unwrap_or}
+use Rattle.std.specs.Io.KnownBytes.{append_known}
+use Rattle.tp_outside.specs.Faults.{HasRisen}
+use Rattle.tp_outside.specs.Folder.{Folder}
+use Rattle.tp_outside.proofs.Known.{append_known-nil}
+use Rattle.literal_form.specs.Source.{IsSource}
+use Rattle.literal_form.specs.Statement.{Statement, mean}
+use Rattle.dos_runner.specs.declared.runner.RunEnd.TheVariants as ends
+use Rattle.dos_runner.specs.Outside.{Outside}
+use Rattle.tp.specs.declared.names.FileKind.TheVariants.{Source, Executable}
+use Rattle.tp.specs.declared.outcome.At.{At}
+use Rattle.tp.specs.declared.outcome.Refusal.TheVariants as refusal
+use Rattle.tp.specs.declared.outcome.Outcome.{Outcome}
+use Rattle.tp.specs.declared.outcome.Outcome.TheVariants as outcome
+use Rattle.tp.specs.Files.{file_of}
+use Rattle.tp.specs.Line.{line_of}
+use Rattle.tp.specs.Words.{IsGo}
+use Rattle.tp.specs.World.{World, Holds, IsUntouched}
+use Rattle.tp.specs.Performs.{Performs, Ran, GivesUp, SaysNothing}
+use Rattle.tp.specs.Turbo.{IsAsked, HasRun, Headline, IsWritten, Written, IsFaultOrNoMemory, Complete, Faults, Refused, Unchanged, EndsWithLine}
+use Rattle.tp.proofs.RanLaws.{go_once, statements_same, stands_there, concluded, no_limit}
+
+-- The world after more was written to the errors.
+abbrev pub told : World → Option (List ℕ) → ℕ → World
+told w errors faults = record w { streams = record w.streams { errors = errors; errors_faults = faults } }
+
+abbrev pub IsFound : Option (List ℕ) → Type 0
+IsFound None = ⊥
+IsFound (Some found) = Unit {0}
+
+abbrev pub IsProgram : Outcome → Type 0
+IsProgram (outcome.Program code) = Unit {0}
+IsProgram other = ⊥
+
+abbrev pub code_in : Outcome → ℕ
+code_in (outcome.Program code) = code
+code_in other = 0
+
+-- the first place of a program's source
+abbrev pub front_of : List ℕ → At
+front_of name = record { file = file_of name Source; line = 1; column = 1 }
+
+missing_not : (folder : Option Folder) (file text : List ℕ) → Holds folder file text → IfSome folder (λ held. held file ≡ None) → ⊥
+missing_not None file text held lacks = held
+missing_not (Some folder) file text held lacks = let e : Some text ≡ None = sym held ∙ lacks in absurd (subst IsFound e tt)
+
+nothing_not : (folder : Option Folder) (file text : List ℕ) (statements : List Statement) → Holds folder file text → IsSource text statements → SaysNothing folder file → ⊥
+nothing_not None file text statements held source says = held
+nothing_not (Some folder) file text statements held source says =
+    let texts : text ≡ says.0 = ap (λ found. unwrap_or found []) (sym held ∙ says.1) in
+    let P : List ℕ → Type 0 = λ t. IsSource t statements in
+    says.2 statements (subst P texts source)
+
+still_risen : (old mid new : ℕ) → HasRisen old mid → mid ≤ new → HasRisen old new
+still_risen old mid new (inl rose) rises = inl (omega arith)
+still_risen old mid new (inr full) rises = inr (omega arith)
+
+pub headline : (result : Outcome) (words : List (List ℕ)) (old mid : World) (errors : Option (List ℕ)) (faults : ℕ) → Performs result words old mid → Headline words old (told mid errors faults) result
+headline (outcome.Program code) words old mid errors faults did = λ name statements asked run. stands_there (ends.Ended code) words old mid name statements did asked
+headline (outcome.InstructionLimit taken) words old mid errors faults did = λ name statements asked run. stands_there (ends.Limit taken) words old mid name statements did asked
+headline (outcome.Stopped cs ip why) words old mid errors faults did = λ name statements asked run. stands_there (ends.Stopped cs ip why) words old mid name statements did asked
+headline (outcome.Refused r) words old mid errors faults did = λ name statements asked run. absurd run
+headline outcome.InputFault words old mid errors faults did = λ name statements asked run. stands_there ends.InputFault words old mid name statements did asked
+headline outcome.OutputFault words old mid errors faults did = λ name statements asked run. stands_there ends.OutputFault words old mid name statements did asked
+headline outcome.ErrorsFault words old mid errors faults did = λ name statements asked run. absurd run
+headline outcome.FilesFault words old mid errors faults did = λ name statements asked run. absurd run
+headline outcome.NoMemory words old mid errors faults did = λ name statements asked run. absurd run
+
+ended : (code : ℕ) (words : List (List ℕ)) (old mid : World) (name : List ℕ) (statements : List Statement) → Ran (ends.Ended code) words old mid → IsAsked words old name statements → IsWritten statements code old mid
+ended code words old mid name statements r asked =
+    let same = statements_same (ends.Ended code) words old mid name statements r asked in
+    let told = concluded (ends.Ended code) words old mid r in
+    let P : List Statement → Type 0 = λ s. IsWritten s code old mid in
+    subst P same (record { ended = told.0; output = told.1; errors = told.2 })
+
+written_so : (code : ℕ) (statements : List Statement) (old mid : World) (errors : Option (List ℕ)) (faults : ℕ) → errors ≡ append_known mid.streams.errors [] → IsWritten statements code old mid → IsWritten statements code old (told mid errors faults)
+written_so code statements old mid errors faults line w = record { ended = w.ended; output = w.output; errors = line ∙ append_known-nil mid.streams.errors ∙ w.errors }
+
+pub written : (result : Outcome) (words : List (List ℕ)) (old mid : World) (errors : Option (List ℕ)) (faults : ℕ) → Performs result words old mid → errors ≡ append_known mid.streams.errors (line_of result) → Written words old (told mid errors faults) result
+written (outcome.Program exit) words old mid errors faults did line = λ name statements code asked is.
+    let same : exit ≡ code = ap code_in is in
+    let P : ℕ → Type 0 = λ c. IsWritten statements c old (told mid errors faults) in
+    subst P same (written_so exit statements old mid errors faults line (ended exit words old mid name statements did asked))
+written (outcome.InstructionLimit taken) words old mid errors faults did line = λ name statements code asked is. absurd (no_limit taken words old mid did)
+written (outcome.Stopped cs ip why) words old mid errors faults did line = λ name statements code asked is. absurd (concluded (ends.Stopped cs ip why) words old mid did)
+written (outcome.Refused r) words old mid errors faults did line = λ name statements code asked is. absurd (subst IsProgram (sym is) tt)
+written outcome.InputFault words old mid errors faults did line = λ name statements code asked is. absurd (subst IsProgram (sym is) tt)
+written outcome.OutputFault words old mid errors faults did line = λ name statements code asked is. absurd (subst IsProgram (sym is) tt)
+written outcome.ErrorsFault words old mid errors faults did line = λ name statements code asked is. absurd (subst IsProgram (sym is) tt)
+written outcome.FilesFault words old mid errors faults did line = λ name statements code asked is. absurd (subst IsProgram (sym is) tt)
+written outcome.NoMemory words old mid errors faults did line = λ name statements code asked is. absurd (subst IsProgram (sym is) tt)
+
+-- a source that is asked for gives a program
+never_missing : (words : List (List ℕ)) (old : World) (name : List ℕ) (statements : List Statement) (file : List ℕ) → IsAsked words old name statements → IfSome old.folder (λ held. held (file_of name Source) ≡ None) → ⊥
+never_missing words old name statements file asked lacks = missing_not old.folder (file_of name Source) asked.text asked.held lacks
+
+pub complete : (result : Outcome) (words : List (List ℕ)) (old mid : World) (errors : Option (List ℕ)) (faults : ℕ) → Performs result words old mid → old.streams.errors_faults ≤ mid.streams.errors_faults → mid.streams.errors_faults ≤ faults → Complete words old (told mid errors faults) result
+complete (outcome.Program exit) words old mid errors faults did rise rises = λ name statements asked.
+    inl (ap (λ c. outcome.Program c) (ended exit words old mid name statements did asked).ended)
+complete (outcome.InstructionLimit taken) words old mid errors faults did rise rises = λ name statements asked. absurd (no_limit taken words old mid did)
+complete (outcome.Stopped cs ip why) words old mid errors faults did rise rises = λ name statements asked. absurd (concluded (ends.Stopped cs ip why) words old mid did)
+complete (outcome.Refused refusal.Usage) words old mid errors faults did rise rises = λ name statements asked. absurd (did.0 name asked.named)
+complete (outcome.Refused (refusal.MissingFile file)) words old mid errors faults did rise rises = λ name statements asked.
+    let same = go_once words did.name name did.named asked.named in
+    let P : List ℕ → Type 0 = λ n. IfSome old.folder (λ held. held (file_of n Source) ≡ None) in
+    absurd (never_missing words old name statements file asked (subst P same did.reason.1))
+complete (outcome.Refused (refusal.NotInProfile at feature)) words old mid errors faults did rise rises = λ name statements asked.
+    let same = go_once words did.name name did.named asked.named in
+    let P : List ℕ → Type 0 = λ n. SaysNothing old.folder (file_of n Source) in
+    absurd (nothing_not old.folder (file_of name Source) asked.text statements asked.held asked.source (subst P same did.reason.1))
+complete outcome.InputFault words old mid errors faults did rise rises = λ name statements asked. inr did.run.run.rose
+complete outcome.OutputFault words old mid errors faults did rise rises = λ name statements asked. inr did.run.run.rose
+complete outcome.ErrorsFault words old mid errors faults did rise rises = λ name statements asked. inr (still_risen old.streams.errors_faults mid.streams.errors_faults faults did.run.run.rose rises)
+complete outcome.FilesFault words old mid errors faults did rise rises = λ name statements asked. inr did.0
+complete outcome.NoMemory words old mid errors faults did rise rises = λ name statements asked. inr tt
+
+pub fault : (result : Outcome) (words : List (List ℕ)) (old mid : World) (errors : Option (List ℕ)) (faults : ℕ) → Performs result words old mid → mid.streams.errors_faults ≤ faults → Faults old (told mid errors faults) result
+fault outcome.InputFault words old mid errors faults did rises = did.run.run.rose
+fault outcome.OutputFault words old mid errors faults did rises = did.run.run.rose
+fault outcome.ErrorsFault words old mid errors faults did rises = still_risen old.streams.errors_faults mid.streams.errors_faults faults did.run.run.rose rises
+fault outcome.FilesFault words old mid errors faults did rises = did.0
+fault outcome.NoMemory words old mid errors faults did rises = tt
+fault (outcome.Program exit) words old mid errors faults did rises = tt
+fault (outcome.InstructionLimit taken) words old mid errors faults did rises = tt
+fault (outcome.Stopped cs ip why) words old mid errors faults did rises = tt
+fault (outcome.Refused r) words old mid errors faults did rises = tt
+
+pub refused : (result : Outcome) (words : List (List ℕ)) (old mid : World) → Performs result words old mid → Refused words old result
+refused (outcome.Refused refusal.Usage) words old mid did = did.0
+refused (outcome.Refused (refusal.MissingFile file)) words old mid did = λ name named.
+    let same = go_once words did.name name did.named named in
+    let P : List ℕ → Type 0 = λ f. IfSome old.folder (λ held. held f ≡ None) in
+    (did.reason.0 ∙ ap (λ n. file_of n Source) same, λ text held. missing_not old.folder file text held (subst P (sym did.reason.0) did.reason.1))
+refused (outcome.Refused (refusal.NotInProfile at feature)) words old mid did = λ name named.
+    let same = go_once words did.name name did.named named in
+    let P : List ℕ → Type 0 = λ n. SaysNothing old.folder (file_of n Source) in
+    (did.reason.0 ∙ ap front_of same, λ text statements held source. nothing_not old.folder (file_of name Source) text statements held source (subst P same did.reason.1))
+refused outcome.InputFault words old mid did = tt
+refused outcome.OutputFault words old mid did = tt
+refused outcome.ErrorsFault words old mid did = tt
+refused outcome.FilesFault words old mid did = tt
+refused outcome.NoMemory words old mid did = tt
+refused (outcome.Program exit) words old mid did = tt
+refused (outcome.InstructionLimit taken) words old mid did = tt
+refused (outcome.Stopped cs ip why) words old mid did = tt

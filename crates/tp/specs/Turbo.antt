@@ -1,0 +1,106 @@
+-- What the top call promises. Its clauses cite these.
+use Rattle.std.specs.Prelude.{◌≡◌, ◌⊎◌, ◌≤◌, ℕ, List, [], ◌++◌, Option, Some, None}
+use Rattle.std.specs.Io.KnownBytes.{append_known}
+use Rattle.tp_outside.specs.Faults.{HasRisen}
+use Rattle.tp_outside.specs.Folder.{Folder, with_known_file}
+use Rattle.tp_outside.specs.Streams.{TakesPrefix}
+use Rattle.cpu_8086.specs.Process.{Process}
+use Rattle.cpu_8086.specs.Run.{Runs}
+use Rattle.literal_form.specs.Source.{IsSource}
+use Rattle.literal_form.specs.Statement.{Statement, mean}
+use Rattle.mz_file.specs.Load.{started}
+use Rattle.literal_code.specs.Agrees.{Agrees}
+use Rattle.tp.specs.declared.names.FileKind.TheVariants.{Source, Executable}
+use Rattle.tp.specs.declared.outcome.At.{At}
+use Rattle.tp.specs.declared.outcome.Feature.TheVariants.{NotYet}
+use Rattle.tp.specs.declared.outcome.Refusal.{Refusal}
+use Rattle.tp.specs.declared.outcome.Refusal.TheVariants as refusal
+use Rattle.tp.specs.declared.outcome.Outcome.{Outcome}
+use Rattle.tp.specs.declared.outcome.Outcome.TheVariants as outcome
+use Rattle.tp.specs.Files.{file_of}
+use Rattle.tp.specs.Line.{line_of}
+use Rattle.tp.specs.Words.{IsGo}
+use Rattle.tp.specs.World.{World, IsUntouched, Holds, Lacks}
+
+-- The words are `go` and a program's name, the files tell what they hold, and the program's source says these
+-- statements.
+pub record IsAsked (words : List (List ℕ)) (old : World) (name : List ℕ) (statements : List Statement) : Type 0 where
+  pub named : IsGo words name
+  pub text : List ℕ
+  pub held : Holds old.folder (file_of name Source) text
+  pub source : IsSource text statements
+
+-- Outcomes with which the executable has been written and run.
+abbrev pub HasRun : Outcome → Type 0
+HasRun (outcome.Program code) = Unit {0}
+HasRun (outcome.InstructionLimit taken) = Unit {0}
+HasRun (outcome.Stopped cs ip why) = Unit {0}
+HasRun outcome.InputFault = Unit {0}
+HasRun outcome.OutputFault = Unit {0}
+HasRun other = ⊥
+
+-- The headline: the executable that stands in the folder afterwards does what the source means.
+abbrev pub Headline : List (List ℕ) → World → World → Outcome → Type 0
+Headline words old new result =
+    (name : List ℕ) (statements : List Statement) → IsAsked words old name statements → HasRun result →
+    (bytes : List ℕ) × Holds new.folder (file_of name Executable) bytes × Agrees statements bytes
+
+-- What was written: where the outcome is the program's end, its code is the one that is meant, the output took just
+-- what is meant, and so did the errors.
+pub record IsWritten (statements : List Statement) (code : ℕ) (old new : World) : Type 0 where
+  pub ended : code ≡ (mean statements).code
+  pub output : new.streams.output ≡ append_known old.streams.output (mean statements).out
+  pub errors : new.streams.errors ≡ append_known old.streams.errors (mean statements).err
+
+abbrev pub Written : List (List ℕ) → World → World → Outcome → Type 0
+Written words old new result =
+    (name : List ℕ) (statements : List Statement) (code : ℕ) → IsAsked words old name statements → result ≡ outcome.Program code →
+    IsWritten statements code old new
+
+-- The outcome of a program of literals, but for faults and want of memory, is its end.
+abbrev pub IsFaultOrNoMemory : Outcome → World → World → Type 0
+IsFaultOrNoMemory outcome.InputFault old new = HasRisen old.streams.input_faults new.streams.input_faults
+IsFaultOrNoMemory outcome.OutputFault old new = HasRisen old.streams.output_faults new.streams.output_faults
+IsFaultOrNoMemory outcome.ErrorsFault old new = HasRisen old.streams.errors_faults new.streams.errors_faults
+IsFaultOrNoMemory outcome.FilesFault old new = HasRisen old.files_faults new.files_faults
+IsFaultOrNoMemory outcome.NoMemory old new = Unit {0}
+IsFaultOrNoMemory other old new = ⊥
+
+-- A source of the form gives the program's end, or there was a fault of the object that is named, or no memory.
+abbrev pub Complete : List (List ℕ) → World → World → Outcome → Type 0
+Complete words old new result =
+    (name : List ℕ) (statements : List Statement) → IsAsked words old name statements →
+    (result ≡ outcome.Program (mean statements).code) ⊎ IsFaultOrNoMemory result old new
+
+-- A fault is answered only where the count of the object that is named rose.
+abbrev pub Faults : World → World → Outcome → Type 0
+Faults old new outcome.InputFault = HasRisen old.streams.input_faults new.streams.input_faults
+Faults old new outcome.OutputFault = HasRisen old.streams.output_faults new.streams.output_faults
+Faults old new outcome.ErrorsFault = HasRisen old.streams.errors_faults new.streams.errors_faults
+Faults old new outcome.FilesFault = HasRisen old.files_faults new.files_faults
+Faults old new other = Unit {0}
+
+-- Each refusal has its cause.
+abbrev pub Refused : List (List ℕ) → World → Outcome → Type 0
+Refused words old (outcome.Refused refusal.Usage) = (name : List ℕ) → IsGo words name → ⊥
+Refused words old (outcome.Refused (refusal.MissingFile file)) =
+    (name : List ℕ) → IsGo words name → (file ≡ file_of name Source) × ((text : List ℕ) → Holds old.folder file text → ⊥)
+Refused words old (outcome.Refused (refusal.NotInProfile at feature)) =
+    (name : List ℕ) → IsGo words name → (at ≡ record { file = file_of name Source; line = 1; column = 1 })
+    × ((text : List ℕ) (statements : List Statement) → Holds old.folder (file_of name Source) text → IsSource text statements → ⊥)
+Refused words old other = Unit {0}
+
+-- Where a cause holds, that refusal comes, or a fault, or want of memory.
+abbrev pub Refuses : List (List ℕ) → World → World → Outcome → Refusal → Type 0
+Refuses words old new result r = (result ≡ outcome.Refused r) ⊎ IsFaultOrNoMemory result old new
+
+-- A refused command changed no file and wrote nothing but its line.
+abbrev pub Unchanged : World → World → Outcome → Type 0
+Unchanged old new (outcome.Refused r) =
+    (new.folder ≡ old.folder) × (new.streams.output ≡ old.streams.output) × (new.streams.errors ≡ append_known old.streams.errors (line_of (outcome.Refused r)))
+Unchanged old new other = Unit {0}
+
+-- The errors end with the line that is due.
+abbrev pub EndsWithLine : World → World → Outcome → Type 0
+EndsWithLine old new outcome.ErrorsFault = Unit {0}
+EndsWithLine old new result = (before : Option (List ℕ)) × (new.streams.errors ≡ append_known before (line_of result))
