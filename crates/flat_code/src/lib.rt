@@ -1,0 +1,8 @@
+//! Flat code: structured code over bytes, its meaning and its interpreter.
+#![tactic(auto)]
+
+mod tree;
+mod unit;
+
+pub use tree::{Address, FlatExpr, FlatExprs, FlatList, FlatOp, FlatResult, FlatStmt};
+pub use unit::{FlatData, FlatDatum, FlatRoutine, FlatRoutines, FlatUnit, FlatVmt, FlatVmts, RoutineIds};
