@@ -1,1 +1,4 @@
 pub mod Words
+pub mod Storage
+pub mod Layouts
+pub mod Table
