@@ -1,0 +1,5 @@
+pub mod Tree
+pub mod Memory
+pub mod Program
+pub mod Meaning
+pub mod Legal
