@@ -141,6 +141,25 @@ with_found (Bad act) s go = Over (Undefined act) s
 abbrev pub begun : ℕ → State → State
 begun nodes s = record s { work = s.work + nodes }
 
+abbrev pub with_cells : State → Cells → State
+with_cells s m = record s { cells = m }
+
+-- the next statement, with these cells
+abbrev pub set_cells : State → Cells → Outcome
+set_cells s m = Next (with_cells s m)
+
+-- bytes stored at an address
+abbrev pub stored_at : Choice → Frame → Cells → Address → List ℕ → Found Cells
+stored_at choice f m to bytes = place_of choice f m to >>= λ p. store_bytes m p 0 bytes
+
+-- both places are known before the first byte moves
+abbrev pub copied_at : Choice → Frame → Cells → Address → Address → ℕ → Found Cells
+copied_at choice f m to from bytes = place_of choice f m to >>= λ p. place_of choice f m from >>= λ q. copy m p q 0 bytes
+
+-- the far pointer at an address
+abbrev pub pointer_at : Choice → Frame → Cells → Address → Found Place
+pointer_at choice f m at = place_of choice f m at >>= λ p. far_at m p
+
 -- ---- results
 
 -- the bytes of a result, or none
@@ -153,7 +172,7 @@ abbrev pub give : Choice → Frame → Option FlatResult → List ℕ → State 
 give choice f None bytes s = Next s
 give choice f (Some result) bytes s =
     if length bytes == result.bytes
-    then with_found (place_of choice f s.cells result.at >>= λ p. store_bytes s.cells p 0 bytes) s (λ m. Next (record s { cells = m }))
+    then with_found (stored_at choice f s.cells result.at bytes) s (set_cells s)
     else Over (Undefined 1) s
 
 -- ---- calls
@@ -195,7 +214,7 @@ closed choice r f m = region m choice.stack_segment (f.sp - activation_bytes r) 
 -- the end of an activation of r, whose frame was g, that was called in f
 abbrev pub ended : Choice → Routine → Frame → Frame → Option FlatResult → State → Outcome
 ended choice r g f result s =
-    with_found (result_bytes choice g s.cells r.result) s (λ bytes. give choice f result bytes (record s { cells = closed choice r f s.cells }))
+    with_found (result_bytes choice g s.cells r.result) s (λ bytes. give choice f result bytes (with_cells s (closed choice r f s.cells)))
 
 abbrev pub finished : Outcome → (State → Outcome) → Outcome
 finished (Next s) go = go s
@@ -211,27 +230,34 @@ abbrev pub activated : Choice → Does → Name → UnitCode → Routine → Lis
 activated choice again name unit r args result f s =
     if nat_lt f.sp (activation_bytes r)
     then Over (Undefined 2) s
-    else finished (again r.body (frame_of name unit r f) (record s { cells = opened choice r f args s.cells }))
-      (ended choice r (frame_of name unit r f) f result)
+    else finished (again r.body (frame_of name unit r f) (with_cells s (opened choice r f args s.cells))) (ended choice r (frame_of name unit r f) f result)
 
-abbrev pub entered : FlatProgram → Choice → Does → Name → UnitCode → Routine → List ℕ → Option FlatResult → Frame → State → Outcome
-entered program choice again name unit r args result f s =
-    if not (2 * length args == r.arguments)
-    then Over (Undefined 1) s
-    else (if program.overlaid name && not s.flag
-      then raised 208 s
-      else (if is_too_deep program r f.sum
-        then raised 202 s
-        else activated choice again name unit r args result f s))
+-- error 202 where the sum of the frames would leave too little of the stack
+abbrev pub tested : FlatProgram → Choice → Does → Name → UnitCode → Routine → List ℕ → Option FlatResult → Frame → State → Outcome
+tested program choice again name unit r args result f s =
+    if is_too_deep program r f.sum then raised 202 s else activated choice again name unit r args result f s
+
+-- error 208 where the unit is overlaid and the overlays are not installed
+abbrev pub admitted : FlatProgram → Choice → Does → Name → UnitCode → Routine → List ℕ → Option FlatResult → Frame → State → Outcome
+admitted program choice again name unit r args result f s =
+    if program.overlaid name && not s.flag then raised 208 s else tested program choice again name unit r args result f s
+
+-- a routine takes as many bytes as are handed over
+abbrev pub entered : FlatProgram → Choice → Does → Name → UnitCode → List ℕ → Option FlatResult → Frame → State → Routine → Outcome
+entered program choice again name unit args result f s r =
+    if 2 * length args == r.arguments then admitted program choice again name unit r args result f s else Over (Undefined 1) s
 
 -- what is there, else an undefined act
 abbrev pub with_some : {A : Type 0} → Option A → State → (A → Outcome) → Outcome
 with_some None s go = Over (Undefined 1) s
 with_some (Some x) s go = go x
 
-abbrev pub called : FlatProgram → Choice → Does → Key → List ℕ → Option FlatResult → Frame → State → Outcome
-called program choice again key args result f s =
-    with_some (program.unit key.unit) s (λ unit. with_some (slice_get unit.routines key.number) s (λ r. entered program choice again key.unit unit r args result f s))
+abbrev pub entered_at : FlatProgram → Choice → Does → Key → List ℕ → Option FlatResult → Frame → State → UnitCode → Outcome
+entered_at program choice again key args result f s unit =
+    with_some (slice_get unit.routines key.number) s (entered program choice again key.unit unit args result f s)
+
+abbrev pub called : FlatProgram → Choice → Does → List ℕ → Option FlatResult → Frame → State → Key → Outcome
+called program choice again args result f s key = with_some (program.unit key.unit) s (entered_at program choice again key args result f s)
 
 -- ---- acts of the machine
 
@@ -272,12 +298,12 @@ runtime_of program choice again (suc zero) args result f s = read_act choice f a
 runtime_of program choice again (suc (suc zero)) args result f s = end_act args s
 runtime_of program choice again (suc (suc (suc zero))) args result f s = clear_act args s
 runtime_of program choice again (suc (suc (suc (suc zero)))) args result f s = flag_act args s
-runtime_of program choice again (suc (suc (suc (suc (suc n))))) args result f s = called program choice again (runtime_key (5 + n)) args result f s
+runtime_of program choice again (suc (suc (suc (suc (suc n))))) args result f s = called program choice again args result f s (runtime_key (5 + n))
 
 -- ---- statements
 
 abbrev pub stored : Choice → Frame → Address → List ℕ → State → Outcome
-stored choice f to bytes s = with_found (place_of choice f s.cells to >>= λ p. store_bytes s.cells p 0 bytes) s (λ m. Next (record s { cells = m }))
+stored choice f to bytes s = with_found (stored_at choice f s.cells to bytes) s (set_cells s)
 
 abbrev pub left : ℕ → State → Outcome
 left zero s = Next s
@@ -286,16 +312,15 @@ left (suc loops) s = Left loops s
 abbrev pub step_of : FlatProgram → Choice → Does → Step → Frame → State → Outcome
 step_of program choice again (StoreByte to value) f s = with_found (value_of choice f s.cells value) s (λ v. stored choice f to (low_byte v ∷ []) s)
 step_of program choice again (StoreWord to value) f s = with_found (value_of choice f s.cells value) s (λ v. stored choice f to (word_bytes v) s)
-step_of program choice again (Copy to from bytes) f s =
-    with_found (place_of choice f s.cells to >>= λ p. place_of choice f s.cells from >>= λ q. copy s.cells p q 0 bytes) s (λ m. Next (record s { cells = m }))
+step_of program choice again (Copy to from bytes) f s = with_found (copied_at choice f s.cells to from bytes) s (set_cells s)
 step_of program choice again (Leave loops) f s = left loops s
 step_of program choice again (Call unit number args result) f s =
-    with_found (values_of choice f s.cells args) s (λ vs. spend s (λ s. with_found (key_of f unit number) s (λ key. called program choice again key vs result f s)))
+    with_found (values_of choice f s.cells args) s (λ vs. spend s (λ s. with_found (key_of f unit number) s (called program choice again vs result f s)))
 step_of program choice again (CallThrough pointer args result) f s =
     with_found (values_of choice f s.cells args) s (λ vs. spend s (λ s.
-      with_found (place_of choice f s.cells pointer >>= λ p. far_at s.cells p) s (λ p. with_some (choice.callee p) s (λ key. called program choice again key vs result f s))))
+      with_found (pointer_at choice f s.cells pointer) s (λ p. with_some (choice.callee p) s (called program choice again vs result f s))))
 step_of program choice again (Runtime number args result) f s =
-    with_found (values_of choice f s.cells args) s (λ vs. spend s (λ s. runtime_of program choice again number vs result f s))
+    with_found (values_of choice f s.cells args) s (λ vs. spend s (runtime_of program choice again number vs result f))
 step_of program choice again (StoreRoutine to unit number) f s =
     with_found (key_of f unit number >>= λ key. if_placed (choice.far key)) s (λ p. stored choice f to (far_bytes p) s)
 step_of program choice again Return f s = Returned s
@@ -408,7 +433,7 @@ start_frame program = record { unit = []; names = []; bp = 0; link = 0; sp = sta
 -- the start of a unit spends no turn
 abbrev pub started : FlatProgram → Choice → Does → Name → Option ℕ → State → Outcome
 started program choice again name None s = Next s
-started program choice again name (Some number) s = called program choice again (record { unit = name; number = number }) [] None (start_frame program) s
+started program choice again name (Some number) s = called program choice again [] None (start_frame program) s (record { unit = name; number = number })
 
 abbrev pub initial_of : Option UnitCode → Option ℕ
 initial_of None = None
