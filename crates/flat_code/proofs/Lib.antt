@@ -1,1 +1,4 @@
 pub mod After
+pub mod More
+pub mod Whole
+pub mod Nodes

@@ -218,5 +218,5 @@ pub record IsShallow (program : FlatProgram) : Type 0 where
   pub arguments : (key : Key) (r : Routine) → routine_of program key ≡ Some r → r.arguments ≤ 256
   pub depth : (key : Key) (r : Routine) → routine_of program key ≡ Some r → code_depth r.body ≤ 24
   pub chains : (key : Key) (unit : UnitCode) (r : Routine) → program.unit key.unit ≡ Some unit → routine_of program key ≡ Some r → r.frame ≡ 0 →
-    CodeNames (λ mention. RuntimeCalls program chain (activation_bytes r) key mention) key.unit unit.names r.body
+      CodeNames (λ mention. RuntimeCalls program chain (activation_bytes r) key mention) key.unit unit.names r.body
   pub short : (key : Key) (r : Routine) → routine_of program key ≡ Some r → r.frame ≡ 0 → (activation_bytes r ≤ chain key) × (chain key ≤ 400)

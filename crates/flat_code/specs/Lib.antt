@@ -3,3 +3,4 @@ pub mod Memory
 pub mod Program
 pub mod Meaning
 pub mod Legal
+pub mod Laws

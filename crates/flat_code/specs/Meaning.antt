@@ -4,7 +4,7 @@ use Rattle.std.specs.Prelude.{ℕ, zero, suc, ◌+◌, ◌-◌, ◌*◌, ◌/◌
 use Rattle.std.specs.Option.{option_and_then}
 use Rattle.std.specs.Fmt.{decimal}
 use Rattle.behaviour.specs.Seen.{Standing, Ended, Going, Undefined, Seen}
-use Rattle.integers.specs.Words.{w16, word_of, word_from_bytes, wrapping_add, wrapping_sub, wrapping_mul, high_product, signed_quotient, signed_remainder, is_signed_less, shifted_left, shifted_right, low_byte}
+use Rattle.integers.specs.Words.{w16, word_of, wrapping_add, wrapping_sub, wrapping_mul, high_product, signed_quotient, signed_remainder, is_signed_less, shifted_left, shifted_right, low_byte}
 use Rattle.flat_code.specs.declared.tree.Address.{Address}
 use Rattle.flat_code.specs.declared.tree.Address.TheVariants.{Global, Local, Outer, Through}
 use Rattle.flat_code.specs.declared.tree.FlatOp.{FlatOp}
@@ -12,7 +12,7 @@ use Rattle.flat_code.specs.declared.tree.FlatOp.TheVariants as op
 use Rattle.flat_code.specs.declared.tree.FlatResult.{FlatResult}
 use Rattle.flat_code.specs.Tree.{Expr, Number, Byte, Word, AddressOf, SegmentOf, VmtOf, Op, expr_size, Step, StoreByte, StoreWord, Copy, Leave, Call, CallThrough, Runtime, StoreRoutine, Return, Error, step_size, Code, End, Do, If, Loop}
 use Rattle.flat_code.specs.Memory.{Cells, Known, Outside, Unset, Place, place_after, Found, Is, ByZero, Bad, ◌>>=◌, byte_at, word_at, far_at, bytes_at, store_bytes, word_bytes, far_bytes, copy, region, pushed, laid}
-use Rattle.flat_code.specs.Program.{Name, Key, Routine, Datum, Vmt, UnitCode, FlatProgram, Choice, named, routine_of, runtime_key, heap_segment_key, heap_bytes_key, ovr_name_key}
+use Rattle.flat_code.specs.Program.{Name, Key, Routine, Datum, Vmt, UnitCode, FlatProgram, Choice, named, runtime_key, heap_segment_key, heap_bytes_key, ovr_name_key}
 
 -- ---- places
 
@@ -318,7 +318,7 @@ step_of program choice again (Call unit number args result) f s =
     with_found (values_of choice f s.cells args) s (λ vs. spend s (λ s. with_found (key_of f unit number) s (called program choice again vs result f s)))
 step_of program choice again (CallThrough pointer args result) f s =
     with_found (values_of choice f s.cells args) s (λ vs. spend s (λ s.
-      with_found (pointer_at choice f s.cells pointer) s (λ p. with_some (choice.callee p) s (called program choice again vs result f s))))
+    with_found (pointer_at choice f s.cells pointer) s (λ p. with_some (choice.callee p) s (called program choice again vs result f s))))
 step_of program choice again (Runtime number args result) f s =
     with_found (values_of choice f s.cells args) s (λ vs. spend s (runtime_of program choice again number vs result f))
 step_of program choice again (StoreRoutine to unit number) f s =
@@ -344,13 +344,13 @@ runs program choice again End f s = Next s
 runs program choice again (Do step next) f s = and_then (step_of program choice again step f (begun (step_size step) s)) (runs program choice again next f)
 runs program choice again (If test taken other next) f s =
     and_then
-      (with_found (value_of choice f s.cells test) (begun (1 + expr_size test) s) (λ v.
-        chosen v (runs program choice again taken f (begun (1 + expr_size test) s)) (runs program choice again other f (begun (1 + expr_size test) s))))
-      (runs program choice again next f)
+    (with_found (value_of choice f s.cells test) (begun (1 + expr_size test) s) (λ v.
+    chosen v (runs program choice again taken f (begun (1 + expr_size test) s)) (runs program choice again other f (begun (1 + expr_size test) s))))
+    (runs program choice again next f)
 runs program choice again (Loop body next) f s =
     and_then
-      (spend (begun 1 s) (λ s. looped (runs program choice again body f (begun 1 s)) (again (Loop body End) f)))
-      (runs program choice again next f)
+    (spend (begun 1 s) (λ s. looped (runs program choice again body f (begun 1 s)) (again (Loop body End) f)))
+    (runs program choice again next f)
 
 -- with fuel, which runs out no earlier than the turns where it is greater
 abbrev pub run_by : FlatProgram → Choice → ℕ → Does
@@ -414,8 +414,8 @@ with_units program choice (name ∷ names) m = with_units program choice names (
 abbrev pub with_runtime : FlatProgram → Choice → Cells → Cells
 with_runtime program choice m =
     laid_at choice (choice.datum ovr_name_key) (length program.ovr_name ∷ program.ovr_name)
-      (laid_at choice (choice.datum heap_bytes_key) (number_bytes 4 program.heap)
-        (laid_at choice (choice.datum heap_segment_key) (word_bytes choice.heap_segment) m))
+    (laid_at choice (choice.datum heap_bytes_key) (number_bytes 4 program.heap)
+    (laid_at choice (choice.datum heap_segment_key) (word_bytes choice.heap_segment) m))
 
 -- the data and the heap; nothing of the stack can be reached
 abbrev pub start_cells : FlatProgram → Choice → Cells

@@ -1,5 +1,5 @@
 -- Programs of flat code, and where their parts lie.
-use Rattle.std.specs.Prelude.{ℕ, zero, suc, ◌+◌, ◌*◌, ◌/◌, ◌%◌, ◌==◌, Bool, if◌then◌else◌, List, [], ◌∷◌, Option, Some, None, slice_get, codes}
+use Rattle.std.specs.Prelude.{ℕ, zero, suc, ◌/◌, ◌%◌, ◌==◌, Bool, if◌then◌else◌, List, Option, Some, slice_get, codes}
 use Rattle.std.specs.Option.{option_and_then}
 use Rattle.flat_code.specs.declared.tree.FlatResult.{FlatResult}
 use Rattle.flat_code.specs.Tree.{Code}

@@ -1,16 +1,23 @@
 //! Flat code: structured code over bytes, its meaning and its interpreter.
 #![tactic(auto)]
 
+ghost use Rattle.std.specs.Prelude.{ℕ, List};
+ghost use Rattle.behaviour.specs.Seen.{IsRun};
+ghost use Rattle.flat_code.specs.Program.{FlatProgram, Choice};
+ghost use Rattle.flat_code.specs.Meaning.{flat_run};
+ghost use Rattle.flat_code.specs.Laws.{NodeLaws};
+
 mod tree;
 mod unit;
 
 pub use tree::{Address, FlatExpr, FlatExprs, FlatList, FlatOp, FlatResult, FlatStmt};
-pub use unit::{FlatData, FlatDatum, FlatRoutine, FlatRoutines, FlatUnit, FlatVmt, FlatVmts, RoutineIds};
+pub use unit::{
+    FlatData, FlatDatum, FlatRoutine, FlatRoutines, FlatUnit, FlatVmt, FlatVmts, RoutineIds,
+};
 
-ghost use Rattle.flat_code.specs.Program.{FlatProgram};
-
-/// The laws.
+/// The laws of flat code: greater numbers of turns change nothing of a run that is over and only
+/// add to what was written, and the meaning of each node is that of its parts. It does nothing.
 pub fn flat_laws()
-    ensures { FlatProgram → FlatProgram }
-{
-}
+    ensures runs { (program : FlatProgram) (choice : Choice) (input : List ℕ) → IsRun (λ turns. (flat_run program choice input turns).seen) }
+    ensures nodes { (program : FlatProgram) (choice : Choice) → NodeLaws program choice }
+{}

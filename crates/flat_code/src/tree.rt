@@ -56,8 +56,15 @@ pub enum FlatExpr {
     /// The segment of a place.
     SegmentOf(Address),
     /// The offset of a virtual method table.
-    VmtOf { unit: u32, number: u32 },
-    Op { op: FlatOp, a: Box<FlatExpr>, b: Box<FlatExpr> },
+    VmtOf {
+        unit: u32,
+        number: u32,
+    },
+    Op {
+        op: FlatOp,
+        a: Box<FlatExpr>,
+        b: Box<FlatExpr>,
+    },
 }
 
 /// Expressions, evaluated in order.
@@ -73,22 +80,53 @@ pub struct FlatResult {
 /// A statement.
 #[derive(Debug, Drop)]
 pub enum FlatStmt {
-    StoreByte { to: Address, value: FlatExpr },
-    StoreWord { to: Address, value: FlatExpr },
+    StoreByte {
+        to: Address,
+        value: FlatExpr,
+    },
+    StoreWord {
+        to: Address,
+        value: FlatExpr,
+    },
     /// Moves bytes one by one, the first first, once both places are known.
-    Copy { to: Address, from: Address, bytes: u16 },
-    If { test: FlatExpr, yes: FlatList, no: FlatList },
+    Copy {
+        to: Address,
+        from: Address,
+        bytes: u16,
+    },
+    If {
+        test: FlatExpr,
+        yes: FlatList,
+        no: FlatList,
+    },
     /// Runs its body again and again, until a `Leave` leaves it.
     Loop(FlatList),
     /// Leaves so many of the loops around it.
-    Leave { loops: u16 },
-    Call { routine: RoutineId, args: FlatExprs, result: Option<FlatResult> },
+    Leave {
+        loops: u16,
+    },
+    Call {
+        routine: RoutineId,
+        args: FlatExprs,
+        result: Option<FlatResult>,
+    },
     /// Calls the routine that the far pointer at a place names.
-    CallThrough { pointer: Address, args: FlatExprs, result: Option<FlatResult> },
+    CallThrough {
+        pointer: Address,
+        args: FlatExprs,
+        result: Option<FlatResult>,
+    },
     /// Numbers 0 to 4 are acts of the machine, the others routines of the runtime.
-    Runtime { number: u16, args: FlatExprs, result: Option<FlatResult> },
+    Runtime {
+        number: u16,
+        args: FlatExprs,
+        result: Option<FlatResult>,
+    },
     /// Stores the far pointer to a routine.
-    StoreRoutine { to: Address, routine: RoutineId },
+    StoreRoutine {
+        to: Address,
+        routine: RoutineId,
+    },
     Return,
     /// Ends the run with a runtime error.
     Error(u16),

@@ -35,8 +35,11 @@ pub struct FlatVmt {
 }
 
 pub type RoutineIds = Sequence<RoutineId>;
+
 pub type FlatRoutines = Sequence<FlatRoutine>;
+
 pub type FlatData = Sequence<FlatDatum>;
+
 pub type FlatVmts = Sequence<FlatVmt>;
 
 /// A unit.
