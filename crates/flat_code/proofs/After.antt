@@ -6,7 +6,9 @@ use Rattle.behaviour.specs.Seen.{Ended, Undefined}
 use Rattle.flat_code.specs.declared.tree.Address.{Address}
 use Rattle.flat_code.specs.declared.tree.FlatResult.{FlatResult}
 use Rattle.flat_code.specs.Tree.{Step, StoreByte, StoreWord, Copy, Leave, Call, CallThrough, Runtime, StoreRoutine, Return, Error, step_size, expr_size, Code, End, Do, If, Loop}
-use Rattle.flat_code.specs.Memory.{Cells, Found, Is, ByZero, Bad, ◌>>=◌, bytes_at, word_bytes, far_bytes}
+use Rattle.flat_code.specs.Memory.{Cells, Found, ◌>>=◌, bytes_at, word_bytes, far_bytes}
+use Rattle.flat_code.specs.declared.memory.Trap.TheVariants.{ByZero, Bad}
+use Rattle.std.specs.Prelude.{Ok, Err}
 use Rattle.flat_code.specs.Program.{Name, Key, Routine, UnitCode, FlatProgram, Choice, runtime_key}
 use Rattle.flat_code.specs.Meaning.{Frame, State, Outcome, Next, Left, Returned, Over, and_then, spent, spend, error_text, raised, with_found, begun, with_cells, set_cells, stored_at, copied_at, pointer_at, activation_bytes, is_too_deep, tested, admitted, entered_at, result_bytes, give, frame_of, opened, closed, ended, finished, Does, activated, entered, with_some, called, written, write_act, read_act, end_act, clear_act, flag_act, runtime_of, stored, left, step_of, looped, chosen, runs, run_by, run, value_of, values_of, key_of, if_placed}
 
@@ -69,9 +71,9 @@ pub after_raised : {Q : State → State → Type 0} → Steps Q → (code : ℕ)
 after_raised steps code s = after_spend steps s (λ s. Over (Ended (code % 256)) (record s { err = s.err ++ error_text code })) (λ t p. steps.err (error_text code) t)
 
 pub after_found : {Q : State → State → Type 0} {A : Type 0} → Steps Q → (x : Found A) (s : State) (go : A → Outcome) → ((v : A) → After Q s (go v)) → After Q s (with_found x s go)
-after_found steps (Is v) s go q = q v
-after_found steps ByZero s go q = after_raised steps 200 s
-after_found steps (Bad act) s go q = steps.itself s
+after_found steps (Ok v) s go q = q v
+after_found steps (Err ByZero) s go q = after_raised steps 200 s
+after_found steps (Err (Bad act)) s go q = steps.itself s
 
 pub after_some : {Q : State → State → Type 0} {A : Type 0} → Steps Q → (x : Option A) (s : State) (go : A → Outcome) → ((v : A) → After Q s (go v)) → After Q s (with_some x s go)
 after_some steps (Some v) s go q = q v

@@ -7,7 +7,9 @@ use Rattle.integers.specs.Words.{low_byte}
 use Rattle.flat_code.specs.declared.tree.Address.{Address}
 use Rattle.flat_code.specs.declared.tree.FlatResult.{FlatResult}
 use Rattle.flat_code.specs.Tree.{Step, StoreByte, StoreWord, Copy, Leave, Call, CallThrough, Runtime, StoreRoutine, Return, Error, step_size, expr_size, Code, End, Do, If, Loop}
-use Rattle.flat_code.specs.Memory.{Found, Is, ByZero, Bad, ◌>>=◌, bytes_at, word_bytes, far_bytes}
+use Rattle.flat_code.specs.Memory.{Found, ◌>>=◌, bytes_at, word_bytes, far_bytes}
+use Rattle.flat_code.specs.declared.memory.Trap.TheVariants.{ByZero, Bad}
+use Rattle.std.specs.Prelude.{Ok, Err}
 use Rattle.flat_code.specs.Program.{Name, Key, Routine, UnitCode, FlatProgram, Choice, runtime_key}
 use Rattle.flat_code.specs.Meaning.{Frame, State, Outcome, Next, Left, Returned, Over, and_then, spent, spend, error_text, raised, with_found, begun, with_cells, set_cells, stored_at, copied_at, pointer_at, activation_bytes, is_too_deep, tested, admitted, entered_at, result_bytes, give, frame_of, opened, closed, ended, finished, Does, activated, entered, with_some, called, written, write_act, read_act, end_act, clear_act, flag_act, runtime_of, stored, left, step_of, looped, chosen, runs, run_by, run, value_of, values_of, key_of, if_placed}
 use Rattle.flat_code.proofs.After.{After, Steps, Keeps, after_and_then, after_spend, after_runs, after_run_by, after_run, after_step, after_called, after_found, after_runtime, after_finished, after_looped, after_ended, after_some, after_chosen}
@@ -134,9 +136,9 @@ pub more_raised : (k code : ℕ) (s : State) → More k (raised code s) (raised 
 more_raised k code s = more_spend k s (over_error code) (over_error code) (λ t p. refl) (λ t. grows.err (error_text code) t)
 
 pub more_found : {A : Type 0} (k : ℕ) (x : Found A) (s : State) (g h : A → Outcome) → ((v : A) → More k (g v) (h v)) → More k (with_found x s g) (with_found x (more k s) h)
-more_found k (Is v) s g h q = q v
-more_found k ByZero s g h q = more_raised k 200 s
-more_found k (Bad act) s g h q = refl
+more_found k (Ok v) s g h q = q v
+more_found k (Err ByZero) s g h q = more_raised k 200 s
+more_found k (Err (Bad act)) s g h q = refl
 
 pub more_some : {A : Type 0} (k : ℕ) (x : Option A) (s : State) (g h : A → Outcome) → ((v : A) → More k (g v) (h v)) → More k (with_some x s g) (with_some x (more k s) h)
 more_some k (Some v) s g h q = q v

@@ -1,7 +1,9 @@
 -- The meaning of each node in terms of that of its parts.
 use Rattle.std.proofs.Common.{◌≡◌, ℕ, zero, suc, ◌+◌, refl, sym, ap, ◌∙◌}
 use Rattle.flat_code.specs.Tree.{Expr, expr_size, Step, step_size, Code, End, Do, If, Loop, ◌then◌}
-use Rattle.flat_code.specs.Memory.{Found, Is, ByZero, Bad}
+use Rattle.flat_code.specs.Memory.{Found}
+use Rattle.flat_code.specs.declared.memory.Trap.TheVariants.{ByZero, Bad}
+use Rattle.std.specs.Prelude.{Ok, Err}
 use Rattle.flat_code.specs.Program.{FlatProgram, Choice}
 use Rattle.flat_code.specs.Meaning.{Frame, State, Outcome, Next, Left, Returned, Over, and_then, spent, spend, with_found, begun, looped, chosen, value_of, step_of, Does, runs, run}
 use Rattle.flat_code.specs.Laws.{NodeLaws}
@@ -21,9 +23,9 @@ spent-same zero s g h e = refl
 spent-same (suc turns) s g h e = e (record s { turns = turns })
 
 found-same : {A : Type 0} (x : Found A) (s : State) (g h : A → Outcome) → ((v : A) → g v ≡ h v) → with_found x s g ≡ with_found x s h
-found-same (Is v) s g h e = e v
-found-same ByZero s g h e = refl
-found-same (Bad act) s g h e = refl
+found-same (Ok v) s g h e = e v
+found-same (Err ByZero) s g h e = refl
+found-same (Err (Bad act)) s g h e = refl
 
 chosen-same : (v : ℕ) (x y z w : Outcome) → x ≡ z → y ≡ w → chosen v x y ≡ chosen v z w
 chosen-same zero x y z w p q = q

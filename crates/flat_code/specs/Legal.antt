@@ -4,7 +4,7 @@ use Rattle.flat_code.specs.declared.tree.Address.{Address}
 use Rattle.flat_code.specs.declared.tree.Address.TheVariants.{Global, Local, Outer, Through}
 use Rattle.flat_code.specs.declared.tree.FlatResult.{FlatResult}
 use Rattle.flat_code.specs.Tree.{Expr, Number, Byte, Word, AddressOf, SegmentOf, VmtOf, Op, Step, StoreByte, StoreWord, Copy, Leave, Call, CallThrough, Runtime, StoreRoutine, Return, Error, Code, End, Do, If, Loop}
-use Rattle.flat_code.specs.Memory.{Place}
+use Rattle.flat_code.specs.declared.memory.Place.{Place}
 use Rattle.flat_code.specs.Program.{Name, Key, Routine, Datum, Vmt, UnitCode, FlatProgram, Choice, named, routine_of, runtime_key}
 use Rattle.flat_code.specs.Meaning.{activation_bytes, stack_top}
 

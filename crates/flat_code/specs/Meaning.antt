@@ -11,7 +11,11 @@ use Rattle.flat_code.specs.declared.tree.FlatOp.{FlatOp}
 use Rattle.flat_code.specs.declared.tree.FlatOp.TheVariants as op
 use Rattle.flat_code.specs.declared.tree.FlatResult.{FlatResult}
 use Rattle.flat_code.specs.Tree.{Expr, Number, Byte, Word, AddressOf, SegmentOf, VmtOf, Op, expr_size, Step, StoreByte, StoreWord, Copy, Leave, Call, CallThrough, Runtime, StoreRoutine, Return, Error, step_size, Code, End, Do, If, Loop}
-use Rattle.flat_code.specs.Memory.{Cells, Known, Outside, Unset, Place, place_after, Found, Is, ByZero, Bad, ◌>>=◌, byte_at, word_at, far_at, bytes_at, store_bytes, word_bytes, far_bytes, copy, region, pushed, laid}
+use Rattle.flat_code.specs.Memory.{Cells, place_after, Found, ◌>>=◌, byte_at, word_at, far_at, bytes_at, store_bytes, word_bytes, far_bytes, copy, region, pushed, laid}
+use Rattle.flat_code.specs.declared.memory.Place.{Place}
+use Rattle.flat_code.specs.declared.memory.Cell.TheVariants.{Known, Unset, Outside}
+use Rattle.flat_code.specs.declared.memory.Trap.TheVariants.{ByZero, Bad}
+use Rattle.std.specs.Prelude.{Ok, Err}
 use Rattle.flat_code.specs.Program.{Name, Key, Routine, Datum, Vmt, UnitCode, FlatProgram, Choice, named, runtime_key, heap_segment_key, heap_bytes_key, ovr_name_key}
 
 -- ---- places
@@ -31,25 +35,25 @@ stack_place choice base distance = record { segment = choice.stack_segment; offs
 
 -- the offset where the link word lies to which so many links lead from another one's
 abbrev pub linked : Choice → Cells → ℕ → ℕ → Found ℕ
-linked choice m zero at = Is at
+linked choice m zero at = Ok at
 linked choice m (suc levels) at = word_at m (record { segment = choice.stack_segment; offset = at }) >>= λ up. linked choice m levels up
 
 -- what has no place can't be reached
 abbrev pub if_placed : {A : Type 0} → Option A → Found A
-if_placed None = Bad 2
-if_placed (Some offset) = Is offset
+if_placed None = Err (Bad 2)
+if_placed (Some offset) = Ok offset
 
 abbrev pub key_of : Frame → ℕ → ℕ → Found Key
-key_of f unit number = if_placed (named f.unit f.names unit) >>= λ name. Is (record { unit = name; number = number })
+key_of f unit number = if_placed (named f.unit f.names unit) >>= λ name. Ok (record { unit = name; number = number })
 
 abbrev pub place_of : Choice → Frame → Cells → Address → Found Place
 place_of choice f m (Global unit number plus) = do
   key ← key_of f unit number
   offset ← if_placed (choice.datum key)
-  Is (place_after (record { segment = choice.data_segment; offset = offset }) plus)
-place_of choice f m (Local at) = Is (stack_place choice f.bp at)
-place_of choice f m (Outer levels at) = linked choice m levels f.link >>= λ link. Is (stack_place choice link at)
-place_of choice f m (Through slot plus) = far_at m (stack_place choice f.bp slot) >>= λ p. Is (place_after p plus)
+  Ok (place_after (record { segment = choice.data_segment; offset = offset }) plus)
+place_of choice f m (Local at) = Ok (stack_place choice f.bp at)
+place_of choice f m (Outer levels at) = linked choice m levels f.link >>= λ link. Ok (stack_place choice link at)
+place_of choice f m (Through slot plus) = far_at m (stack_place choice f.bp slot) >>= λ p. Ok (place_after p plus)
 
 -- ---- values
 
@@ -58,40 +62,40 @@ truth b = if b then 1 else 0
 
 -- by cases on the divisor
 abbrev pub divided : ℕ → ℕ → Found ℕ
-divided zero value = ByZero
-divided (suc divisor) value = Is value
+divided zero value = Err ByZero
+divided (suc divisor) value = Ok value
 
 abbrev pub op_of : FlatOp → ℕ → ℕ → Found ℕ
-op_of op.Add x y = Is (wrapping_add w16 x y)
-op_of op.Sub x y = Is (wrapping_sub w16 x y)
-op_of op.Mul x y = Is (wrapping_mul w16 x y)
-op_of op.MulHigh x y = Is (high_product w16 x y)
+op_of op.Add x y = Ok (wrapping_add w16 x y)
+op_of op.Sub x y = Ok (wrapping_sub w16 x y)
+op_of op.Mul x y = Ok (wrapping_mul w16 x y)
+op_of op.MulHigh x y = Ok (high_product w16 x y)
 op_of op.Div x y = divided y (signed_quotient w16 x y)
 op_of op.Mod x y = divided y (signed_remainder w16 x y)
 op_of op.DivUnsigned x y = divided y (x / y)
 op_of op.ModUnsigned x y = divided y (x % y)
-op_of op.And x y = Is (bit_and x y)
-op_of op.Or x y = Is (bit_or x y)
-op_of op.Xor x y = Is (bit_xor x y)
-op_of op.Shl x y = Is (shifted_left w16 x (low_byte y))
-op_of op.Shr x y = Is (shifted_right x (low_byte y))
-op_of op.Equal x y = Is (truth (x == y))
-op_of op.Less x y = Is (truth (is_signed_less w16 x y))
-op_of op.Below x y = Is (truth (nat_lt x y))
+op_of op.And x y = Ok (bit_and x y)
+op_of op.Or x y = Ok (bit_or x y)
+op_of op.Xor x y = Ok (bit_xor x y)
+op_of op.Shl x y = Ok (shifted_left w16 x (low_byte y))
+op_of op.Shr x y = Ok (shifted_right x (low_byte y))
+op_of op.Equal x y = Ok (truth (x == y))
+op_of op.Less x y = Ok (truth (is_signed_less w16 x y))
+op_of op.Below x y = Ok (truth (nat_lt x y))
 
 abbrev pub value_of : Choice → Frame → Cells → Expr → Found ℕ
-value_of choice f m (Number n) = Is n
+value_of choice f m (Number n) = Ok n
 value_of choice f m (Byte at) = place_of choice f m at >>= λ p. byte_at m p 0
 value_of choice f m (Word at) = place_of choice f m at >>= λ p. word_at m p
-value_of choice f m (AddressOf at) = place_of choice f m at >>= λ p. Is p.offset
-value_of choice f m (SegmentOf at) = place_of choice f m at >>= λ p. Is p.segment
+value_of choice f m (AddressOf at) = place_of choice f m at >>= λ p. Ok p.offset
+value_of choice f m (SegmentOf at) = place_of choice f m at >>= λ p. Ok p.segment
 value_of choice f m (VmtOf unit number) = key_of f unit number >>= λ key. if_placed (choice.vmt key)
 value_of choice f m (Op op a b) = value_of choice f m a >>= λ x. value_of choice f m b >>= λ y. op_of op x y
 
 -- in order
 abbrev pub values_of : Choice → Frame → Cells → List Expr → Found (List ℕ)
-values_of choice f m [] = Is []
-values_of choice f m (e ∷ es) = value_of choice f m e >>= λ v. values_of choice f m es >>= λ vs. Is (v ∷ vs)
+values_of choice f m [] = Ok []
+values_of choice f m (e ∷ es) = value_of choice f m e >>= λ v. values_of choice f m es >>= λ vs. Ok (v ∷ vs)
 
 -- ---- states and outcomes
 
@@ -134,9 +138,9 @@ abbrev pub raised : ℕ → State → Outcome
 raised code s = spend s (λ s. Over (Ended (code % 256)) (record s { err = s.err ++ error_text code }))
 
 abbrev pub with_found : {A : Type 0} → Found A → State → (A → Outcome) → Outcome
-with_found (Is x) s go = go x
-with_found ByZero s go = raised 200 s
-with_found (Bad act) s go = Over (Undefined act) s
+with_found (Ok x) s go = go x
+with_found (Err ByZero) s go = raised 200 s
+with_found (Err (Bad act)) s go = Over (Undefined act) s
 
 abbrev pub begun : ℕ → State → State
 begun nodes s = record s { work = s.work + nodes }
@@ -164,7 +168,7 @@ pointer_at choice f m at = place_of choice f m at >>= λ p. far_at m p
 
 -- the bytes of a result, or none
 abbrev pub result_bytes : Choice → Frame → Cells → Option FlatResult → Found (List ℕ)
-result_bytes choice f m None = Is []
+result_bytes choice f m None = Ok []
 result_bytes choice f m (Some result) = place_of choice f m result.at >>= λ p. bytes_at m p 0 result.bytes
 
 -- they go to where the call wants them, which must be as many

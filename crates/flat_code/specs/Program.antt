@@ -3,7 +3,7 @@ use Rattle.std.specs.Prelude.{ℕ, zero, suc, ◌/◌, ◌%◌, ◌==◌, Bool, 
 use Rattle.std.specs.Option.{option_and_then}
 use Rattle.flat_code.specs.declared.tree.FlatResult.{FlatResult}
 use Rattle.flat_code.specs.Tree.{Code}
-use Rattle.flat_code.specs.Memory.{Place}
+use Rattle.flat_code.specs.declared.memory.Place.{Place}
 
 abbrev pub Name : Type 0
 Name = List ℕ

@@ -7,9 +7,11 @@ ghost use Rattle.flat_code.specs.Program.{FlatProgram, Choice};
 ghost use Rattle.flat_code.specs.Meaning.{flat_run};
 ghost use Rattle.flat_code.specs.Laws.{NodeLaws};
 
+mod memory;
 mod tree;
 mod unit;
 
+pub use memory::{ADDRESSES, Cell, Memory, Place, Trap};
 pub use tree::{Address, FlatExpr, FlatExprs, FlatList, FlatOp, FlatResult, FlatStmt};
 pub use unit::{
     FlatData, FlatDatum, FlatRoutine, FlatRoutines, FlatUnit, FlatVmt, FlatVmts, RoutineIds,

@@ -1,0 +1,100 @@
+//! Memory as flat code sees it: the machine's own addresses, of which only some can be reached.
+
+ghost use Rattle.std.specs.Prelude.{◌≡◌, ℕ, ◌+◌, ◌*◌, ◌<◌, List, length, MatchResult};
+ghost use Rattle.flat_code.specs.Memory.{
+    address_of, place_after, cells_of, byte_at, word_at, far_at, write, store_bytes, copy,
+};
+
+use integers::word_from_bytes;
+
+/// A byte of data, heap or a live activation, known or unset; every other one is outside.
+#[derive(Clone, Copy, Debug, PartialEq, Eq)]
+pub enum Cell {
+    Known(u8),
+    Unset,
+    Outside,
+}
+
+/// A far pointer, or where one leads.
+#[derive(Clone, Copy, Debug, PartialEq, Eq)]
+pub struct Place {
+    pub segment: u16,
+    pub offset: u16,
+}
+
+/// Why a value was not found.
+#[derive(Clone, Copy, Debug, PartialEq, Eq)]
+pub enum Trap {
+    /// A division by zero.
+    ByZero,
+    /// An act that the language leaves open: 1 reads what is unset, 2 reads or writes outside.
+    Bad(u8),
+}
+
+/// The bytes that an address can name.
+pub const ADDRESSES: usize = 0x10_0000;
+
+/// The cells of all addresses.
+#[derive(Drop)]
+pub struct Memory {
+    pub cells: Vec<Cell>,
+    ghost whole: { length cells.items ≡ 1048576 },
+}
+
+impl Place {
+    /// The address of the byte that lies `i` bytes after the place; offsets wrap in the segment.
+    pub fn address(self, i: u16) -> usize
+        ensures value { result ≡ address_of self i }
+        ensures small { result < 1048576 }
+    {
+        (16 * usize::from(self.segment) + usize::from(self.offset.wrapping_add(i))) % ADDRESSES
+    }
+
+    /// The place some bytes further on in the segment.
+    pub fn after(self, bytes: u16) -> Place
+        ensures { result ≡ place_after self bytes }
+    {
+        Place {
+            segment: self.segment,
+            offset: self.offset.wrapping_add(bytes),
+        }
+    }
+}
+
+impl Memory {
+    fn cell(&self, address: usize) -> Cell
+        requires { address < 1048576 }
+        ensures { result ≡ cells_of self.now.cells.items address }
+    {
+        self.cells[address]
+    }
+
+    /// The byte `i` bytes after a place.
+    pub fn byte(&self, place: Place, i: u16) -> Result<u8, Trap>
+        ensures { result ≡ byte_at (cells_of self.now.cells.items) place i }
+    {
+        match self.cell(place.address(i)) {
+            Cell::Known(byte) => Ok(byte),
+            Cell::Unset => Err(Trap::Bad(1)),
+            Cell::Outside => Err(Trap::Bad(2)),
+        }
+    }
+
+    /// The word at a place.
+    pub fn word(&self, place: Place) -> Result<u16, Trap>
+        ensures { result ≡ word_at (cells_of self.now.cells.items) place }
+    {
+        let low = self.byte(place, 0)?;
+        let high = self.byte(place, 1)?;
+        Ok(word_from_bytes(low, high))
+    }
+
+    /// The far pointer at a place.
+    pub fn far(&self, place: Place) -> Result<Place, Trap>
+        ensures { result ≡ far_at (cells_of self.now.cells.items) place }
+    {
+        let offset = self.word(place)?;
+        let segment = self.word(place.after(2))?;
+        Ok(Place { segment, offset })
+    }
+}
