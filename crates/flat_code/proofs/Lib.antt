@@ -1,4 +1,5 @@
 pub mod After
+pub mod Copies
 pub mod More
 pub mod Whole
 pub mod Nodes

@@ -2,7 +2,8 @@
 
 ghost use Rattle.std.specs.Prelude.{◌≡◌, ℕ, ◌+◌, ◌*◌, ◌<◌, List, length, MatchResult};
 ghost use Rattle.flat_code.specs.Memory.{
-    address_of, place_after, cells_of, byte_at, word_at, far_at, write, store_bytes, copy,
+    address_of, place_after, cells_of, byte_at, word_at, far_at, put, write, store_bytes,
+    copied_cell, copy,
 };
 
 use integers::word_from_bytes;
@@ -96,5 +97,61 @@ impl Memory {
         let offset = self.word(place)?;
         let segment = self.word(place.after(2))?;
         Ok(Place { segment, offset })
+    }
+
+    fn set(&mut self, address: usize, cell: Cell)
+        requires { address < 1048576 }
+        ensures { cells_of self.new.cells.items ≡ put (cells_of self.old.cells.items) address cell }
+    {
+        self.cells[address] = cell;
+    }
+
+    fn write(&mut self, address: usize, cell: Cell) -> Result<(), Trap>
+        requires { address < 1048576 }
+        ensures { MatchResult result (λ _. write (cells_of self.old.cells.items) address cell ≡ Ok (cells_of self.new.cells.items)) (λ trap. write (cells_of self.old.cells.items) address cell ≡ Err trap) }
+    {
+        match self.cell(address) {
+            Cell::Outside => Err(Trap::Bad(2)),
+            _ => {
+                self.set(address, cell);
+                Ok(())
+            }
+        }
+    }
+
+    /// Stores bytes from the `i`-th on after a place. After a trap some may be stored.
+    pub fn store(&mut self, place: Place, i: u16, bytes: &[u8]) -> Result<(), Trap>
+        requires { i + length bytes.now < 65536 }
+        ensures { MatchResult result (λ _. store_bytes (cells_of self.old.cells.items) place i bytes.now ≡ Ok (cells_of self.new.cells.items)) (λ trap. store_bytes (cells_of self.old.cells.items) place i bytes.now ≡ Err trap) }
+    {
+        match bytes {
+            [] => Ok(()),
+            [byte, rest @ ..] => {
+                self.write(place.address(i), Cell::Known(*byte))?;
+                self.store(place, i + 1, rest)
+            }
+        }
+    }
+
+    fn move_cell(&mut self, to: usize, from: usize) -> Result<(), Trap>
+        requires to { to < 1048576 }
+        requires from { from < 1048576 }
+        ensures { let moved = copied_cell (cells_of self.old.cells.items) to (cells_of self.old.cells.items from) in MatchResult result (λ _. moved ≡ Ok (cells_of self.new.cells.items)) (λ trap. moved ≡ Err trap) }
+    {
+        match self.cell(from) {
+            Cell::Outside => Err(Trap::Bad(2)),
+            cell => self.write(to, cell),
+        }
+    }
+
+    /// Copies bytes one by one, the first first; unset ones stay unset. After a trap some may be
+    /// copied.
+    pub fn copy(&mut self, to: Place, from: Place, bytes: u16) -> Result<(), Trap>
+        ensures { MatchResult result (λ _. copy (cells_of self.old.cells.items) to from 0 bytes ≡ Ok (cells_of self.new.cells.items)) (λ trap. copy (cells_of self.old.cells.items) to from 0 bytes ≡ Err trap) }
+    {
+        'bytes: for i in 0..bytes {
+            self.move_cell(to.address(i), from.address(i))?;
+        }
+        Ok(())
     }
 }
