@@ -8,6 +8,7 @@ ghost use Rattle.flat_code.specs.Meaning.{flat_run};
 ghost use Rattle.flat_code.specs.Laws.{NodeLaws};
 
 mod memory;
+mod program;
 mod tree;
 mod unit;
 
