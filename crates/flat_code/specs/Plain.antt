@@ -1,5 +1,5 @@
 -- The program that a list of units makes, and the choice that the interpreter takes.
-use Rattle.std.specs.Prelude.{ℕ, zero, suc, ◌+◌, ◌-◌, ◌*◌, ◌%◌, ◌==◌, ◌&&◌, Bool, nat_le, nat_eq, if◌then◌else◌, List, [], ◌∷◌, ◌++◌, map, length, Option, Some, None, slice_get, codes}
+use Rattle.std.specs.Prelude.{ℕ, zero, suc, ◌+◌, ◌-◌, ◌*◌, ◌%◌, ◌==◌, ◌&&◌, Bool, nat_le, nat_lt, nat_eq, if◌then◌else◌, List, [], ◌∷◌, ◌++◌, map, length, Option, Some, None, slice_get, codes}
 use Rattle.std.specs.Option.{option_and_then, option_map}
 use Rattle.std.specs.List.{list_any}
 use Rattle.type_layout.specs.Words.{same_bytes}
@@ -9,6 +9,8 @@ use Rattle.flat_code.specs.declared.unit.FlatDatum.{FlatDatum}
 use Rattle.flat_code.specs.declared.unit.FlatVmt.{FlatVmt}
 use Rattle.flat_code.specs.declared.unit.FlatUnit.{FlatUnit}
 use Rattle.flat_code.specs.declared.memory.Place.{Place}
+use Rattle.flat_code.specs.declared.value.Activation.{Activation}
+use Rattle.flat_code.specs.Meaning.{Frame}
 use Rattle.flat_code.specs.View.{view_list}
 use Rattle.flat_code.specs.Program.{Name, Key, Routine, Datum, Vmt, UnitCode, FlatProgram, Choice, text_unit, strings_unit, overlay_unit}
 
@@ -121,7 +123,7 @@ vmt_of at start (unit ∷ units) name number =
 -- ---- far pointers
 
 abbrev pub far_if : Bool → ℕ → ℕ → Option Place
-far_if far at number = if far then Some (record { segment = 61440 + at; offset = number }) else None
+far_if far at number = if far && nat_lt number 65536 then Some (record { segment = 61440 + at; offset = number }) else None
 
 abbrev pub far_of : ℕ → List UnitCode → Name → ℕ → Option Place
 far_of at [] name number = None
@@ -147,3 +149,9 @@ choice_of units = record {
   far = λ key. far_of 0 units key.unit key.number;
   callee = λ p. if nat_le 61440 p.segment then callee_of 0 units (p.segment - 61440) p.offset else None;
 }
+
+-- ---- frames
+
+-- an activation as the interpreter keeps it
+abbrev pub view_frame : Activation → Frame
+view_frame f = record { unit = f.name.now; names = f.unit.now.names; bp = f.bp; link = f.link; sp = f.sp; sum = f.sum }

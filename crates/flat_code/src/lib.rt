@@ -11,6 +11,7 @@ mod memory;
 mod program;
 mod tree;
 mod unit;
+mod value;
 
 pub use memory::{ADDRESSES, Cell, Memory, Place, Trap};
 pub use tree::{Address, FlatExpr, FlatExprs, FlatList, FlatOp, FlatResult, FlatStmt};

@@ -1,11 +1,13 @@
 //! The program that a list of units makes, and where its parts lie.
 
 ghost use Rattle.std.specs.Prelude.{◌≡◌, ℕ, ◌+◌, ◌*◌, ◌^◌, ◌<◌, ◌≤◌, List, map, length, slice_get};
-ghost use Rattle.std.specs.Option.{option_copied, option_and_then};
+ghost use Rattle.std.specs.Option.{option_map, option_and_then};
+ghost use Rattle.std.specs.Borrow.{Bor};
+ghost use Rattle.flat_code.specs.declared.unit.FlatUnit.{FlatUnit};
 ghost use Rattle.flat_code.specs.Program.{Routine};
 ghost use Rattle.flat_code.specs.Plain.{
     view_unit, view_routine, view_datum, view_vmt, name_at, data_size, vmts_size, unit_size, units_size,
-    datum_from, vmt_from, datum_of, vmt_of, even, vmt_size, far_of, far_if,
+    datum_from, vmt_from, datum_of, vmt_of, even, vmt_size, far_of, far_if, unit_from,
 };
 
 use crate::memory::Place;
@@ -139,15 +141,15 @@ pub fn vmt_of(at: usize, start: u32, units: &[FlatUnit], name: &[u8], number: u3
 }
 
 // The far pointer of a routine of the unit at a place of the list.
-fn far_in(at: u16, routines: &[FlatRoutine], number: u16) -> Option<Place>
+fn far_in(at: u16, routines: &[FlatRoutine], number: u32) -> Option<Place>
     requires { at < 4096 }
     ensures { result ≡ option_and_then (λ (r : Routine). far_if r.far at number) (slice_get (map view_routine routines.now) number) }
 {
-    let routine = routines.get(usize::from(number))?;
-    if routine.far {
+    let routine = routines.get(number as usize)?;
+    if routine.far && number < 0x1_0000 {
         Some(Place {
             segment: 0xf000 + at,
-            offset: number,
+            offset: number as u16,
         })
     } else {
         None
@@ -155,7 +157,7 @@ fn far_in(at: u16, routines: &[FlatRoutine], number: u16) -> Option<Place>
 }
 
 /// The far pointer of a far routine, by its unit's name and its number there.
-pub fn far_of(at: u16, units: &[FlatUnit], name: &[u8], number: u16) -> Option<Place>
+pub fn far_of(at: u16, units: &[FlatUnit], name: &[u8], number: u32) -> Option<Place>
     requires { at + length units.now ≤ 4096 }
     ensures { result ≡ far_of at (map view_unit units.now) name.now number }
 {
@@ -166,6 +168,23 @@ pub fn far_of(at: u16, units: &[FlatUnit], name: &[u8], number: u16) -> Option<P
                 far_in(at, unit.routines.as_slice(), number)
             } else {
                 far_of(at + 1, rest, name, number)
+            }
+        }
+    }
+}
+
+/// The unit of a name.
+pub fn unit_of<'a>(at: usize, units: &'a [FlatUnit], name: &[u8]) -> Option<&'a FlatUnit>
+    requires { at + length units.now ≤ 4096 }
+    ensures { option_map (λ (unit : Bor FlatUnit). view_unit unit.now) result ≡ unit_from at (map view_unit units.now) name.now }
+{
+    match units {
+        [] => None,
+        [unit, rest @ ..] => {
+            if name_at(at, unit) == name {
+                Some(unit)
+            } else {
+                unit_of(at + 1, rest, name)
             }
         }
     }
