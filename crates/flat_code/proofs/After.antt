@@ -10,7 +10,7 @@ use Rattle.flat_code.specs.Memory.{Cells, Found, ◌>>=◌, bytes_at, word_bytes
 use Rattle.flat_code.specs.declared.memory.Trap.TheVariants.{ByZero, Bad}
 use Rattle.std.specs.Prelude.{Ok, Err}
 use Rattle.flat_code.specs.Program.{Name, Key, Routine, UnitCode, FlatProgram, Choice, runtime_key}
-use Rattle.flat_code.specs.Meaning.{Frame, State, Outcome, Next, Left, Returned, Over, and_then, spent, spend, error_text, raised, with_found, begun, with_cells, set_cells, stored_at, copied_at, pointer_at, activation_bytes, is_too_deep, tested, admitted, entered_at, result_bytes, give, frame_of, opened, closed, ended, finished, Does, activated, entered, with_some, called, written, write_act, read_act, end_act, clear_act, flag_act, runtime_of, stored, left, step_of, looped, chosen, runs, run_by, run, value_of, values_of, key_of, if_placed}
+use Rattle.flat_code.specs.Meaning.{routine_pointer, Frame, State, Outcome, Next, Left, Returned, Over, and_then, spent, spend, error_text, raised, with_found, begun, with_cells, set_cells, stored_at, copied_at, pointer_at, activation_bytes, is_too_deep, tested, admitted, entered_at, result_bytes, give, frame_of, opened, closed, ended, finished, Does, activated, entered, with_some, called, written, write_act, read_act, end_act, clear_act, flag_act, runtime_of, stored, left, step_of, looped, chosen, runs, run_by, run, value_of, values_of, key_of, if_placed}
 
 -- the relation holds of the state from which an outcome goes on
 abbrev pub After : (State → State → Type 0) → State → Outcome → Type 0
@@ -195,7 +195,7 @@ after_step steps program choice again keeps (Runtime number args result) f s =
     after_found steps (values_of choice f s.cells args) s (λ vs. spend s (runtime_of program choice again number vs result f)) (λ vs.
     after_spend steps s (runtime_of program choice again number vs result f) (λ t p. after_runtime steps program choice again keeps number vs result f t))
 after_step steps program choice again keeps (StoreRoutine to unit number) f s =
-    after_found steps (key_of f unit number >>= λ key. if_placed (choice.far key)) s (λ p. stored choice f to (far_bytes p) s) (λ p. after_stored steps choice f to (far_bytes p) s)
+    after_found steps (routine_pointer choice f unit number) s (λ p. stored choice f to (far_bytes p) s) (λ p. after_stored steps choice f to (far_bytes p) s)
 after_step steps program choice again keeps Return f s = steps.itself s
 after_step steps program choice again keeps (Error code) f s = after_raised steps code s
 

@@ -11,7 +11,7 @@ use Rattle.flat_code.specs.Memory.{Found, ◌>>=◌, bytes_at, word_bytes, far_b
 use Rattle.flat_code.specs.declared.memory.Trap.TheVariants.{ByZero, Bad}
 use Rattle.std.specs.Prelude.{Ok, Err}
 use Rattle.flat_code.specs.Program.{Name, Key, Routine, UnitCode, FlatProgram, Choice, runtime_key}
-use Rattle.flat_code.specs.Meaning.{Frame, State, Outcome, Next, Left, Returned, Over, and_then, spent, spend, error_text, raised, with_found, begun, with_cells, set_cells, stored_at, copied_at, pointer_at, activation_bytes, is_too_deep, tested, admitted, entered_at, result_bytes, give, frame_of, opened, closed, ended, finished, Does, activated, entered, with_some, called, written, write_act, read_act, end_act, clear_act, flag_act, runtime_of, stored, left, step_of, looped, chosen, runs, run_by, run, value_of, values_of, key_of, if_placed}
+use Rattle.flat_code.specs.Meaning.{routine_pointer, Frame, State, Outcome, Next, Left, Returned, Over, and_then, spent, spend, error_text, raised, with_found, begun, with_cells, set_cells, stored_at, copied_at, pointer_at, activation_bytes, is_too_deep, tested, admitted, entered_at, result_bytes, give, frame_of, opened, closed, ended, finished, Does, activated, entered, with_some, called, written, write_act, read_act, end_act, clear_act, flag_act, runtime_of, stored, left, step_of, looped, chosen, runs, run_by, run, value_of, values_of, key_of, if_placed}
 use Rattle.flat_code.proofs.After.{After, Steps, Keeps, after_and_then, after_spend, after_runs, after_run_by, after_run, after_step, after_called, after_found, after_runtime, after_finished, after_looped, after_ended, after_some, after_chosen}
 
 -- ---- two relations that runs keep
@@ -278,7 +278,7 @@ more_step program choice A B k bound alike (Runtime number args result) f s p =
     (λ t q. more_runtime program choice A B k bound alike number vs result f t (omega arith))
     (λ t. after_runtime grows program choice B alike.growing number vs result f t))
 more_step program choice A B k bound alike (StoreRoutine to unit number) f s p =
-    more_found k (key_of f unit number >>= λ key. if_placed (choice.far key)) s (λ p. stored choice f to (far_bytes p) s) (λ p. stored choice f to (far_bytes p) (more k s)) (λ p. more_stored k choice f to (far_bytes p) s)
+    more_found k (routine_pointer choice f unit number) s (λ p. stored choice f to (far_bytes p) s) (λ p. stored choice f to (far_bytes p) (more k s)) (λ p. more_stored k choice f to (far_bytes p) s)
 more_step program choice A B k bound alike Return f s p = refl
 more_step program choice A B k bound alike (Error code) f s p = more_raised k code s
 

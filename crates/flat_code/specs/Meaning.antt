@@ -46,11 +46,20 @@ if_placed (Some offset) = Ok offset
 abbrev pub key_of : Frame → ℕ → ℕ → Found Key
 key_of f unit number = if_placed (named f.unit f.names unit) >>= λ name. Ok (record { unit = name; number = number })
 
-abbrev pub place_of : Choice → Frame → Cells → Address → Found Place
-place_of choice f m (Global unit number plus) = do
+abbrev pub datum_place : Choice → Frame → ℕ → ℕ → Found Place
+datum_place choice f unit number = do
   key ← key_of f unit number
   offset ← if_placed (choice.datum key)
-  Ok (place_after (record { segment = choice.data_segment; offset = offset }) plus)
+  Ok (record { segment = choice.data_segment; offset = offset })
+
+abbrev pub vmt_offset : Choice → Frame → ℕ → ℕ → Found ℕ
+vmt_offset choice f unit number = key_of f unit number >>= λ key. if_placed (choice.vmt key)
+
+abbrev pub routine_pointer : Choice → Frame → ℕ → ℕ → Found Place
+routine_pointer choice f unit number = key_of f unit number >>= λ key. if_placed (choice.far key)
+
+abbrev pub place_of : Choice → Frame → Cells → Address → Found Place
+place_of choice f m (Global unit number plus) = datum_place choice f unit number >>= λ p. Ok (place_after p plus)
 place_of choice f m (Local at) = Ok (stack_place choice f.bp at)
 place_of choice f m (Outer levels at) = linked choice m levels f.link >>= λ link. Ok (stack_place choice link at)
 place_of choice f m (Through slot plus) = far_at m (stack_place choice f.bp slot) >>= λ p. Ok (place_after p plus)
@@ -89,7 +98,7 @@ value_of choice f m (Byte at) = place_of choice f m at >>= λ p. byte_at m p 0
 value_of choice f m (Word at) = place_of choice f m at >>= λ p. word_at m p
 value_of choice f m (AddressOf at) = place_of choice f m at >>= λ p. Ok p.offset
 value_of choice f m (SegmentOf at) = place_of choice f m at >>= λ p. Ok p.segment
-value_of choice f m (VmtOf unit number) = key_of f unit number >>= λ key. if_placed (choice.vmt key)
+value_of choice f m (VmtOf unit number) = vmt_offset choice f unit number
 value_of choice f m (Op op a b) = value_of choice f m a >>= λ x. value_of choice f m b >>= λ y. op_of op x y
 
 -- in order
@@ -326,7 +335,7 @@ step_of program choice again (CallThrough pointer args result) f s =
 step_of program choice again (Runtime number args result) f s =
     with_found (values_of choice f s.cells args) s (λ vs. spend s (runtime_of program choice again number vs result f))
 step_of program choice again (StoreRoutine to unit number) f s =
-    with_found (key_of f unit number >>= λ key. if_placed (choice.far key)) s (λ p. stored choice f to (far_bytes p) s)
+    with_found (routine_pointer choice f unit number) s (λ p. stored choice f to (far_bytes p) s)
 step_of program choice again Return f s = Returned s
 step_of program choice again (Error code) f s = raised code s
 

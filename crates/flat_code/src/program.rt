@@ -43,7 +43,7 @@ fn vmt_size(vmt: &FlatVmt) -> u32
 }
 
 // The offset of a datum of a list that begins at `start`.
-fn datum_from(start: u32, list: &[FlatDatum], number: u32) -> Option<u32>
+fn datum_from(start: u32, list: &[FlatDatum], number: u32) -> Option<u16>
     requires { start + data_size (map view_datum list.now) < 65536 }
     ensures { result ≡ datum_from start (map view_datum list.now) number }
 {
@@ -51,7 +51,7 @@ fn datum_from(start: u32, list: &[FlatDatum], number: u32) -> Option<u32>
         [] => None,
         [datum, rest @ ..] => {
             if number == 0 {
-                Some(start)
+                Some(start as u16)
             } else {
                 datum_from(start + even(datum.size), rest, number - 1)
             }
@@ -60,7 +60,7 @@ fn datum_from(start: u32, list: &[FlatDatum], number: u32) -> Option<u32>
 }
 
 // The offset of a virtual method table of a list that begins at `start`.
-fn vmt_from(start: u32, list: &[FlatVmt], number: u32) -> Option<u32>
+fn vmt_from(start: u32, list: &[FlatVmt], number: u32) -> Option<u16>
     requires { start + vmts_size (map view_vmt list.now) < 65536 }
     ensures { result ≡ vmt_from start (map view_vmt list.now) number }
 {
@@ -68,7 +68,7 @@ fn vmt_from(start: u32, list: &[FlatVmt], number: u32) -> Option<u32>
         [] => None,
         [vmt, rest @ ..] => {
             if number == 0 {
-                Some(start)
+                Some(start as u16)
             } else {
                 vmt_from(start + vmt_size(vmt), rest, number - 1)
             }
@@ -104,7 +104,7 @@ fn unit_size(unit: &FlatUnit) -> u32
 }
 
 /// The offset of a datum, by its unit's name and its number there.
-pub fn datum_of(at: usize, start: u32, units: &[FlatUnit], name: &[u8], number: u32) -> Option<u32>
+pub fn datum_of(at: usize, start: u32, units: &[FlatUnit], name: &[u8], number: u32) -> Option<u16>
     requires few { at + length units.now < 65536 }
     requires small { start + units_size (map view_unit units.now) < 65536 }
     ensures { result ≡ datum_of at start (map view_unit units.now) name.now number }
@@ -122,7 +122,7 @@ pub fn datum_of(at: usize, start: u32, units: &[FlatUnit], name: &[u8], number: 
 }
 
 /// The offset of a virtual method table, by its unit's name and its number there.
-pub fn vmt_of(at: usize, start: u32, units: &[FlatUnit], name: &[u8], number: u32) -> Option<u32>
+pub fn vmt_of(at: usize, start: u32, units: &[FlatUnit], name: &[u8], number: u32) -> Option<u16>
     requires few { at + length units.now < 65536 }
     requires small { start + units_size (map view_unit units.now) < 65536 }
     ensures { result ≡ vmt_of at start (map view_unit units.now) name.now number }

@@ -1,14 +1,16 @@
 //! Places and values in an activation.
 
-ghost use Rattle.std.specs.Prelude.{◌≡◌, ℕ, ◌/◌, ◌%◌, ◌≤◌, List, map, length, option_copied};
-ghost use Rattle.integers.specs.Words.{w16, word_of, signed_quotient, signed_remainder};
+ghost use Rattle.std.specs.Prelude.{◌≡◌, ℕ, ◌/◌, ◌%◌, ◌≤◌, List, map, length};
+ghost use Rattle.integers.specs.Words.{w16, word_of, signed_quotient, signed_remainder, wrapping_add};
+ghost use Rattle.std.specs.Option.{option_copied};
 ghost use Rattle.flat_code.specs.Memory.{cells_of};
 ghost use Rattle.flat_code.specs.Program.{named};
-ghost use Rattle.flat_code.specs.Meaning.{linked, op_of, truth, divided};
-ghost use Rattle.flat_code.specs.Plain.{view_unit, units_size, choice_of};
+ghost use Rattle.flat_code.specs.Meaning.{linked, op_of, truth, divided, datum_place, vmt_offset, routine_pointer, place_of, value_of};
+ghost use Rattle.flat_code.specs.View.{view_expr};
+ghost use Rattle.flat_code.specs.Plain.{view_unit, view_frame, units_size, choice_of};
 
 use crate::memory::{Memory, Place, Trap};
-use crate::program::{datum_of, vmt_of};
+use crate::program::{datum_of, far_of, vmt_of};
 use crate::tree::{Address, FlatExpr, FlatOp};
 use crate::unit::FlatUnit;
 use integers::{high_product, is_signed_less, shifted_left, shifted_right, signed_quotient, signed_remainder};
@@ -103,4 +105,130 @@ fn rest(x: u16, y: u16) -> Result<u16, Trap>
         return Err(Trap::ByZero);
     }
     Ok(x % y)
+}
+
+// The name of a unit by its place in the names of the running routine's unit.
+fn named<'a>(f: &Activation<'a>, unit: u32) -> Option<&'a [u8]>
+    ensures { option_copied result ≡ named f.now.name.now f.now.unit.now.names unit }
+{
+    if unit == 0 {
+        return Some(f.name);
+    }
+    let name = f.unit.names.as_slice().get(unit as usize)?;
+    Some(name.as_bytes())
+}
+
+// So far from an offset in the stack.
+fn stack_place(base: u16, distance: i32) -> Place
+    ensures { result ≡ record { segment = 8192; offset = wrapping_add w16 base (word_of w16 distance) } }
+{
+    Place {
+        segment: STACK_SEGMENT,
+        offset: base.wrapping_add(low_word(distance)),
+    }
+}
+
+// The offset of the link word to which so many links lead.
+fn linked(units: &[FlatUnit], memory: &Memory, levels: u8, at: u16) -> Result<u16, Trap>
+    ensures { result ≡ linked (choice_of (map view_unit units.now)) (cells_of memory.now.cells.items) levels at }
+{
+    if levels == 0 {
+        return Ok(at);
+    }
+    let up = memory.word(Place {
+        segment: STACK_SEGMENT,
+        offset: at,
+    })?;
+    linked(units, memory, levels - 1, up)
+}
+
+// Where a datum lies.
+fn datum_place(units: &[FlatUnit], f: &Activation, unit: u32, number: u32) -> Result<Place, Trap>
+    requires few { length units.now ≤ 4096 }
+    requires small { units_size (map view_unit units.now) ≤ 65520 }
+    ensures { result ≡ datum_place (choice_of (map view_unit units.now)) (view_frame f.now) unit number }
+{
+    let name = named(f, unit).ok_or(Trap::Bad(2))?;
+    let offset = datum_of(0, 0, units, name, number).ok_or(Trap::Bad(2))?;
+    Ok(Place {
+        segment: DATA_SEGMENT,
+        offset,
+    })
+}
+
+// The offset of a virtual method table.
+fn vmt_offset(units: &[FlatUnit], f: &Activation, unit: u32, number: u32) -> Result<u16, Trap>
+    requires few { length units.now ≤ 4096 }
+    requires small { units_size (map view_unit units.now) ≤ 65520 }
+    ensures { result ≡ vmt_offset (choice_of (map view_unit units.now)) (view_frame f.now) unit number }
+{
+    let name = named(f, unit).ok_or(Trap::Bad(2))?;
+    vmt_of(0, 0, units, name, number).ok_or(Trap::Bad(2))
+}
+
+/// The far pointer to a routine.
+pub fn routine_pointer(
+    units: &[FlatUnit],
+    f: &Activation,
+    unit: u32,
+    number: u32,
+) -> Result<Place, Trap>
+    requires few { length units.now ≤ 4096 }
+    ensures { result ≡ routine_pointer (choice_of (map view_unit units.now)) (view_frame f.now) unit number }
+{
+    let name = named(f, unit).ok_or(Trap::Bad(2))?;
+    far_of(0, units, name, number).ok_or(Trap::Bad(2))
+}
+
+/// The place of an address.
+pub fn place_of(
+    units: &[FlatUnit],
+    f: &Activation,
+    memory: &Memory,
+    at: Address,
+) -> Result<Place, Trap>
+    requires few { length units.now ≤ 4096 }
+    requires small { units_size (map view_unit units.now) ≤ 65520 }
+    ensures { result ≡ place_of (choice_of (map view_unit units.now)) (view_frame f.now) (cells_of memory.now.cells.items) at }
+{
+    match at {
+        Address::Global { unit, number, plus } => {
+            Ok(datum_place(units, f, unit, number)?.after(plus))
+        }
+        Address::Local(at) => Ok(stack_place(f.bp, at)),
+        Address::Outer { levels, at } => {
+            let link = linked(units, memory, levels, f.link)?;
+            Ok(stack_place(link, at))
+        }
+        Address::Through { slot, plus } => Ok(memory.far(stack_place(f.bp, slot))?.after(plus)),
+    }
+}
+
+/// The value of an expression.
+pub fn value_of(
+    units: &[FlatUnit],
+    f: &Activation,
+    memory: &Memory,
+    expr: &FlatExpr,
+) -> Result<u16, Trap>
+    requires few { length units.now ≤ 4096 }
+    requires small { units_size (map view_unit units.now) ≤ 65520 }
+    ensures { result ≡ value_of (choice_of (map view_unit units.now)) (view_frame f.now) (cells_of memory.now.cells.items) (view_expr expr.now) }
+{
+    match expr {
+        FlatExpr::Number(n) => Ok(*n),
+        FlatExpr::Byte(at) => {
+            let place = place_of(units, f, memory, *at)?;
+            Ok(u16::from(memory.byte(place, 0)?))
+        }
+        FlatExpr::Word(at) => memory.word(place_of(units, f, memory, *at)?),
+        FlatExpr::AddressOf(at) => Ok(place_of(units, f, memory, *at)?.offset),
+        FlatExpr::SegmentOf(at) => Ok(place_of(units, f, memory, *at)?.segment),
+        FlatExpr::VmtOf { unit, number } => vmt_offset(units, f, *unit, *number),
+        FlatExpr::Op { op, a, b } => {
+            let x = value_of(units, f, memory, a)?;
+            let y = value_of(units, f, memory, b)?;
+            op_of(*op, x, y)
+        }
+    }
 }
