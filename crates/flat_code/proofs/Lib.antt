@@ -3,3 +3,4 @@ pub mod Copies
 pub mod More
 pub mod Whole
 pub mod Nodes
+pub mod Turns

@@ -6,3 +6,4 @@ pub mod Meaning
 pub mod Legal
 pub mod Laws
 pub mod Plain
+pub mod Running

@@ -14,6 +14,7 @@ use Rattle.flat_code.specs.Tree.{Expr, Number, Byte, Word, AddressOf, SegmentOf,
 use Rattle.flat_code.specs.Memory.{Cells, place_after, Found, ◌>>=◌, byte_at, word_at, far_at, bytes_at, store_bytes, word_bytes, far_bytes, copy, region, pushed, laid}
 use Rattle.flat_code.specs.declared.memory.Place.{Place}
 use Rattle.flat_code.specs.declared.memory.Cell.TheVariants.{Known, Unset, Outside}
+use Rattle.flat_code.specs.declared.memory.Trap.{Trap}
 use Rattle.flat_code.specs.declared.memory.Trap.TheVariants.{ByZero, Bad}
 use Rattle.std.specs.Prelude.{Ok, Err}
 use Rattle.flat_code.specs.Program.{Name, Key, Routine, Datum, Vmt, UnitCode, FlatProgram, Choice, named, runtime_key, heap_segment_key, heap_bytes_key, ovr_name_key}
@@ -146,10 +147,13 @@ error_text code = codes "Runtime error " ++ decimal code ++ 13 ∷ 10 ∷ []
 abbrev pub raised : ℕ → State → Outcome
 raised code s = spend s (λ s. Over (Ended (code % 256)) (record s { err = s.err ++ error_text code }))
 
+abbrev pub trapped : Trap → State → Outcome
+trapped ByZero s = raised 200 s
+trapped (Bad act) s = Over (Undefined act) s
+
 abbrev pub with_found : {A : Type 0} → Found A → State → (A → Outcome) → Outcome
 with_found (Ok x) s go = go x
-with_found (Err ByZero) s go = raised 200 s
-with_found (Err (Bad act)) s go = Over (Undefined act) s
+with_found (Err trap) s go = trapped trap s
 
 abbrev pub begun : ℕ → State → State
 begun nodes s = record s { work = s.work + nodes }

@@ -9,11 +9,13 @@ ghost use Rattle.flat_code.specs.Laws.{NodeLaws};
 
 mod memory;
 mod program;
+mod state;
 mod tree;
 mod unit;
 mod value;
 
 pub use memory::{ADDRESSES, Cell, Memory, Place, Trap};
+pub use state::{Flow, MeanEnd};
 pub use tree::{Address, FlatExpr, FlatExprs, FlatList, FlatOp, FlatResult, FlatStmt};
 pub use unit::{
     FlatData, FlatDatum, FlatRoutine, FlatRoutines, FlatUnit, FlatVmt, FlatVmts, RoutineIds,
