@@ -4,3 +4,4 @@ pub mod More
 pub mod Whole
 pub mod Nodes
 pub mod Turns
+pub mod Regions

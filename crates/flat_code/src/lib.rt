@@ -1,4 +1,4 @@
-//! Flat code: structured code over bytes, its meaning and its interpreter.
+//! Flat code: structured code over bytes, what it means, and the parts of an interpreter.
 #![tactic(auto)]
 
 ghost use Rattle.std.specs.Prelude.{ℕ, List};
@@ -10,16 +10,20 @@ ghost use Rattle.flat_code.specs.Laws.{NodeLaws};
 mod memory;
 mod program;
 mod state;
+#[cfg(test)]
+mod tests;
 mod tree;
 mod unit;
 mod value;
 
 pub use memory::{ADDRESSES, Cell, Memory, Place, Trap};
-pub use state::{Flow, MeanEnd};
+pub use program::{datum_of, far_of, name_at, unit_of, vmt_of};
+pub use state::{Flow, MeanEnd, Run};
 pub use tree::{Address, FlatExpr, FlatExprs, FlatList, FlatOp, FlatResult, FlatStmt};
 pub use unit::{
     FlatData, FlatDatum, FlatRoutine, FlatRoutines, FlatUnit, FlatVmt, FlatVmts, RoutineIds,
 };
+pub use value::{Activation, place_of, routine_pointer, value_of};
 
 /// The laws of flat code: greater numbers of turns change nothing of a run that is over and only
 /// add to what was written, and the meaning of each node is that of its parts. It does nothing.

@@ -1,12 +1,24 @@
 //! Memory as flat code sees it: the machine's own addresses, of which only some can be reached.
 
-ghost use Rattle.std.specs.Prelude.{◌≡◌, ℕ, ◌+◌, ◌*◌, ◌<◌, List, length, MatchResult};
+ghost use Rattle.std.specs.Prelude.{◌≡◌, ℕ, ◌+◌, ◌*◌, ◌<◌, ◌≤◌, List, length, MatchResult, IfOk};
+ghost use Rattle.flat_code.specs.declared.memory.Cell.TheVariants.{Outside};
 ghost use Rattle.flat_code.specs.Memory.{
-    address_of, place_after, cells_of, byte_at, word_at, far_at, put, write, store_bytes,
-    copied_cell, copy,
+  address_of,
+  place_after,
+  cells_of,
+  byte_at,
+  word_at,
+  far_at,
+  put,
+  write,
+  store_bytes,
+  copied_cell,
+  copy,
+  region,
 };
 
 use integers::word_from_bytes;
+use std::alloc::{AllocError, Global};
 
 /// A byte of data, heap or a live activation, known or unset; every other one is outside.
 #[derive(Clone, Copy, Debug, PartialEq, Eq)]
@@ -42,6 +54,14 @@ pub struct Memory {
     ghost whole: { length cells.items ≡ 1048576 },
 }
 
+// So many cells that can't be reached.
+fn outside(alloc: Global, count: usize) -> Result<Vec<Cell>, AllocError>
+    ensures length { IfOk result (λ cells. length cells.items ≡ count) }
+    ensures outside { IfOk result (λ cells. cells_of cells.items ≡ (λ address. Outside)) }
+{
+    vec![in alloc; Cell::Outside; count]
+}
+
 impl Place {
     /// The address of the byte that lies `i` bytes after the place; offsets wrap in the segment.
     pub fn address(self, i: u16) -> usize
@@ -63,6 +83,25 @@ impl Place {
 }
 
 impl Memory {
+    /// A memory of which nothing can be reached.
+    pub fn new(alloc: Global) -> Result<Memory, AllocError>
+        ensures { IfOk result (λ memory. cells_of memory.cells.items ≡ (λ address. Outside)) }
+    {
+        let cells = outside(alloc, ADDRESSES)?;
+        Ok(Memory { cells })
+    }
+
+    /// Sets the cells of some bytes that begin at an offset of a segment.
+    pub fn fill(&mut self, segment: u16, low: u32, bytes: u32, cell: Cell)
+        requires { 16 * segment + low + bytes ≤ 1048576 }
+        ensures { cells_of self.new.cells.items ≡ region (cells_of self.old.cells.items) segment low bytes cell }
+    {
+        let first = 16 * segment as usize + low as usize;
+        'bytes: for i in 0..bytes as usize {
+            self.set(first + i, cell);
+        }
+    }
+
     fn cell(&self, address: usize) -> Cell
         requires { address < 1048576 }
         ensures { result ≡ cells_of self.now.cells.items address }

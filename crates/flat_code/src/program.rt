@@ -6,8 +6,24 @@ ghost use Rattle.std.specs.Borrow.{Bor};
 ghost use Rattle.flat_code.specs.declared.unit.FlatUnit.{FlatUnit};
 ghost use Rattle.flat_code.specs.Program.{Routine};
 ghost use Rattle.flat_code.specs.Plain.{
-    view_unit, view_routine, view_datum, view_vmt, name_at, data_size, vmts_size, unit_size, units_size,
-    datum_from, vmt_from, datum_of, vmt_of, even, vmt_size, far_of, far_if, unit_from,
+  view_unit,
+  view_routine,
+  view_datum,
+  view_vmt,
+  name_at,
+  data_size,
+  vmts_size,
+  unit_size,
+  units_size,
+  datum_from,
+  vmt_from,
+  datum_of,
+  vmt_of,
+  even,
+  vmt_size,
+  far_of,
+  far_if,
+  unit_from,
 };
 
 use crate::memory::Place;

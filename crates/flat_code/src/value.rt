@@ -13,11 +13,15 @@ use crate::memory::{Memory, Place, Trap};
 use crate::program::{datum_of, far_of, vmt_of};
 use crate::tree::{Address, FlatExpr, FlatOp};
 use crate::unit::FlatUnit;
-use integers::{high_product, is_signed_less, shifted_left, shifted_right, signed_quotient, signed_remainder};
+use integers::{
+    high_product, is_signed_less, shifted_left, shifted_right, signed_quotient, signed_remainder,
+};
 
 /// The segments that the interpreter takes for data, stack and heap.
 pub const DATA_SEGMENT: u16 = 0x1000;
+
 pub const STACK_SEGMENT: u16 = 0x2000;
+
 pub const HEAP_SEGMENT: u16 = 0x3000;
 
 /// A live activation.
