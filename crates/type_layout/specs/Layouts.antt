@@ -1,5 +1,5 @@
 -- The memory that types take.
-use Rattle.std.specs.Prelude.{ℕ, ◌+◌, ◌*◌, ℤ, pos, Bool, true, false, List, [], ◌∷◌, ◌++◌, Option, Some, None, get_or, slice_get, sum_by, map}
+use Rattle.std.specs.Prelude.{◌≡◌, ℕ, ◌+◌, ◌-◌, ◌*◌, ◌<◌, ◌≤◌, All, length, ℤ, pos, Bool, true, false, List, [], ◌∷◌, ◌++◌, Option, Some, None, get_or, slice_get, slice_index, sum_by}
 use Rattle.type_layout.specs.declared.definitions.TypeId.{TypeId}
 use Rattle.type_layout.specs.declared.definitions.Field.{Field}
 use Rattle.type_layout.specs.declared.definitions.TypeDef.{TypeDef}
@@ -41,6 +41,12 @@ object_by (Some at) dynamic end = record { size = end; class_field = Some at }
 object_by None true end = record { size = end + 2; class_field = Some end }
 object_by None false end = record { size = end; class_field = None }
 
+-- the class field of an object whose size is known, by the class field that it inherits
+abbrev pub class_field_within : Option ℕ → Bool → ℕ → Option ℕ
+class_field_within (Some at) dynamic size = Some at
+class_field_within None true size = Some (size - 2)
+class_field_within None false size = None
+
 -- the layout of a type over the types before it and their layouts
 abbrev pub layout_by : List TypeDef → List Layout → TypeDef → Layout
 layout_by types layouts (Ordinal host low high) = plain (width_of (storage_of host low high))
@@ -66,6 +72,14 @@ layouts_of types = given_by layout_by [] [] types
 abbrev pub layout_at : List TypeDef → TypeId → Layout
 layout_at types id = layout_in (layouts_of types) id
 
+-- the bytes of a value of a type
+abbrev pub size_of : List TypeDef → TypeId → ℕ
+size_of types id = (layout_at types id).size
+
+-- the bytes of a further type over a table
+abbrev pub size_over : List TypeDef → TypeDef → ℕ
+size_over types one = (layout_by types (layouts_of types) one).size
+
 -- the places of fields that follow one another from a place on
 abbrev pub placed_from : List Layout → ℕ → List Field → List ℕ
 placed_from layouts at [] = []
@@ -88,3 +102,33 @@ offsets_of types = given_by offsets_by [] [] types
 
 abbrev pub offsets_at : List TypeDef → TypeId → List ℕ
 offsets_at types id = offsets_in (offsets_of types) (Some id)
+
+-- the offset of a field, those of the ancestors being counted first
+abbrev pub offset_of : List TypeDef → TypeId → ℕ → ℕ
+offset_of types id field = slice_index (offsets_at types id) field
+
+-- A type's own fields begin at a place behind the inherited ones, and end within the limit.
+pub record HasFieldsFrom (types : List TypeDef) (id : TypeId) (above : List ℕ) (start : ℕ) (fields : List Field) : Type 0 where
+  pub offsets : offsets_at types id ≡ above ++ placed_from (layouts_of types) start fields
+  pub known : All (λ field. field.ty.0 < length (layouts_of types)) fields
+  pub room : start + fields_size (layouts_of types) fields ≤ 65520
+
+-- how the fields of a type lie in it
+abbrev pub HasFieldsOf : List TypeDef → TypeId → TypeDef → Type 0
+HasFieldsOf types id (RecordOf fields) = HasFieldsFrom types id [] 0 fields
+HasFieldsOf types id (ObjectOf None dynamic fields methods) = HasFieldsFrom types id [] 0 fields
+HasFieldsOf types id (ObjectOf (Some parent) dynamic fields methods) =
+    (parent.0 < id.0) × HasFieldsFrom types id (offsets_at types parent) (layout_at types parent).size fields
+HasFieldsOf types id (Ordinal host low high) = offsets_at types id ≡ []
+HasFieldsOf types id (Str max) = offsets_at types id ≡ []
+HasFieldsOf types id (SetOf base) = offsets_at types id ≡ []
+HasFieldsOf types id (ArrayOf index element) = offsets_at types id ≡ []
+HasFieldsOf types id (PointerTo target) = offsets_at types id ≡ []
+HasFieldsOf types id (Procedural header) = offsets_at types id ≡ []
+
+-- The layout of each type is what its construct makes of the layouts of its parts.
+pub record IsMeasured (types : List TypeDef) : Type 0 where
+  pub layouts : (id : TypeId) (one : TypeDef) → slice_get types id.0 ≡ Some one
+      → layout_at types id ≡ layout_by types (layouts_of types) one
+  pub offsets : (id : TypeId) (one : TypeDef) → slice_get types id.0 ≡ Some one
+      → offsets_at types id ≡ offsets_by types (offsets_of types) one

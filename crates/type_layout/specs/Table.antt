@@ -1,11 +1,10 @@
 -- A table of types.
-use Rattle.std.specs.Prelude.{◌≡◌, ℕ, ◌+◌, ◌^◌, ◌<◌, ◌≤◌, ℤ, pos, ◌≤ℤ◌, Bool, List, [], ◌∷◌, ◌++◌, All, Option, Some, None, length, slice_get, position, unwrap_or, cond, is_some}
+use Rattle.std.specs.Prelude.{◌≡◌, ℕ, ◌^◌, ◌<◌, ◌≤◌, pos, ◌≤ℤ◌, List, [], ◌∷◌, ◌++◌, All, Option, Some, None, length, slice_get, position, unwrap_or, cond, is_some}
 use Rattle.type_layout.specs.declared.definitions.TypeId.{TypeId}
-use Rattle.type_layout.specs.declared.definitions.Field.{Field}
-use Rattle.type_layout.specs.declared.definitions.Method.{Method}
 use Rattle.type_layout.specs.declared.definitions.TypeDef.{TypeDef}
 use Rattle.type_layout.specs.declared.definitions.TypeDef.TheVariants.{Ordinal, Str, SetOf, ArrayOf, RecordOf, PointerTo, ObjectOf, Procedural}
 use Rattle.type_layout.specs.declared.definitions.Origin.{Origin}
+use Rattle.type_layout.specs.declared.layout.Layout.{Layout}
 use Rattle.type_layout.specs.Words.{same_bytes}
 use Rattle.type_layout.specs.Storage.{least_of, greatest_of}
 use Rattle.type_layout.specs.Layouts.{layouts_of}
@@ -60,6 +59,11 @@ pub record IsWellFormed (table : Table) : Type 0 where
   pub few : length table.types < 2 ^ 32
   pub few_units : length table.units < 2 ^ 32
 
+-- what the struct keeps: a well-formed table, and beside each type its layout
+pub record IsKept (table : Table) (layouts : List Layout) : Type 0 where
+  pub well_formed : IsWellFormed table
+  pub measured : layouts ≡ layouts_of table.types
+
 -- the place of a unit among the units, the next one where it is new
 abbrev pub place_of : List (List ℕ) → List ℕ → ℕ
 place_of units unit = unwrap_or (position (same_bytes unit) units) (length units)
@@ -80,7 +84,7 @@ pub record IsAddable (table : Table) (origin : List ℕ) (one : TypeDef) : Type 
 -- a table after a type was added
 abbrev pub with_type : Table → List ℕ → ℕ → TypeDef → Table
 with_type table origin number one = record {
-    types = table.types ++ one ∷ [];
-    origins = table.origins ++ (record { unit = place_of table.units origin; number = number }) ∷ [];
-    units = with_unit table.units origin
-  }
+  types = table.types ++ one ∷ [];
+  origins = table.origins ++ (record { unit = place_of table.units origin; number = number }) ∷ [];
+  units = with_unit table.units origin;
+}

@@ -87,9 +87,15 @@ pub struct Method {
 #[derive(Debug, Drop)]
 pub enum TypeDef {
     /// The values from `low` to `high` of a host.
-    Ordinal { host: Host, low: i32, high: i32 },
+    Ordinal {
+        host: Host,
+        low: i32,
+        high: i32,
+    },
     /// Texts of at most `max` bytes.
-    Str { max: u8 },
+    Str {
+        max: u8,
+    },
     SetOf {
         base: TypeId,
     },

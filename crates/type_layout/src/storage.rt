@@ -1,6 +1,6 @@
 //! How ordinals and sets are stored.
 
-ghost use Rattle.std.specs.Prelude.{◌≡◌};
+ghost use Rattle.std.specs.Prelude.{◌≡◌, ◌≤◌, ◌^◌};
 ghost use Rattle.type_layout.specs.Storage.{least_of, greatest_of, width_of, holds, integer_storage, storage_of, count_between, set_bytes};
 
 use crate::Host;
@@ -80,7 +80,8 @@ pub fn storage_of(host: Host, low: i32, high: i32) -> Host
 
 /// How many values lie between two bounds, both included.
 pub(crate) fn count_between(low: i32, high: i32) -> u64
-    ensures { result ≡ count_between low high }
+    ensures value { result ≡ count_between low high }
+    ensures bound { result ≤ 2 ^ 32 }
 {
     u64::from(high.abs_diff(low)) + 1
 }

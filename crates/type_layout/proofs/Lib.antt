@@ -1,0 +1,5 @@
+pub mod Given
+pub mod WellFormed
+pub mod Local
+pub mod Measured
+pub mod FieldPlaces
