@@ -5,3 +5,4 @@ pub mod Whole
 pub mod Nodes
 pub mod Turns
 pub mod Regions
+pub mod Shut

@@ -1,14 +1,9 @@
 -- Regions of memory that are set byte by byte.
-use Rattle.std.proofs.Common.{◌≡◌, ℕ, ◌+◌, ◌*◌, List, get_or, arith, sym, ap, ◌∙◌}
+use Rattle.std.proofs.Common.{◌≡◌, ℕ, ◌+◌, ◌*◌, arith, sym}
 use mathlib.Core.Path.{fun_ext}
-use Rattle.std.specs.Prelude.{replicate}
-use Rattle.std.proofs.Common.{⊎_elim}
-use Rattle.std.proofs.lemmas.Bool.{cases_lt}
-use Rattle.std.proofs.lemmas.List.{get_or-replicate, get_or_past, length-replicate}
 use Rattle.std.proofs.lemmas.Bool.Decides.{nat_tests}
 use Rattle.flat_code.specs.declared.memory.Cell.{Cell}
-use Rattle.flat_code.specs.declared.memory.Cell.TheVariants.{Outside}
-use Rattle.flat_code.specs.Memory.{Cells, cells_of, put, region}
+use Rattle.flat_code.specs.Memory.{Cells, put, region}
 
 region-none_at : (m : Cells) (segment low : ℕ) (c : Cell) (x : ℕ) → region m segment low 0 c x ≡ m x
 region-none_at m segment low c x = grind (arith, nat_tests)

@@ -1,5 +1,5 @@
 -- A turn that is due, where there is one and where there is none.
-use Rattle.std.proofs.Common.{◌≡◌, ℕ, zero, suc, ◌-◌, refl, sym, ap, arith}
+use Rattle.std.proofs.Common.{◌≡◌, ℕ, zero, suc, ◌-◌, refl, ap, arith}
 use Rattle.behaviour.specs.Seen.{Going}
 use Rattle.flat_code.specs.Meaning.{State, Outcome, Over, spent, spend}
 

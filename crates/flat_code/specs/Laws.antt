@@ -1,8 +1,10 @@
 -- The laws of flat code, by which a piece of it is proved without unfolding its meaning: one for each node.
-use Rattle.std.specs.Prelude.{◌≡◌, ◌+◌}
+use Rattle.std.specs.Prelude.{◌≡◌, ℕ, ◌+◌}
 use Rattle.flat_code.specs.Tree.{Expr, expr_size, Step, step_size, Code, End, Do, If, Loop, ◌then◌}
+use Rattle.flat_code.specs.declared.memory.Cell.TheVariants.{Outside}
+use Rattle.flat_code.specs.Memory.{Cells}
 use Rattle.flat_code.specs.Program.{FlatProgram, Choice}
-use Rattle.flat_code.specs.Meaning.{Frame, State, Next, and_then, spend, with_found, begun, looped, chosen, value_of, step_of, run}
+use Rattle.flat_code.specs.Meaning.{Frame, State, Outcome, Next, Left, Returned, Over, and_then, spend, with_found, begun, looped, chosen, value_of, step_of, run}
 
 -- the meaning of each node in terms of that of its parts
 pub record NodeLaws (program : FlatProgram) (choice : Choice) : Type 0 where
@@ -20,3 +22,14 @@ pub record NodeLaws (program : FlatProgram) (choice : Choice) : Type 0 where
       (spend (begun 1 s) (λ s. looped (run program choice body f (begun 1 s)) (run program choice (Loop body End) f)))
       (run program choice next f)
   pub sequence : (first after : Code) (f : Frame) (s : State) → run program choice (first then after) f s ≡ and_then (run program choice first f s) (run program choice after f)
+
+-- what the first cells can't reach the second can't reach either
+abbrev pub IsShutIn : Cells → Cells → Type 0
+IsShutIn m m' = (address : ℕ) → m address ≡ Outside → m' address ≡ Outside
+
+-- an outcome from which the run goes on reaches nothing that the state before did not reach
+abbrev pub StaysShut : State → Outcome → Type 0
+StaysShut r (Next s) = IsShutIn r.cells s.cells
+StaysShut r (Left loops s) = IsShutIn r.cells s.cells
+StaysShut r (Returned s) = IsShutIn r.cells s.cells
+StaysShut r (Over standing s) = Unit {0}

@@ -164,10 +164,11 @@ abbrev pub HasResultSize : Option FlatResult → Type 0
 HasResultSize None = Unit {0}
 HasResultSize (Some result) = (result.bytes ≡ 1) ⊎ ((result.bytes ≡ 2) ⊎ (result.bytes ≡ 4))
 
--- each unit, routine, datum, virtual method table and runtime number that is named is there, and each body fits
+-- each unit, routine, datum, virtual method table and runtime number that is named is there, each body fits, and no datum has more first bytes than bytes
 pub record IsWellFormed (program : FlatProgram) : Type 0 where
   pub initials : (name : Name) (unit : UnitCode) (number : ℕ) → program.unit name ≡ Some unit → unit.initial ≡ Some number → IsThere program (ToRoutine (record { unit = name; number = number }))
   pub bodies : (key : Key) (unit : UnitCode) (r : Routine) → program.unit key.unit ≡ Some unit → routine_of program key ≡ Some r → CodeNames (IsThere program) key.unit unit.names r.body × ResultNames (IsThere program) key.unit unit.names r.result × CodeFits program key.unit unit.names 0 r.body × HasResultSize r.result
+  pub firsts : (key : Key) (unit : UnitCode) (datum : Datum) → program.unit key.unit ≡ Some unit → slice_get unit.globals key.number ≡ Some datum → length datum.first ≤ datum.size
   pub methods : (key : Key) (unit : UnitCode) (vmt : Vmt) → program.unit key.unit ≡ Some unit → slice_get unit.vmts key.number ≡ Some vmt → SlotsName (IsThere program) key.unit unit.names vmt.slots
 
 -- ---- shallow programs: what the stack's last 512 bytes suffice for

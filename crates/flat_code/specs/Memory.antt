@@ -4,7 +4,7 @@ use Rattle.flat_code.specs.declared.memory.Cell.{Cell}
 use Rattle.flat_code.specs.declared.memory.Cell.TheVariants.{Known, Unset, Outside}
 use Rattle.flat_code.specs.declared.memory.Place.{Place}
 use Rattle.flat_code.specs.declared.memory.Trap.{Trap}
-use Rattle.flat_code.specs.declared.memory.Trap.TheVariants.{ByZero, Bad}
+use Rattle.flat_code.specs.declared.memory.Trap.TheVariants.{Bad}
 use Rattle.integers.specs.Words.{w16, wrap, wrapping_add, low_byte, high_byte, word_from_bytes}
 
 -- what each address holds; src/memory.rt says what a cell is

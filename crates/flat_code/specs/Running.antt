@@ -1,5 +1,4 @@
 -- The interpreter's states and outcomes as values.
-use Rattle.std.specs.Prelude.{ℕ}
 use Rattle.behaviour.specs.Seen.{Standing, Ended, Going, Undefined}
 use Rattle.flat_code.specs.declared.state.Run.{Run}
 use Rattle.flat_code.specs.declared.state.Flow.{Flow}

@@ -1,12 +1,10 @@
 -- The units of src/ as values: without boxes, rows and allocators.
-use Rattle.std.specs.Prelude.{ℕ, List, [], ◌∷◌, map, Option, Some, None}
-use Rattle.std.specs.Option.{option_map}
+use Rattle.std.specs.Prelude.{List, [], ◌∷◌}
 use Rattle.flat_code.specs.declared.tree.FlatExpr.{FlatExpr}
 use Rattle.flat_code.specs.declared.tree.FlatExpr.TheVariants as e
 use Rattle.flat_code.specs.declared.tree.FlatStmt.{FlatStmt, Row_of-FlatStmt, end_of-FlatStmt, more_of-FlatStmt}
 use Rattle.flat_code.specs.declared.tree.FlatStmt.TheVariants as st
-use Rattle.type_layout.specs.declared.definitions.RoutineId.{RoutineId}
-use Rattle.flat_code.specs.Tree.{Expr, Number, Byte, Word, AddressOf, SegmentOf, VmtOf, Op, Step, StoreByte, StoreWord, Copy, Leave, Call, CallThrough, Runtime, StoreRoutine, Return, Error, Code, End, Do, If, Loop}
+use Rattle.flat_code.specs.Tree.{Expr, Number, Byte, Word, AddressOf, SegmentOf, VmtOf, Op, StoreByte, StoreWord, Copy, Leave, Call, CallThrough, Runtime, StoreRoutine, Return, Error, Code, End, Do, If, Loop}
 
 abbrev pub view_expr : FlatExpr → Expr
 view_expr (e.Number n) = Number n

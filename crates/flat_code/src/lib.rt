@@ -3,9 +3,10 @@
 
 ghost use Rattle.std.specs.Prelude.{ℕ, List};
 ghost use Rattle.behaviour.specs.Seen.{IsRun};
+ghost use Rattle.flat_code.specs.Tree.{Code};
 ghost use Rattle.flat_code.specs.Program.{FlatProgram, Choice};
-ghost use Rattle.flat_code.specs.Meaning.{flat_run};
-ghost use Rattle.flat_code.specs.Laws.{NodeLaws};
+ghost use Rattle.flat_code.specs.Meaning.{Frame, State, run, flat_run};
+ghost use Rattle.flat_code.specs.Laws.{NodeLaws, StaysShut};
 
 mod memory;
 mod program;
@@ -26,8 +27,10 @@ pub use unit::{
 pub use value::{Activation, place_of, routine_pointer, value_of};
 
 /// The laws of flat code: greater numbers of turns change nothing of a run that is over and only
-/// add to what was written, and the meaning of each node is that of its parts. It does nothing.
+/// add to what was written; the meaning of each node is that of its parts; and what can't be reached
+/// as statements begin can't be reached after them. It does nothing.
 pub fn flat_laws()
     ensures runs { (program : FlatProgram) (choice : Choice) (input : List ℕ) → IsRun (λ turns. (flat_run program choice input turns).seen) }
     ensures nodes { (program : FlatProgram) (choice : Choice) → NodeLaws program choice }
+    ensures shut { (program : FlatProgram) (choice : Choice) (code : Code) (f : Frame) (s : State) → StaysShut s (run program choice code f s) }
 {}

@@ -1,5 +1,5 @@
-use Rattle.std.proofs.Common.{◌≡◌, ◌+◌, ◌*◌, ap, ◌∙◌}
-use Rattle.flat_code.specs.Memory.{Cells, cells_of, put, region}
+use Rattle.std.proofs.Common.{◌+◌, ◌*◌, ap, ◌∙◌}
+use Rattle.flat_code.specs.Memory.{Cells, cells_of, put}
 use Rattle.flat_code.proofs.Regions.{region-none, region-more}
 use Rattle.flat_code.proofs.memory.Memory.fill.Goals as goal
 
