@@ -6,3 +6,4 @@ pub mod Nodes
 pub mod Turns
 pub mod Regions
 pub mod Shut
+pub mod Loops
