@@ -1,3 +1,0 @@
-pub mod Views
-pub mod StatementViews
-pub mod NeedSteps

@@ -1,6 +1,0 @@
-pub mod Expressions
-pub mod Statements
-pub mod Slots
-pub mod Needs
-pub mod Weights
-pub mod Frames
