@@ -1,9 +1,12 @@
 -- From what a command does, and its line, to what the top call promises.
-use Rattle.std.proofs.Common.{◌≡◌, ◌⊎◌, inl, inr, ℕ, ◌+◌, ◌<◌, ◌≤◌, List, [], ◌∷◌, ◌++◌, Option, Some, None, sym, ap, ◌∙◌, refl, subst, arith}
+use Rattle.std.proofs.Common.{◌≡◌, ◌⊎◌, inl, inr, ℕ, ◌+◌, ◌<◌, ◌≤◌, List, [], ◌∷◌, ◌++◌, length, Option, Some, None, sym, ap, ◌∙◌, refl, subst, arith}
 use Rattle.std.specs.Prelude.{IfSome, unwrap_or}
 use Rattle.std.specs.Io.KnownBytes.{append_known}
 use Rattle.tp_outside.specs.Faults.{HasRisen}
 use Rattle.tp_outside.specs.Folder.{Folder}
+use Rattle.tp_outside.specs.Streams.{TakesPrefix}
+use Rattle.std.proofs.Math.Seq.{take-length}
+use Rattle.dos_runner.specs.declared.runner.RunEnd.{RunEnd}
 use Rattle.tp_outside.proofs.Known.{append_known-nil}
 use Rattle.literal_form.specs.Source.{IsSource}
 use Rattle.literal_form.specs.Statement.{Statement, mean}
@@ -19,7 +22,7 @@ use Rattle.tp.specs.Line.{line_of}
 use Rattle.tp.specs.Words.{IsGo}
 use Rattle.tp.specs.World.{World, Holds, IsUntouched}
 use Rattle.tp.specs.Performs.{Performs, Ran, GivesUp, SaysNothing}
-use Rattle.tp.specs.Turbo.{IsAsked, HasRun, Headline, IsWritten, Written, IsFaultOrNoMemory, Complete, Faults, Refused, Unchanged, EndsWithLine}
+use Rattle.tp.specs.Turbo.{IsAsked, HasRun, Headline, IsWritten, Written, IsFaultOrNoMemory, Complete, Faults, Refused, Fronts, FilesAfter}
 use Rattle.tp.proofs.RanLaws.{go_once, statements_same, stands_there, concluded, no_limit}
 
 -- The world after more was written to the errors.
@@ -145,3 +148,41 @@ refused outcome.NoMemory words old mid did = tt
 refused (outcome.Program exit) words old mid did = tt
 refused (outcome.InstructionLimit taken) words old mid did = tt
 refused (outcome.Stopped cs ip why) words old mid did = tt
+
+all_taken : (old new : Option (List ℕ)) (out : List ℕ) → new ≡ append_known old out → TakesPrefix old new out
+all_taken old new out e = record { count = length out; within = omega arith; taken = e ∙ ap (append_known old) (sym (take-length out)) }
+
+fronts_ended : (code : ℕ) (words : List (List ℕ)) (old mid : World) (r : Ran (ends.Ended code) words old mid) → TakesPrefix old.streams.output mid.streams.output (mean r.statements).out
+fronts_ended code words old mid r = all_taken old.streams.output mid.streams.output (mean r.statements).out (concluded (ends.Ended code) words old mid r).1
+
+fronts_of : (end : RunEnd) (words : List (List ℕ)) (old mid : World) (name : List ℕ) (statements : List Statement) (r : Ran end words old mid) → IsAsked words old name statements → TakesPrefix old.streams.output mid.streams.output (mean r.statements).out → TakesPrefix old.streams.output mid.streams.output (mean statements).out
+fronts_of end words old mid name statements r asked front =
+    let P : List Statement → Type 0 = λ s. TakesPrefix old.streams.output mid.streams.output (mean s).out in
+    subst P (statements_same end words old mid name statements r asked) front
+
+pub fronts : (result : Outcome) (words : List (List ℕ)) (old mid : World) (errors : Option (List ℕ)) (faults : ℕ) → Performs result words old mid → Fronts words old (told mid errors faults) result
+fronts (outcome.Program code) words old mid errors faults did = λ name statements asked run. fronts_of (ends.Ended code) words old mid name statements did asked (fronts_ended code words old mid did)
+fronts (outcome.InstructionLimit taken) words old mid errors faults did = λ name statements asked run. absurd (no_limit taken words old mid did)
+fronts (outcome.Stopped cs ip why) words old mid errors faults did = λ name statements asked run. absurd (concluded (ends.Stopped cs ip why) words old mid did)
+fronts (outcome.Refused r) words old mid errors faults did = λ name statements asked run. absurd run
+fronts outcome.InputFault words old mid errors faults did = λ name statements asked run. fronts_of ends.InputFault words old mid name statements did asked (concluded ends.InputFault words old mid did).output
+fronts outcome.OutputFault words old mid errors faults did = λ name statements asked run. fronts_of ends.OutputFault words old mid name statements did asked (concluded ends.OutputFault words old mid did).output
+fronts outcome.ErrorsFault words old mid errors faults did = λ name statements asked run. absurd run
+fronts outcome.FilesFault words old mid errors faults did = λ name statements asked run. absurd run
+fronts outcome.NoMemory words old mid errors faults did = λ name statements asked run. absurd run
+
+leaves : (end : RunEnd) (words : List (List ℕ)) (old mid : World) (errors : Option (List ℕ)) (faults : ℕ) → Ran end words old mid → FilesAfter words old (told mid errors faults)
+leaves end words old mid errors faults r = inr (record { name = r.name; named = r.named; statements = r.statements; says = r.says; bytes = r.bytes; agrees = r.built.agrees; written = r.written })
+
+pub files_after : (result : Outcome) (words : List (List ℕ)) (old mid : World) (errors : Option (List ℕ)) (faults : ℕ) → Performs result words old mid → FilesAfter words old (told mid errors faults)
+files_after (outcome.Program code) words old mid errors faults did = leaves (ends.Ended code) words old mid errors faults did
+files_after (outcome.InstructionLimit taken) words old mid errors faults did = leaves (ends.Limit taken) words old mid errors faults did
+files_after (outcome.Stopped cs ip why) words old mid errors faults did = leaves (ends.Stopped cs ip why) words old mid errors faults did
+files_after (outcome.Refused refusal.Usage) words old mid errors faults did = inl did.1.folder
+files_after (outcome.Refused (refusal.MissingFile file)) words old mid errors faults did = inl did.untouched.folder
+files_after (outcome.Refused (refusal.NotInProfile at feature)) words old mid errors faults did = inl did.untouched.folder
+files_after outcome.InputFault words old mid errors faults did = leaves ends.InputFault words old mid errors faults did
+files_after outcome.OutputFault words old mid errors faults did = leaves ends.OutputFault words old mid errors faults did
+files_after outcome.ErrorsFault words old mid errors faults did = leaves ends.ErrorsFault words old mid errors faults did
+files_after outcome.FilesFault words old mid errors faults did = inl did.1.folder
+files_after outcome.NoMemory words old mid errors faults did = inl did.folder

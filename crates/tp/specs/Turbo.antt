@@ -20,7 +20,8 @@ use Rattle.tp.specs.declared.outcome.Outcome.TheVariants as outcome
 use Rattle.tp.specs.Files.{file_of}
 use Rattle.tp.specs.Line.{line_of}
 use Rattle.tp.specs.Words.{IsGo}
-use Rattle.tp.specs.World.{World, IsUntouched, Holds, Lacks}
+use Rattle.tp.specs.World.{World, Holds}
+use Rattle.tp.specs.Performs.{Says}
 
 -- The words are `go` and a program's name, the files tell what they hold, and the program's source says these
 -- statements.
@@ -104,3 +105,23 @@ Unchanged old new other = Unit {0}
 abbrev pub EndsWithLine : World → World → Outcome → Type 0
 EndsWithLine old new outcome.ErrorsFault = Unit {0}
 EndsWithLine old new result = (before : Option (List ℕ)) × (new.streams.errors ≡ append_known before (line_of result))
+
+-- What the output took, whatever the outcome of a run: the first of the bytes that are meant.
+abbrev pub Fronts : List (List ℕ) → World → World → Outcome → Type 0
+Fronts words old new result =
+    (name : List ℕ) (statements : List Statement) → IsAsked words old name statements → HasRun result →
+    TakesPrefix old.streams.output new.streams.output (mean statements).out
+
+-- The files afterwards: as they were, or with the executable of the source that the words name, as a run without any
+-- fault leaves them.
+pub record Leaves (words : List (List ℕ)) (old new : World) : Type 0 where
+  pub name : List ℕ
+  pub named : IsGo words name
+  pub statements : List Statement
+  pub says : Says old.folder (file_of name Source) statements
+  pub bytes : List ℕ
+  pub agrees : Agrees statements bytes
+  pub written : new.folder ≡ with_known_file old.folder (file_of name Executable) bytes
+
+abbrev pub FilesAfter : List (List ℕ) → World → World → Type 0
+FilesAfter words old new = (new.folder ≡ old.folder) ⊎ Leaves words old new

@@ -5,6 +5,8 @@ mod line;
 mod names;
 mod outcome;
 mod perform;
+#[cfg(test)]
+mod tests;
 mod top;
 mod words;
 

@@ -31,3 +31,24 @@ returns-in-Ok-clause-refused g c =
     let old : World = world (g.F.Files.folder c.args.files.now) (g.F.Files.faults c.args.files.now) (g.S.Source.remaining c.args.input.now) (g.K.Sink.contents c.args.output.now) (g.E.Sink.contents c.args.errors.now) (g.S.Source.faults c.args.input.now) (g.K.Sink.faults c.args.output.now) (g.E.Sink.faults c.args.errors.now) in
     let mid : World = world (g.F.Files.folder c.perform-outcome.new.files) (g.F.Files.faults c.perform-outcome.new.files) (g.S.Source.remaining c.perform-outcome.new.input) (g.K.Sink.contents c.perform-outcome.new.output) (g.E.Sink.contents c.perform-outcome.new.errors) (g.S.Source.faults c.perform-outcome.new.input) (g.K.Sink.faults c.perform-outcome.new.output) (g.E.Sink.faults c.perform-outcome.new.errors) in
     laws.refused c.perform-outcome.result words old mid c.perform-outcome.ensures.performs
+
+pub returns-in-Ok-clause-fronts : goal.returns-in-Ok-clause-fronts
+returns-in-Ok-clause-fronts g c =
+    let words : List (List ℕ) = map string_bytes c.args.words.now in
+    let old : World = world (g.F.Files.folder c.args.files.now) (g.F.Files.faults c.args.files.now) (g.S.Source.remaining c.args.input.now) (g.K.Sink.contents c.args.output.now) (g.E.Sink.contents c.args.errors.now) (g.S.Source.faults c.args.input.now) (g.K.Sink.faults c.args.output.now) (g.E.Sink.faults c.args.errors.now) in
+    let mid : World = world (g.F.Files.folder c.perform-outcome.new.files) (g.F.Files.faults c.perform-outcome.new.files) (g.S.Source.remaining c.perform-outcome.new.input) (g.K.Sink.contents c.perform-outcome.new.output) (g.E.Sink.contents c.perform-outcome.new.errors) (g.S.Source.faults c.perform-outcome.new.input) (g.K.Sink.faults c.perform-outcome.new.output) (g.E.Sink.faults c.perform-outcome.new.errors) in
+    laws.fronts c.perform-outcome.result words old mid (g.E.Sink.contents c.write_line.new.errors) (g.E.Sink.faults c.write_line.new.errors) c.perform-outcome.ensures.performs
+
+pub returns-in-Ok-clause-files : goal.returns-in-Ok-clause-files
+returns-in-Ok-clause-files g c =
+    let words : List (List ℕ) = map string_bytes c.args.words.now in
+    let old : World = world (g.F.Files.folder c.args.files.now) (g.F.Files.faults c.args.files.now) (g.S.Source.remaining c.args.input.now) (g.K.Sink.contents c.args.output.now) (g.E.Sink.contents c.args.errors.now) (g.S.Source.faults c.args.input.now) (g.K.Sink.faults c.args.output.now) (g.E.Sink.faults c.args.errors.now) in
+    let mid : World = world (g.F.Files.folder c.perform-outcome.new.files) (g.F.Files.faults c.perform-outcome.new.files) (g.S.Source.remaining c.perform-outcome.new.input) (g.K.Sink.contents c.perform-outcome.new.output) (g.E.Sink.contents c.perform-outcome.new.errors) (g.S.Source.faults c.perform-outcome.new.input) (g.K.Sink.faults c.perform-outcome.new.output) (g.E.Sink.faults c.perform-outcome.new.errors) in
+    laws.files_after c.perform-outcome.result words old mid (g.E.Sink.contents c.write_line.new.errors) (g.E.Sink.faults c.write_line.new.errors) c.perform-outcome.ensures.performs
+
+pub returns-in-Err-clause-files : goal.returns-in-Err-clause-files
+returns-in-Err-clause-files g c =
+    let words : List (List ℕ) = map string_bytes c.args.words.now in
+    let old : World = world (g.F.Files.folder c.args.files.now) (g.F.Files.faults c.args.files.now) (g.S.Source.remaining c.args.input.now) (g.K.Sink.contents c.args.output.now) (g.E.Sink.contents c.args.errors.now) (g.S.Source.faults c.args.input.now) (g.K.Sink.faults c.args.output.now) (g.E.Sink.faults c.args.errors.now) in
+    let mid : World = world (g.F.Files.folder c.perform-outcome.new.files) (g.F.Files.faults c.perform-outcome.new.files) (g.S.Source.remaining c.perform-outcome.new.input) (g.K.Sink.contents c.perform-outcome.new.output) (g.E.Sink.contents c.perform-outcome.new.errors) (g.S.Source.faults c.perform-outcome.new.input) (g.K.Sink.faults c.perform-outcome.new.output) (g.E.Sink.faults c.perform-outcome.new.errors) in
+    laws.files_after c.perform-outcome.result words old mid (g.E.Sink.contents c.write_line.new.errors) (g.E.Sink.faults c.write_line.new.errors) c.perform-outcome.ensures.performs
