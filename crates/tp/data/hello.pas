@@ -1,0 +1,4 @@
+program Hello;
+begin
+  WriteLn('Hello from the 8086!');
+end.
