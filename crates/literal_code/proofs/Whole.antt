@@ -16,7 +16,7 @@ use Rattle.mz_file.specs.declared.executable.Exe.{Exe}
 use Rattle.mz_file.specs.Format.{Denotes, exe_of}
 use Rattle.mz_file.specs.Format.{IsWithin as IsInImage}
 use Rattle.mz_file.specs.Spelling.{IsWritable}
-use Rattle.mz_file.specs.Load.{relocated, loaded_byte, loaded_memory, loaded, started, start_registers, IsLoadable, paragraphs_taken}
+use Rattle.mz_file.specs.Load.{relocated, loaded_byte, loaded_memory, loaded, started, start_registers, IsLoadable, paragraphs_taken, FitsWithBuffer}
 use Rattle.mz_file.proofs.LoadLaws.{get_or-loaded_memory}
 use Rattle.literal_code.specs.Code.{spelled, start_code, acts_code, error_code, program_code, acts_size}
 use Rattle.literal_code.specs.Image.{code_size, data_segment, image_with, image_of, executable_of}
@@ -86,12 +86,6 @@ ends_within pool acts bytes input few short within denotes =
       few = omega arith;
     }
 
-pub agrees : (pool : List ℕ) (acts : List Act) (bytes : List ℕ) → length acts ≤ 4096 → length pool ≤ 8192 → All (IsWithin (length pool)) acts → Denotes bytes (executable_of pool acts) → Agrees (statements_in pool acts) bytes
-agrees pool acts bytes few short within denotes = record {
-  executable = denotes.executable;
-  runs = λ buffer small fits input. (ends_within pool acts bytes input few short within denotes).run;
-}
-
 inside : (pool : List ℕ) (acts : List Act) → All (IsInImage (length (image_of pool acts))) (executable_of pool acts).relocations
 inside pool acts =
     let long = length-image (data_segment acts) pool acts in
@@ -114,3 +108,10 @@ fits pool acts few short =
     let long = length-image (data_segment acts) pool acts in
     let bound = acts_size_bound acts in
     omega (arith, long, bound)
+
+pub agrees : (pool : List ℕ) (acts : List Act) (bytes : List ℕ) → length acts ≤ 4096 → length pool ≤ 8192 → All (IsWithin (length pool)) acts → Denotes bytes (executable_of pool acts) → Agrees (statements_in pool acts) bytes
+agrees pool acts bytes few short within denotes = record {
+  executable = denotes.executable;
+  fits = subst {A = Exe} (λ exe. FitsWithBuffer exe 0) denotes.value (omega (arith, fits pool acts few short));
+  runs = λ buffer small fits input. (ends_within pool acts bytes input few short within denotes).run;
+}

@@ -22,8 +22,9 @@ pub record EndsWithin (most : ℕ) (bytes input : List ℕ) (meant : statement.E
   pub run : EndsAs bytes input meant
   pub few : run.events ≤ most
 
--- The bytes are an executable, and with any input and any buffer for overlays that fits below segment A000h they do
--- what the statements mean.
+-- The bytes are an executable that fits below segment A000h, and with any input and any buffer for overlays that
+-- also fits there they do what the statements mean.
 pub record Agrees (statements : List Statement) (bytes : List ℕ) : Type 0 where
   pub executable : IsExecutable bytes
+  pub fits : FitsWithBuffer (exe_of bytes) 0
   pub runs : (buffer : ℕ) → buffer ≤ 40960 → FitsWithBuffer (exe_of bytes) buffer → (input : List ℕ) → EndsAs bytes input (mean statements)

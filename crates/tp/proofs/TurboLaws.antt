@@ -14,15 +14,16 @@ use Rattle.dos_runner.specs.declared.runner.RunEnd.TheVariants as ends
 use Rattle.dos_runner.specs.Outside.{Outside}
 use Rattle.tp.specs.declared.names.FileKind.TheVariants.{Source, Executable}
 use Rattle.tp.specs.declared.outcome.At.{At}
+use Rattle.tp.specs.declared.outcome.Feature.TheVariants as feature
 use Rattle.tp.specs.declared.outcome.Refusal.TheVariants as refusal
 use Rattle.tp.specs.declared.outcome.Outcome.{Outcome}
 use Rattle.tp.specs.declared.outcome.Outcome.TheVariants as outcome
 use Rattle.tp.specs.Files.{file_of}
 use Rattle.tp.specs.Line.{line_of}
 use Rattle.tp.specs.Words.{IsGo}
-use Rattle.tp.specs.World.{World, Holds, IsUntouched}
-use Rattle.tp.specs.Performs.{Performs, Ran, GivesUp, SaysNothing}
-use Rattle.tp.specs.Turbo.{IsAsked, HasRun, Headline, IsWritten, Written, IsFaultOrNoMemory, Complete, Faults, Refused, Fronts, FilesAfter}
+use Rattle.tp.specs.World.{World, Holds, Lacks, IsUntouched}
+use Rattle.tp.specs.Performs.{Performs, Says, Ran, GivesUp, SaysNothing}
+use Rattle.tp.specs.Turbo.{IsAsked, HasRun, Headline, IsWritten, Written, IsFaultOrNoMemory, Complete, Faults, Refused, Refuses, Fronts, FilesAfter, TookErrors, EndsWithLine, WroteItsLine, Unchanged}
 use Rattle.tp.proofs.RanLaws.{go_once, statements_same, stands_there, concluded, no_limit}
 
 -- The world after more was written to the errors.
@@ -152,24 +153,79 @@ refused (outcome.Stopped cs ip why) words old mid did = tt
 all_taken : (old new : Option (List ℕ)) (out : List ℕ) → new ≡ append_known old out → TakesPrefix old new out
 all_taken old new out e = record { count = length out; within = omega arith; taken = e ∙ ap (append_known old) (sym (take-length out)) }
 
-fronts_ended : (code : ℕ) (words : List (List ℕ)) (old mid : World) (r : Ran (ends.Ended code) words old mid) → TakesPrefix old.streams.output mid.streams.output (mean r.statements).out
-fronts_ended code words old mid r = all_taken old.streams.output mid.streams.output (mean r.statements).out (concluded (ends.Ended code) words old mid r).1
+-- what both sinks took, before the line
+pub record TookFronts (statements : List Statement) (old mid : World) : Type 0 where
+  pub output : TakesPrefix old.streams.output mid.streams.output (mean statements).out
+  pub errors : TakesPrefix old.streams.errors mid.streams.errors (mean statements).err
 
-fronts_of : (end : RunEnd) (words : List (List ℕ)) (old mid : World) (name : List ℕ) (statements : List Statement) (r : Ran end words old mid) → IsAsked words old name statements → TakesPrefix old.streams.output mid.streams.output (mean r.statements).out → TakesPrefix old.streams.output mid.streams.output (mean statements).out
-fronts_of end words old mid name statements r asked front =
-    let P : List Statement → Type 0 = λ s. TakesPrefix old.streams.output mid.streams.output (mean s).out in
-    subst P (statements_same end words old mid name statements r asked) front
+none_taken : (old new : Option (List ℕ)) (out : List ℕ) → new ≡ old → TakesPrefix old new out
+none_taken old new out e = record { count = 0; within = omega arith; taken = e ∙ sym (append_known-nil old) }
 
-pub fronts : (result : Outcome) (words : List (List ℕ)) (old mid : World) (errors : Option (List ℕ)) (faults : ℕ) → Performs result words old mid → Fronts words old (told mid errors faults) result
-fronts (outcome.Program code) words old mid errors faults did = λ name statements asked run. fronts_of (ends.Ended code) words old mid name statements did asked (fronts_ended code words old mid did)
-fronts (outcome.InstructionLimit taken) words old mid errors faults did = λ name statements asked run. absurd (no_limit taken words old mid did)
-fronts (outcome.Stopped cs ip why) words old mid errors faults did = λ name statements asked run. absurd (concluded (ends.Stopped cs ip why) words old mid did)
-fronts (outcome.Refused r) words old mid errors faults did = λ name statements asked run. absurd run
-fronts outcome.InputFault words old mid errors faults did = λ name statements asked run. fronts_of ends.InputFault words old mid name statements did asked (concluded ends.InputFault words old mid did).output
-fronts outcome.OutputFault words old mid errors faults did = λ name statements asked run. fronts_of ends.OutputFault words old mid name statements did asked (concluded ends.OutputFault words old mid did).output
-fronts outcome.ErrorsFault words old mid errors faults did = λ name statements asked run. absurd run
-fronts outcome.FilesFault words old mid errors faults did = λ name statements asked run. absurd run
-fronts outcome.NoMemory words old mid errors faults did = λ name statements asked run. absurd run
+untouched_fronts : (statements : List Statement) (old mid : World) → IsUntouched old mid → TookFronts statements old mid
+untouched_fronts statements old mid same = record {
+  output = none_taken old.streams.output mid.streams.output (mean statements).out (ap (λ (o : Outside). o.output) same.streams);
+  errors = none_taken old.streams.errors mid.streams.errors (mean statements).err (ap (λ (o : Outside). o.errors) same.streams);
+}
+
+asked_fronts : (end : RunEnd) (words : List (List ℕ)) (old mid : World) (name : List ℕ) (statements : List Statement) (r : Ran end words old mid) → IsAsked words old name statements → TookFronts r.statements old mid → TookFronts statements old mid
+asked_fronts end words old mid name statements r asked took =
+    let P : List Statement → Type 0 = λ s. TookFronts s old mid in
+    subst P (statements_same end words old mid name statements r asked) took
+
+pub took : (result : Outcome) (words : List (List ℕ)) (old mid : World) → Performs result words old mid → (name : List ℕ) (statements : List Statement) → IsAsked words old name statements → TookFronts statements old mid
+took (outcome.Program code) words old mid did name statements asked =
+    let all = concluded (ends.Ended code) words old mid did in
+    asked_fronts (ends.Ended code) words old mid name statements did asked (record {
+      output = all_taken old.streams.output mid.streams.output (mean did.statements).out all.1;
+      errors = all_taken old.streams.errors mid.streams.errors (mean did.statements).err all.2;
+    })
+took (outcome.InstructionLimit taken) words old mid did name statements asked = absurd (no_limit taken words old mid did)
+took (outcome.Stopped cs ip why) words old mid did name statements asked = absurd (concluded (ends.Stopped cs ip why) words old mid did)
+took (outcome.Refused refusal.Usage) words old mid did name statements asked = untouched_fronts statements old mid did.1
+took (outcome.Refused (refusal.MissingFile file)) words old mid did name statements asked = untouched_fronts statements old mid did.untouched
+took (outcome.Refused (refusal.NotInProfile at feature)) words old mid did name statements asked = untouched_fronts statements old mid did.untouched
+took outcome.InputFault words old mid did name statements asked = let f = concluded ends.InputFault words old mid did in asked_fronts ends.InputFault words old mid name statements did asked (record { output = f.output; errors = f.errors })
+took outcome.OutputFault words old mid did name statements asked = let f = concluded ends.OutputFault words old mid did in asked_fronts ends.OutputFault words old mid name statements did asked (record { output = f.output; errors = f.errors })
+took outcome.ErrorsFault words old mid did name statements asked = let f = concluded ends.ErrorsFault words old mid did in asked_fronts ends.ErrorsFault words old mid name statements did asked (record { output = f.output; errors = f.errors })
+took outcome.FilesFault words old mid did name statements asked = untouched_fronts statements old mid did.1
+took outcome.NoMemory words old mid did name statements asked = untouched_fronts statements old mid did
+
+pub fronts : (result : Outcome) (words : List (List ℕ)) (old mid : World) (errors : Option (List ℕ)) (faults : ℕ) → Performs result words old mid → Fronts words old (told mid errors faults)
+fronts result words old mid errors faults did = λ name statements asked. (took result words old mid did name statements asked).output
+
+pub took_errors : (result : Outcome) (words : List (List ℕ)) (old mid : World) → Performs result words old mid → TookErrors words old mid.streams.errors
+took_errors result words old mid did = λ name statements asked. (took result words old mid did name statements asked).errors
+
+pub ends_with_line : (result : Outcome) (words : List (List ℕ)) (old mid : World) (errors : Option (List ℕ)) (faults : ℕ) → Performs result words old mid → errors ≡ append_known mid.streams.errors (line_of result) → EndsWithLine words old (told mid errors faults) result
+ends_with_line (outcome.Program code) words old mid errors faults did line = (mid.streams.errors, line, took_errors (outcome.Program code) words old mid did)
+ends_with_line (outcome.InstructionLimit taken) words old mid errors faults did line = (mid.streams.errors, line, took_errors (outcome.InstructionLimit taken) words old mid did)
+ends_with_line (outcome.Stopped cs ip why) words old mid errors faults did line = (mid.streams.errors, line, took_errors (outcome.Stopped cs ip why) words old mid did)
+ends_with_line (outcome.Refused r) words old mid errors faults did line = (mid.streams.errors, line, took_errors (outcome.Refused r) words old mid did)
+ends_with_line outcome.InputFault words old mid errors faults did line = (mid.streams.errors, line, took_errors outcome.InputFault words old mid did)
+ends_with_line outcome.OutputFault words old mid errors faults did line = (mid.streams.errors, line, took_errors outcome.OutputFault words old mid did)
+ends_with_line outcome.ErrorsFault words old mid errors faults did line = tt
+ends_with_line outcome.FilesFault words old mid errors faults did line = (mid.streams.errors, line, took_errors outcome.FilesFault words old mid did)
+ends_with_line outcome.NoMemory words old mid errors faults did line = (mid.streams.errors, line, took_errors outcome.NoMemory words old mid did)
+
+wrote_its_line : (result : Outcome) (old mid : World) (errors : Option (List ℕ)) (faults : ℕ) → IsUntouched old mid → errors ≡ append_known mid.streams.errors (line_of result) → WroteItsLine old (told mid errors faults) result
+wrote_its_line result old mid errors faults same line = record {
+  folder = same.folder;
+  output = ap (λ (o : Outside). o.output) same.streams;
+  errors = line ∙ ap (λ (o : Outside). append_known o.errors (line_of result)) same.streams;
+}
+
+pub unchanged : (result : Outcome) (words : List (List ℕ)) (old mid : World) (errors : Option (List ℕ)) (faults : ℕ) → Performs result words old mid → errors ≡ append_known mid.streams.errors (line_of result) → Unchanged old (told mid errors faults) result
+unchanged (outcome.Program code) words old mid errors faults did line = tt
+unchanged (outcome.InstructionLimit taken) words old mid errors faults did line = tt
+unchanged (outcome.Stopped cs ip why) words old mid errors faults did line = tt
+unchanged (outcome.Refused refusal.Usage) words old mid errors faults did line = wrote_its_line (outcome.Refused refusal.Usage) old mid errors faults did.1 line
+unchanged (outcome.Refused (refusal.MissingFile file)) words old mid errors faults did line = wrote_its_line (outcome.Refused (refusal.MissingFile file)) old mid errors faults did.untouched line
+unchanged (outcome.Refused (refusal.NotInProfile at feature)) words old mid errors faults did line = wrote_its_line (outcome.Refused (refusal.NotInProfile at feature)) old mid errors faults did.untouched line
+unchanged outcome.InputFault words old mid errors faults did line = tt
+unchanged outcome.OutputFault words old mid errors faults did line = tt
+unchanged outcome.ErrorsFault words old mid errors faults did line = tt
+unchanged outcome.FilesFault words old mid errors faults did line = wrote_its_line outcome.FilesFault old mid errors faults did.1 line
+unchanged outcome.NoMemory words old mid errors faults did line = wrote_its_line outcome.NoMemory old mid errors faults did line
 
 leaves : (end : RunEnd) (words : List (List ℕ)) (old mid : World) (errors : Option (List ℕ)) (faults : ℕ) → Ran end words old mid → FilesAfter words old (told mid errors faults)
 leaves end words old mid errors faults r = inr (record { name = r.name; named = r.named; statements = r.statements; says = r.says; bytes = r.bytes; agrees = r.built.agrees; written = r.written })
@@ -186,3 +242,69 @@ files_after outcome.OutputFault words old mid errors faults did = leaves ends.Ou
 files_after outcome.ErrorsFault words old mid errors faults did = leaves ends.ErrorsFault words old mid errors faults did
 files_after outcome.FilesFault words old mid errors faults did = inl did.1.folder
 files_after outcome.NoMemory words old mid errors faults did = inl did.folder
+
+says_lacks : (folder : Option Folder) (file : List ℕ) (statements : List Statement) → Says folder file statements → Lacks folder file → ⊥
+says_lacks None file statements says lacks = lacks
+says_lacks (Some folder) file statements says lacks = let e : Some says.0 ≡ None = sym says.1 ∙ lacks in absurd (subst IsFound e tt)
+
+says_nothing_lacks : (folder : Option Folder) (file : List ℕ) → SaysNothing folder file → Lacks folder file → ⊥
+says_nothing_lacks None file says lacks = lacks
+says_nothing_lacks (Some folder) file says lacks = let e : Some says.0 ≡ None = sym says.1 ∙ lacks in absurd (subst IsFound e tt)
+
+says_none : (folder : Option Folder) (file text : List ℕ) (statements : List Statement) → Says folder file statements → Holds folder file text → ((others : List Statement) → IsSource text others → ⊥) → ⊥
+says_none None file text statements says held none = held
+says_none (Some folder) file text statements says held none =
+    let texts : says.0 ≡ text = ap (λ found. unwrap_or found []) (sym says.1 ∙ held) in
+    let P : List ℕ → Type 0 = λ t. IsSource t statements in
+    none statements (subst P texts says.2)
+
+-- a program that has run had none of the causes
+ran_causes : (end : RunEnd) (result : Outcome) (words : List (List ℕ)) (old mid new : World) → Ran end words old mid → Refuses words old new result
+ran_causes end result words old mid new r = record {
+  usage = λ none. absurd (none r.name r.named);
+  missing = λ name named lacks.
+      let P : List ℕ → Type 0 = λ n. Says old.folder (file_of n Source) r.statements in
+      absurd (says_lacks old.folder (file_of name Source) r.statements (subst P (go_once words r.name name r.named named) r.says) lacks);
+  outside = λ name text named held none.
+      let P : List ℕ → Type 0 = λ n. Says old.folder (file_of n Source) r.statements in
+      absurd (says_none old.folder (file_of name Source) text r.statements (subst P (go_once words r.name name r.named named) r.says) held none);
+}
+
+pub causes : (result : Outcome) (words : List (List ℕ)) (old mid : World) (errors : Option (List ℕ)) (faults : ℕ) → Performs result words old mid → Refuses words old (told mid errors faults) result
+causes (outcome.Program code) words old mid errors faults did = ran_causes (ends.Ended code) (outcome.Program code) words old mid (told mid errors faults) did
+causes (outcome.InstructionLimit taken) words old mid errors faults did = ran_causes (ends.Limit taken) (outcome.InstructionLimit taken) words old mid (told mid errors faults) did
+causes (outcome.Stopped cs ip why) words old mid errors faults did = ran_causes (ends.Stopped cs ip why) (outcome.Stopped cs ip why) words old mid (told mid errors faults) did
+causes outcome.InputFault words old mid errors faults did = ran_causes ends.InputFault outcome.InputFault words old mid (told mid errors faults) did
+causes outcome.OutputFault words old mid errors faults did = ran_causes ends.OutputFault outcome.OutputFault words old mid (told mid errors faults) did
+causes outcome.ErrorsFault words old mid errors faults did = ran_causes ends.ErrorsFault outcome.ErrorsFault words old mid (told mid errors faults) did
+causes outcome.FilesFault words old mid errors faults did = record { usage = λ none. inr did.0; missing = λ name named lacks. inr did.0; outside = λ name text named held none. inr did.0 }
+causes outcome.NoMemory words old mid errors faults did = record { usage = λ none. inr tt; missing = λ name named lacks. inr tt; outside = λ name text named held none. inr tt }
+causes (outcome.Refused refusal.Usage) words old mid errors faults did = record {
+  usage = λ none. inl refl;
+  missing = λ name named lacks. absurd (did.0 name named);
+  outside = λ name text named held none. absurd (did.0 name named);
+}
+causes (outcome.Refused (refusal.MissingFile file)) words old mid errors faults did = record {
+  usage = λ none. absurd (none did.name did.named);
+  missing = λ name named lacks. inl (ap (λ f. outcome.Refused (refusal.MissingFile f)) (did.reason.0 ∙ ap (λ n. file_of n Source) (go_once words did.name name did.named named)));
+  outside = λ name text named held none.
+      let P : List ℕ → Type 0 = λ n. IfSome old.folder (λ folder. folder (file_of n Source) ≡ None) in
+      absurd (missing_not old.folder (file_of name Source) text held (subst P (go_once words did.name name did.named named) did.reason.1));
+}
+causes (outcome.Refused (refusal.NotInProfile at feature.NotYet)) words old mid errors faults did = record {
+  usage = λ none. absurd (none did.name did.named);
+  missing = λ name named lacks.
+      let P : List ℕ → Type 0 = λ n. SaysNothing old.folder (file_of n Source) in
+      absurd (says_nothing_lacks old.folder (file_of name Source) (subst P (go_once words did.name name did.named named) did.reason.1) lacks);
+  outside = λ name text named held none. inl (ap (λ a. outcome.Refused (refusal.NotInProfile a feature.NotYet)) (did.reason.0 ∙ ap front_of (go_once words did.name name did.named named)));
+}
+
+still_rising : (old mid new : ℕ) → old ≤ mid → HasRisen mid new → HasRisen old new
+still_rising old mid new counted (inl rose) = inl (omega arith)
+still_rising old mid new counted (inr full) = inr (omega arith)
+
+-- the line failed
+pub line_failed : (words : List (List ℕ)) (old new : World) (mid : ℕ) → old.streams.errors_faults ≤ mid → HasRisen mid new.streams.errors_faults → Refuses words old new outcome.ErrorsFault
+line_failed words old new mid counted rose =
+    let all = still_rising old.streams.errors_faults mid new.streams.errors_faults counted rose in
+    record { usage = λ none. inr all; missing = λ name named lacks. inr all; outside = λ name text named held none. inr all }

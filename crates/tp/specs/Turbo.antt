@@ -20,7 +20,7 @@ use Rattle.tp.specs.declared.outcome.Outcome.TheVariants as outcome
 use Rattle.tp.specs.Files.{file_of}
 use Rattle.tp.specs.Line.{line_of}
 use Rattle.tp.specs.Words.{IsGo}
-use Rattle.tp.specs.World.{World, Holds}
+use Rattle.tp.specs.World.{World, Holds, Lacks}
 use Rattle.tp.specs.Performs.{Says}
 
 -- The words are `go` and a program's name, the files tell what they hold, and the program's source says these
@@ -91,25 +91,40 @@ Refused words old (outcome.Refused (refusal.NotInProfile at feature)) =
     × ((text : List ℕ) (statements : List Statement) → Holds old.folder (file_of name Source) text → IsSource text statements → ⊥)
 Refused words old other = Unit {0}
 
--- Where a cause holds, that refusal comes, or a fault, or want of memory.
-abbrev pub Refuses : List (List ℕ) → World → World → Outcome → Refusal → Type 0
-Refuses words old new result r = (result ≡ outcome.Refused r) ⊎ IsFaultOrNoMemory result old new
+-- Each cause gives its refusal, or there was a fault of the object that is named, or no memory.
+pub record Refuses (words : List (List ℕ)) (old new : World) (result : Outcome) : Type 0 where
+  pub usage : ((name : List ℕ) → IsGo words name → ⊥) → (result ≡ outcome.Refused refusal.Usage) ⊎ IsFaultOrNoMemory result old new
+  pub missing : (name : List ℕ) → IsGo words name → Lacks old.folder (file_of name Source) →
+      (result ≡ outcome.Refused (refusal.MissingFile (file_of name Source))) ⊎ IsFaultOrNoMemory result old new
+  pub outside : (name text : List ℕ) → IsGo words name → Holds old.folder (file_of name Source) text → ((statements : List Statement) → IsSource text statements → ⊥) →
+      (result ≡ outcome.Refused (refusal.NotInProfile (record { file = file_of name Source; line = 1; column = 1 }) NotYet)) ⊎ IsFaultOrNoMemory result old new
 
--- A refused command changed no file and wrote nothing but its line.
+-- No file changed and nothing was written but the line that the outcome is due.
+pub record WroteItsLine (old new : World) (result : Outcome) : Type 0 where
+  pub folder : new.folder ≡ old.folder
+  pub output : new.streams.output ≡ old.streams.output
+  pub errors : new.streams.errors ≡ append_known old.streams.errors (line_of result)
+
+-- A refused command, one whose files failed, and one that had no memory did nothing but write their line.
 abbrev pub Unchanged : World → World → Outcome → Type 0
-Unchanged old new (outcome.Refused r) =
-    (new.folder ≡ old.folder) × (new.streams.output ≡ old.streams.output) × (new.streams.errors ≡ append_known old.streams.errors (line_of (outcome.Refused r)))
+Unchanged old new (outcome.Refused r) = WroteItsLine old new (outcome.Refused r)
+Unchanged old new outcome.FilesFault = WroteItsLine old new outcome.FilesFault
+Unchanged old new outcome.NoMemory = WroteItsLine old new outcome.NoMemory
 Unchanged old new other = Unit {0}
 
--- The errors end with the line that is due.
-abbrev pub EndsWithLine : World → World → Outcome → Type 0
-EndsWithLine old new outcome.ErrorsFault = Unit {0}
-EndsWithLine old new result = (before : Option (List ℕ)) × (new.streams.errors ≡ append_known before (line_of result))
+-- Where a source was asked for, the errors took a front of what it means for them, before the line.
+abbrev pub TookErrors : List (List ℕ) → World → Option (List ℕ) → Type 0
+TookErrors words old before = (name : List ℕ) (statements : List Statement) → IsAsked words old name statements → TakesPrefix old.streams.errors before (mean statements).err
 
--- What the output took, whatever the outcome of a run: the first of the bytes that are meant.
-abbrev pub Fronts : List (List ℕ) → World → World → Outcome → Type 0
-Fronts words old new result =
-    (name : List ℕ) (statements : List Statement) → IsAsked words old name statements → HasRun result →
+-- The errors end with the line that is due.
+abbrev pub EndsWithLine : List (List ℕ) → World → World → Outcome → Type 0
+EndsWithLine words old new outcome.ErrorsFault = Unit {0}
+EndsWithLine words old new result = (before : Option (List ℕ)) × (new.streams.errors ≡ append_known before (line_of result)) × TookErrors words old before
+
+-- What the output took, whatever the outcome: the first of the bytes that are meant.
+abbrev pub Fronts : List (List ℕ) → World → World → Type 0
+Fronts words old new =
+    (name : List ℕ) (statements : List Statement) → IsAsked words old name statements →
     TakesPrefix old.streams.output new.streams.output (mean statements).out
 
 -- The files afterwards: as they were, or with the executable of the source that the words name, as a run without any

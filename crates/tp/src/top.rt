@@ -1,7 +1,7 @@
 //! The top call.
 
 ghost use Rattle.std.specs.Prelude.{map, string_bytes};
-ghost use Rattle.tp.specs.Turbo.{Headline, Written, Complete, Fronts, FilesAfter, Faults, Refused, Unchanged, EndsWithLine};
+ghost use Rattle.tp.specs.Turbo.{Headline, Written, Complete, Fronts, FilesAfter, Faults, Refused, Refuses, Unchanged, EndsWithLine};
 ghost use Rattle.tp.specs.World.{world};
 
 use crate::line::write_line;
@@ -40,7 +40,7 @@ pub fn turbo<F: Files, S: Source, K: Sink, E: Sink>(
         (world (F.folder files.old) (F.faults files.old) (S.remaining input.old) (K.contents output.old)
         (E.contents errors.old) (S.faults input.old) (K.faults output.old) (E.faults errors.old))
         (world (F.folder files.new) (F.faults files.new) (S.remaining input.new) (K.contents output.new)
-        (E.contents errors.new) (S.faults input.new) (K.faults output.new) (E.faults errors.new)) result }
+        (E.contents errors.new) (S.faults input.new) (K.faults output.new) (E.faults errors.new)) }
     ensures files { FilesAfter (map string_bytes words.now)
         (world (F.folder files.old) (F.faults files.old) (S.remaining input.old) (K.contents output.old)
         (E.contents errors.old) (S.faults input.old) (K.faults output.old) (E.faults errors.old))
@@ -54,12 +54,17 @@ pub fn turbo<F: Files, S: Source, K: Sink, E: Sink>(
     ensures refused { Refused (map string_bytes words.now)
         (world (F.folder files.old) (F.faults files.old) (S.remaining input.old) (K.contents output.old)
         (E.contents errors.old) (S.faults input.old) (K.faults output.old) (E.faults errors.old)) result }
+    ensures refuses { Refuses (map string_bytes words.now)
+        (world (F.folder files.old) (F.faults files.old) (S.remaining input.old) (K.contents output.old)
+        (E.contents errors.old) (S.faults input.old) (K.faults output.old) (E.faults errors.old))
+        (world (F.folder files.new) (F.faults files.new) (S.remaining input.new) (K.contents output.new)
+        (E.contents errors.new) (S.faults input.new) (K.faults output.new) (E.faults errors.new)) result }
     ensures unchanged { Unchanged
         (world (F.folder files.old) (F.faults files.old) (S.remaining input.old) (K.contents output.old)
         (E.contents errors.old) (S.faults input.old) (K.faults output.old) (E.faults errors.old))
         (world (F.folder files.new) (F.faults files.new) (S.remaining input.new) (K.contents output.new)
         (E.contents errors.new) (S.faults input.new) (K.faults output.new) (E.faults errors.new)) result }
-    ensures line { EndsWithLine
+    ensures line { EndsWithLine (map string_bytes words.now)
         (world (F.folder files.old) (F.faults files.old) (S.remaining input.old) (K.contents output.old)
         (E.contents errors.old) (S.faults input.old) (K.faults output.old) (E.faults errors.old))
         (world (F.folder files.new) (F.faults files.new) (S.remaining input.new) (K.contents output.new)

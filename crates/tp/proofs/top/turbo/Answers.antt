@@ -52,3 +52,39 @@ returns-in-Err-clause-files g c =
     let old : World = world (g.F.Files.folder c.args.files.now) (g.F.Files.faults c.args.files.now) (g.S.Source.remaining c.args.input.now) (g.K.Sink.contents c.args.output.now) (g.E.Sink.contents c.args.errors.now) (g.S.Source.faults c.args.input.now) (g.K.Sink.faults c.args.output.now) (g.E.Sink.faults c.args.errors.now) in
     let mid : World = world (g.F.Files.folder c.perform-outcome.new.files) (g.F.Files.faults c.perform-outcome.new.files) (g.S.Source.remaining c.perform-outcome.new.input) (g.K.Sink.contents c.perform-outcome.new.output) (g.E.Sink.contents c.perform-outcome.new.errors) (g.S.Source.faults c.perform-outcome.new.input) (g.K.Sink.faults c.perform-outcome.new.output) (g.E.Sink.faults c.perform-outcome.new.errors) in
     laws.files_after c.perform-outcome.result words old mid (g.E.Sink.contents c.write_line.new.errors) (g.E.Sink.faults c.write_line.new.errors) c.perform-outcome.ensures.performs
+
+pub returns-in-Err-clause-fronts : goal.returns-in-Err-clause-fronts
+returns-in-Err-clause-fronts g c =
+    let words : List (List ℕ) = map string_bytes c.args.words.now in
+    let old : World = world (g.F.Files.folder c.args.files.now) (g.F.Files.faults c.args.files.now) (g.S.Source.remaining c.args.input.now) (g.K.Sink.contents c.args.output.now) (g.E.Sink.contents c.args.errors.now) (g.S.Source.faults c.args.input.now) (g.K.Sink.faults c.args.output.now) (g.E.Sink.faults c.args.errors.now) in
+    let mid : World = world (g.F.Files.folder c.perform-outcome.new.files) (g.F.Files.faults c.perform-outcome.new.files) (g.S.Source.remaining c.perform-outcome.new.input) (g.K.Sink.contents c.perform-outcome.new.output) (g.E.Sink.contents c.perform-outcome.new.errors) (g.S.Source.faults c.perform-outcome.new.input) (g.K.Sink.faults c.perform-outcome.new.output) (g.E.Sink.faults c.perform-outcome.new.errors) in
+    laws.fronts c.perform-outcome.result words old mid (g.E.Sink.contents c.write_line.new.errors) (g.E.Sink.faults c.write_line.new.errors) c.perform-outcome.ensures.performs
+
+pub returns-in-Ok-clause-unchanged : goal.returns-in-Ok-clause-unchanged
+returns-in-Ok-clause-unchanged g c =
+    let words : List (List ℕ) = map string_bytes c.args.words.now in
+    let old : World = world (g.F.Files.folder c.args.files.now) (g.F.Files.faults c.args.files.now) (g.S.Source.remaining c.args.input.now) (g.K.Sink.contents c.args.output.now) (g.E.Sink.contents c.args.errors.now) (g.S.Source.faults c.args.input.now) (g.K.Sink.faults c.args.output.now) (g.E.Sink.faults c.args.errors.now) in
+    let mid : World = world (g.F.Files.folder c.perform-outcome.new.files) (g.F.Files.faults c.perform-outcome.new.files) (g.S.Source.remaining c.perform-outcome.new.input) (g.K.Sink.contents c.perform-outcome.new.output) (g.E.Sink.contents c.perform-outcome.new.errors) (g.S.Source.faults c.perform-outcome.new.input) (g.K.Sink.faults c.perform-outcome.new.output) (g.E.Sink.faults c.perform-outcome.new.errors) in
+    laws.unchanged c.perform-outcome.result words old mid (g.E.Sink.contents c.write_line.new.errors) (g.E.Sink.faults c.write_line.new.errors) c.perform-outcome.ensures.performs c.in-Ok.ensures.written
+
+pub returns-in-Ok-clause-line : goal.returns-in-Ok-clause-line
+returns-in-Ok-clause-line g c =
+    let words : List (List ℕ) = map string_bytes c.args.words.now in
+    let old : World = world (g.F.Files.folder c.args.files.now) (g.F.Files.faults c.args.files.now) (g.S.Source.remaining c.args.input.now) (g.K.Sink.contents c.args.output.now) (g.E.Sink.contents c.args.errors.now) (g.S.Source.faults c.args.input.now) (g.K.Sink.faults c.args.output.now) (g.E.Sink.faults c.args.errors.now) in
+    let mid : World = world (g.F.Files.folder c.perform-outcome.new.files) (g.F.Files.faults c.perform-outcome.new.files) (g.S.Source.remaining c.perform-outcome.new.input) (g.K.Sink.contents c.perform-outcome.new.output) (g.E.Sink.contents c.perform-outcome.new.errors) (g.S.Source.faults c.perform-outcome.new.input) (g.K.Sink.faults c.perform-outcome.new.output) (g.E.Sink.faults c.perform-outcome.new.errors) in
+    laws.ends_with_line c.perform-outcome.result words old mid (g.E.Sink.contents c.write_line.new.errors) (g.E.Sink.faults c.write_line.new.errors) c.perform-outcome.ensures.performs c.in-Ok.ensures.written
+
+pub returns-in-Ok-clause-refuses : goal.returns-in-Ok-clause-refuses
+returns-in-Ok-clause-refuses g c =
+    let words : List (List ℕ) = map string_bytes c.args.words.now in
+    let old : World = world (g.F.Files.folder c.args.files.now) (g.F.Files.faults c.args.files.now) (g.S.Source.remaining c.args.input.now) (g.K.Sink.contents c.args.output.now) (g.E.Sink.contents c.args.errors.now) (g.S.Source.faults c.args.input.now) (g.K.Sink.faults c.args.output.now) (g.E.Sink.faults c.args.errors.now) in
+    let mid : World = world (g.F.Files.folder c.perform-outcome.new.files) (g.F.Files.faults c.perform-outcome.new.files) (g.S.Source.remaining c.perform-outcome.new.input) (g.K.Sink.contents c.perform-outcome.new.output) (g.E.Sink.contents c.perform-outcome.new.errors) (g.S.Source.faults c.perform-outcome.new.input) (g.K.Sink.faults c.perform-outcome.new.output) (g.E.Sink.faults c.perform-outcome.new.errors) in
+    laws.causes c.perform-outcome.result words old mid (g.E.Sink.contents c.write_line.new.errors) (g.E.Sink.faults c.write_line.new.errors) c.perform-outcome.ensures.performs
+
+pub returns-in-Err-clause-refuses : goal.returns-in-Err-clause-refuses
+returns-in-Err-clause-refuses g c =
+    let words : List (List ℕ) = map string_bytes c.args.words.now in
+    let old : World = world (g.F.Files.folder c.args.files.now) (g.F.Files.faults c.args.files.now) (g.S.Source.remaining c.args.input.now) (g.K.Sink.contents c.args.output.now) (g.E.Sink.contents c.args.errors.now) (g.S.Source.faults c.args.input.now) (g.K.Sink.faults c.args.output.now) (g.E.Sink.faults c.args.errors.now) in
+    let mid : World = world (g.F.Files.folder c.perform-outcome.new.files) (g.F.Files.faults c.perform-outcome.new.files) (g.S.Source.remaining c.perform-outcome.new.input) (g.K.Sink.contents c.perform-outcome.new.output) (g.E.Sink.contents c.perform-outcome.new.errors) (g.S.Source.faults c.perform-outcome.new.input) (g.K.Sink.faults c.perform-outcome.new.output) (g.E.Sink.faults c.perform-outcome.new.errors) in
+    let new : World = world (g.F.Files.folder c.perform-outcome.new.files) (g.F.Files.faults c.perform-outcome.new.files) (g.S.Source.remaining c.perform-outcome.new.input) (g.K.Sink.contents c.perform-outcome.new.output) (g.E.Sink.contents c.write_line.new.errors) (g.S.Source.faults c.perform-outcome.new.input) (g.K.Sink.faults c.perform-outcome.new.output) (g.E.Sink.faults c.write_line.new.errors) in
+    laws.line_failed words old new (g.E.Sink.faults c.perform-outcome.new.errors) c.perform-outcome.ensures.errors_counted c.in-Err.ensures.failed
