@@ -1,0 +1,10 @@
+pub mod Answered
+pub mod FrontLaws
+pub mod Including
+pub mod Leads
+pub mod PlaceLaws
+pub mod Positive
+pub mod Reading
+pub mod SwitchLists
+pub mod TokenLaws
+pub mod Variants

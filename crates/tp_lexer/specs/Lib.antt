@@ -1,0 +1,13 @@
+pub mod Acting
+pub mod Characters
+pub mod Contents
+pub mod Directives
+pub mod Effects
+pub mod Fronts
+pub mod Numbers
+pub mod Pieces
+pub mod Places
+pub mod Shapes
+pub mod Symbols
+pub mod Tokens
+pub mod Words

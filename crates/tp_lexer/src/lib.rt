@@ -1,0 +1,30 @@
+//! The tokens of Turbo Pascal 5.5, after includes and conditions.
+#![tactic(auto)]
+
+mod act;
+mod characters;
+mod comment;
+mod condition;
+mod constant;
+mod directive;
+mod file_name;
+mod front;
+mod lexer;
+mod meaning;
+mod number;
+mod piece;
+mod place;
+mod reader;
+mod shape;
+mod state;
+mod symbol;
+#[cfg(test)]
+mod tests;
+mod token;
+mod value;
+mod word;
+
+pub use lexer::{longest_fronts, one_list, tokens};
+pub use reader::have_short_texts;
+pub use symbol::Symbol;
+pub use token::{Feature, LexError, Switches, Text, Token, TokenKind, TokenList};
