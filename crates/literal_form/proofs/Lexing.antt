@@ -5,7 +5,8 @@ use Rattle.std.proofs.lemmas.Bool.{eqb-true, leb-true, le-leb, and_parts, and_fr
 use Rattle.literal_form.specs.declared.token.Symbol.{Symbol}
 use Rattle.literal_form.specs.declared.token.Symbol.TheVariants as symbols
 use Rattle.literal_form.specs.declared.token.Word.{Word}
-use Rattle.literal_form.specs.Lexeme.{Lexeme, word, text, number, symbol, is_blank, is_letter, is_digit, is_letter_or_digit, quote, quoted, word_of, decimal, byte_of, AllAre, NotBefore, BeginsWith, SpellsWord, SpellsNumber, SpellsText, Spells, MayPrecede, Begins}
+use Rattle.literal_form.specs.Words.{word_of}
+use Rattle.literal_form.specs.Lexeme.{Lexeme, word, text, number, symbol, is_blank, is_letter, is_digit, is_letter_or_digit, quote, quoted, decimal, byte_of, AllAre, NotBefore, BeginsWith, SpellsWord, SpellsNumber, SpellsText, Spells, MayPrecede, Begins}
 use Rattle.literal_form.specs.Reading.{◌>>=◌, after_blanks, word_at, number_from, number_at, content_at, text_at, symbol_of, symbol_at, token_at, front_at, next_at}
 use Rattle.literal_form.proofs.Classes.{letter_not_blank, digit_not_blank, digit_no_letter, digits_are, begins_not}
 use Rattle.literal_form.proofs.Quotes.{content-quoted, AnswerCloses, content_closes}
@@ -83,11 +84,11 @@ number_fronts_by b bs digits rest true e h s =
     }
 number_fronts_by b bs digits rest false e h s = tt
 
-text_fronts : (b : ℕ) (bs : List ℕ) (read : Option (List ℕ × List ℕ)) → b ≡ quote → AnswerCloses bs read → AnswerFronts (b ∷ bs) (read >>= λ x. Some (text x.0, x.1))
+text_fronts : (b : ℕ) (bs : List ℕ) (read : Option (List ℕ × List ℕ)) → b ≡ quote → AnswerCloses bs read → AnswerFronts (b ∷ bs) (read >>= λ x. Some (text (take 255 x.0), x.1))
 text_fronts b bs None e h = tt
 text_fronts b bs (Some x) e h = record {
   spelling = quote ∷ (quoted x.0 ++ quote ∷ []);
-  spelled = record { line = h.line; is = refl };
+  spelled = record { content = x.0; line = h.line; is = refl; first = refl };
   longest = h.ends;
   parts = rw (e, h.parts) (ap (λ (l : List ℕ). quote ∷ l) (sym (append_assoc (quoted x.0) (quote ∷ []) x.1)));
 }
@@ -172,11 +173,11 @@ number-read k (b ∷ bs) rest s n =
     let test : (list_all is_digit (b ∷ bs) && leb (length (b ∷ bs)) 9) ≡ true = and_from _ _ (list_all-from_AllAre is_digit (b ∷ bs) s.all) (le-leb (length (b ∷ bs)) 9 s.few) in
     token_at-digit b (bs ++ rest) s.digit ∙ number_at-run (b ∷ bs) rest (digits_are (b ∷ bs) s.all) n ∙ cond-true _ _ _ test ∙ ap (λ (x : ℕ). Some (number x, rest)) s.is
 
-text-read : (content bytes rest : List ℕ) → SpellsText content bytes → NotBefore (λ b. eqb b quote) rest → token_at (bytes ++ rest) ≡ Some (text content, rest)
+text-read : (value bytes rest : List ℕ) → SpellsText value bytes → NotBefore (λ b. eqb b quote) rest → token_at (bytes ++ rest) ≡ Some (text value, rest)
 unfolding token_at
-text-read content bytes rest s n =
-    let e : token_at (quote ∷ ((quoted content ++ quote ∷ []) ++ rest)) ≡ Some (text content, rest) = rw (append_assoc (quoted content) (quote ∷ []) rest, content-quoted content rest s.line n) refl in
-    rw s.is e
+text-read value bytes rest s n =
+    let e : token_at (quote ∷ ((quoted s.content ++ quote ∷ []) ++ rest)) ≡ Some (text (take 255 s.content), rest) = rw (append_assoc (quoted s.content) (quote ∷ []) rest, content-quoted s.content rest s.line n) refl in
+    rw (s.is, s.first) e
 
 symbol-read : (s : Symbol) (rest : List ℕ) → token_at (byte_of s ∷ rest) ≡ Some (symbol s, rest)
 unfolding token_at

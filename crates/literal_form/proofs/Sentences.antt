@@ -64,6 +64,7 @@ headed_said None p ps h = rw (first_said p ps) refl
 headed_said (Some words.Program) p ps h = absurd h
 headed_said (Some words.Begin) p ps h = absurd h
 headed_said (Some words.End) p ps h = absurd h
+headed_said (Some words.Reserved) p ps h = absurd h
 headed_said (Some words.Write) p ps h = rw (first_said p ps) refl
 headed_said (Some words.WriteLn) p ps h = rw (first_said p ps) refl
 headed_said (Some words.Halt) p ps h = rw (first_said p ps) refl

@@ -1,5 +1,5 @@
 -- How many bytes a token takes.
-use Rattle.std.proofs.Common.{◌≡◌, ℕ, ◌+◌, ◌*◌, ◌-◌, ◌^◌, ◌<◌, ◌≤◌, suc, List, [], ◌∷◌, Bool, true, false, cond, length, length-append, ap, arith, eqb}
+use Rattle.std.proofs.Common.{◌≡◌, ℕ, ◌+◌, ◌*◌, ◌-◌, ◌^◌, ◌<◌, ◌≤◌, suc, List, [], ◌∷◌, Bool, true, false, cond, length, length-append, length-take, ap, arith, eqb}
 use Rattle.std.specs.List.{fold}
 use Rattle.std.proofs.Math.Nat.{pow-succ', pow-le-pow_right, mul-le-mul_left}
 use Rattle.literal_form.specs.Lexeme.{Lexeme, word, text, number, symbol, quote, quoted, is_letter, is_digit, decimal, BeginsWith, AllAre, Spells, Begins}
@@ -21,7 +21,7 @@ begins_some p (b ∷ bs) h = omega arith
 spelled_size : (t : Lexeme) (bytes : List ℕ) → Spells t bytes → least_size t ≤ length bytes
 spelled_size (word w) bytes s = begins_some is_letter bytes s.letter
 spelled_size (number n) bytes s = begins_some is_digit bytes s.digit
-spelled_size (text c) bytes s = rw s.is (omega (arith, length-append (quoted c) (quote ∷ []), length-quoted c))
+spelled_size (text c) bytes s = rw (s.is, s.first) (omega (arith, length-append (quoted s.content) (quote ∷ []), length-quoted s.content, length-take 255 s.content))
 spelled_size (symbol k) bytes s = rw s (omega arith)
 
 pub begins_size : (t : Lexeme) (whole rest : List ℕ) → Begins t whole rest → least_size t + length rest ≤ length whole

@@ -54,11 +54,12 @@ heading_tokens (Some name) follow = word words.Program ∷ word name ∷ symbol 
 abbrev pub source_tokens : Source → List Lexeme
 source_tokens s = heading_tokens s.heading (word words.Begin ∷ phrase_tokens s.first (more_phrases s.others))
 
--- a program's name is none of the three reserved words
+-- a program's name is no reserved word
 abbrev pub IsUnreserved : Word → Type 0
 IsUnreserved words.Program = ⊥
 IsUnreserved words.Begin = ⊥
 IsUnreserved words.End = ⊥
+IsUnreserved words.Reserved = ⊥
 IsUnreserved w = Unit {0}
 
 abbrev pub IsHeading : Option Word → Type 0

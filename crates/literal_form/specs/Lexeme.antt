@@ -1,12 +1,11 @@
 -- The tokens of a text, and how each is spelled.
-use Rattle.std.specs.Prelude.{◌≡◌, ℕ, ◌+◌, ◌*◌, ◌-◌, ◌≤◌, ◌==◌, ◌||◌, Bool, true, false, cond, List, [], ◌∷◌, ◌++◌, length, map, fold, codes}
-use Rattle.std.specs.Char.{is_ascii_alphabetic, is_ascii_digit, to_ascii_lowercase}
+use Rattle.std.specs.Prelude.{◌≡◌, ℕ, ◌+◌, ◌*◌, ◌-◌, ◌≤◌, ◌==◌, ◌||◌, Bool, true, false, cond, List, [], ◌∷◌, ◌++◌, length, take, fold}
+use Rattle.std.specs.Char.{is_ascii_alphabetic, is_ascii_digit}
 use Rattle.std.specs.List.{AllByRecursion}
-use Rattle.std.specs.Str.{bytes_eq}
 use Rattle.literal_form.specs.declared.token.Word.{Word}
-use Rattle.literal_form.specs.declared.token.Word.TheVariants as words
 use Rattle.literal_form.specs.declared.token.Symbol.{Symbol}
 use Rattle.literal_form.specs.declared.token.Symbol.TheVariants as symbols
+use Rattle.literal_form.specs.Words.{word_of}
 
 -- a token without the way that it is written; a text constant is the bytes that it stands for
 pub data Lexeme : Type 0 where
@@ -53,19 +52,6 @@ NotBefore p (b ∷ bs) = p b ≡ false
 
 -- ---- the spelling of a token
 
-abbrev pub is_word : List ℕ → List ℕ → Bool
-is_word name letters = bytes_eq (map to_ascii_lowercase name) letters
-
--- the word that a name is, in upper or lower case
-abbrev pub word_of : List ℕ → Word
-word_of name =
-    cond (is_word name (codes "program")) words.Program (
-    cond (is_word name (codes "begin")) words.Begin (
-    cond (is_word name (codes "end")) words.End (
-    cond (is_word name (codes "write")) words.Write (
-    cond (is_word name (codes "writeln")) words.WriteLn (
-    cond (is_word name (codes "halt")) words.Halt words.Name)))))
-
 -- the number that decimal digits stand for
 abbrev pub decimal : List ℕ → ℕ
 decimal digits = fold (λ n digit. 10 * n + (digit - 48)) 0 digits
@@ -95,22 +81,24 @@ pub record SpellsNumber (n : ℕ) (bytes : List ℕ) : Type 0 where
   pub few : length bytes ≤ 9
   pub is : decimal bytes ≡ n
 
--- a text constant stands on one line between quotes, with two quotes for one
-pub record SpellsText (content bytes : List ℕ) : Type 0 where
+-- a text constant stands on one line between quotes, with two quotes for one, and only its first 255 bytes count
+pub record SpellsText (value bytes : List ℕ) : Type 0 where
+  pub content : List ℕ
   pub line : NoneIs is_line_break content
   pub is : bytes ≡ quote ∷ (quoted content ++ quote ∷ [])
+  pub first : value ≡ take 255 content
 
 abbrev pub Spells : Lexeme → List ℕ → Type 0
 Spells (word w) bytes = SpellsWord w bytes
 Spells (number n) bytes = SpellsNumber n bytes
-Spells (text content) bytes = SpellsText content bytes
+Spells (text value) bytes = SpellsText value bytes
 Spells (symbol s) bytes = bytes ≡ byte_of s ∷ []
 
 -- The longest token is taken: no byte follows that would go on with it.
 abbrev pub MayPrecede : Lexeme → List ℕ → Type 0
 MayPrecede (word w) rest = NotBefore is_letter_or_digit rest
 MayPrecede (number n) rest = NotBefore is_letter_or_digit rest
-MayPrecede (text content) rest = NotBefore (λ b. b == quote) rest
+MayPrecede (text value) rest = NotBefore (λ b. b == quote) rest
 MayPrecede (symbol s) rest = Unit {0}
 
 -- a token stands first in the text, perhaps behind separators, and the rest follows it

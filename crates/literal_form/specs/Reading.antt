@@ -10,7 +10,8 @@ use Rattle.literal_form.specs.declared.token.Symbol.TheVariants as symbols
 use Rattle.literal_form.specs.declared.token.Token.{Token}
 use Rattle.literal_form.specs.declared.token.Token.TheVariants as tokens
 use Rattle.literal_form.specs.declared.token.Word.TheVariants as words
-use Rattle.literal_form.specs.Lexeme.{Lexeme, word, text, number, symbol, is_blank, is_letter, is_digit, is_letter_or_digit, is_line_break, quote, word_of, decimal, Lexes}
+use Rattle.literal_form.specs.Words.{word_of}
+use Rattle.literal_form.specs.Lexeme.{Lexeme, word, text, number, symbol, is_blank, is_letter, is_digit, is_letter_or_digit, is_line_break, quote, decimal, Lexes}
 use Rattle.literal_form.specs.Statement.{Statement, write, halt, line_end}
 
 infixl 10 ◌>>=◌
@@ -70,7 +71,7 @@ content_at (b ∷ c ∷ bs) =
     cond (is_line_break b) None (with_byte b (content_at (c ∷ bs))))
 
 abbrev pub text_at : List ℕ → Option (Lexeme × List ℕ)
-text_at bytes = content_at bytes >>= λ x. Some (text x.0, x.1)
+text_at bytes = content_at bytes >>= λ x. Some (text (take 255 x.0), x.1)
 
 abbrev pub symbol_of : ℕ → Option Symbol
 symbol_of b =

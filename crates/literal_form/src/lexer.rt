@@ -3,13 +3,17 @@
 ghost use Rattle.std.specs.Prelude.{◌≡◌, ◌≤◌, length};
 ghost use Rattle.std.specs.Option.{option_map};
 ghost use Rattle.std.specs.List.{AllPass, prefix_len, list_all};
-ghost use Rattle.literal_form.specs.Lexeme.{is_letter_or_digit, is_digit as digit, decimal, word_of as word_for};
+ghost use Rattle.literal_form.specs.Lexeme.{is_letter_or_digit, is_digit as digit, decimal};
 ghost use Rattle.literal_form.specs.Reading.{Gives, after_blanks, content_byte_at, front_at, lexeme_of, next_at, number_at, symbol_of, text_at, token_at, word_at};
 
 use crate::bytes::{is_blank, is_digit, is_letter, is_line_break};
 use crate::error::ReadError;
-use crate::token::{Symbol, Token, Word};
+use crate::token::{Symbol, Token};
+use crate::words::word_of;
 use std::alloc::Global;
+
+/// How many bytes of a text constant count.
+const LONGEST_CONSTANT: usize = 255;
 
 /// The first token of a text and what follows it, or None where only separators are left.
 #[tactic(auto, unfolding(crate::specs::Reading::next_at))]
@@ -69,26 +73,6 @@ fn word(text: &[u8]) -> (Token, &[u8])
     (Token::Word(word_of(name)), rest)
 }
 
-fn word_of(name: &[u8]) -> Word
-    ensures { result ≡ word_for name.now }
-{
-    if name.eq_ignore_ascii_case(b"program") {
-        Word::Program
-    } else if name.eq_ignore_ascii_case(b"begin") {
-        Word::Begin
-    } else if name.eq_ignore_ascii_case(b"end") {
-        Word::End
-    } else if name.eq_ignore_ascii_case(b"write") {
-        Word::Write
-    } else if name.eq_ignore_ascii_case(b"writeln") {
-        Word::WriteLn
-    } else if name.eq_ignore_ascii_case(b"halt") {
-        Word::Halt
-    } else {
-        Word::Name
-    }
-}
-
 /// A number of at most nine digits.
 fn number(text: &[u8]) -> Result<(Token, &[u8]), ReadError>
     ensures { Gives (λ x. (lexeme_of x.0, x.1.now)) result (number_at text.now) }
@@ -118,7 +102,7 @@ fn value_of(digits: &[u8]) -> u32
     value
 }
 
-/// What stands before the closing quote, behind the opening one.
+/// What stands before the closing quote, behind the opening one, as far as it counts.
 fn text_constant(alloc: Global, text: &[u8]) -> Result<(Token, &[u8]), ReadError>
     ensures { Gives (λ x. (lexeme_of x.0, x.1.now)) result (text_at text.now) }
 {
@@ -127,7 +111,10 @@ fn text_constant(alloc: Global, text: &[u8]) -> Result<(Token, &[u8]), ReadError
     'bytes: loop {
         match content_byte(rest) {
             None => return Err(ReadError::NotYet),
-            Some((None, after)) => return Ok((Token::Text(content), after)),
+            Some((None, after)) => {
+                content.truncate(LONGEST_CONSTANT);
+                return Ok((Token::Text(content), after));
+            }
             Some((Some(byte), after)) => {
                 content.push(byte)?;
                 rest = after;

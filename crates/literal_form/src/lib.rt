@@ -10,6 +10,7 @@ mod program;
 mod reading;
 mod state;
 mod token;
+mod words;
 
 pub use act::Act;
 pub use error::ReadError;

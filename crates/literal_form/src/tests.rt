@@ -48,7 +48,30 @@ fn reads_texts_and_line_ends(rt: HostRuntime) -> Result<(), Fail> {
         b"\n\tPROGRAM halt;\x0cbegin;WriteLn('a',\r\n'b');end.\r\n\x1a(*",
         b"ab\r\n",
         &[write(0, 1), write(1, 1), write(2, 2)],
-    )
+    )?;
+    assert_reads(&rt, alloc, b"program Ifs; begin end.", b"", &[])?;
+    assert_reads(&rt, alloc, b"program absolute; begin end.", b"", &[])
+}
+
+// Of a constant the first 255 bytes count; a doubled quote is one byte.
+#[test]
+fn reads_the_first_bytes_of_a_constant(rt: HostRuntime) -> Result<(), Fail> {
+    let alloc = rt.alloc();
+    for (count, kept) in [(253, 254), (254, 255), (255, 255), (300, 255)] {
+        let mut text = Vec::from_slice(alloc, b"begin Write('''")?;
+        for _ in 0..count {
+            text.push(b'a')?;
+        }
+        text.extend_from_slice(b"', 'b') end.")?;
+        let program = read_program(alloc, &text)?;
+        assert_eq!(rt;
+            program.acts.as_slice(),
+            [write(0, kept), write(kept, 1)].as_slice()
+        );
+        assert_eq!(rt; program.pool.first(), Some(&b'\''));
+        assert_eq!(rt; program.pool.last(), Some(&b'b'));
+    }
+    Ok(())
 }
 
 #[test]
@@ -77,7 +100,7 @@ fn reads_ends(rt: HostRuntime) -> Result<(), Fail> {
 
 #[test]
 fn refuses_other_texts(rt: HostRuntime) {
-    let texts: [&[u8]; 24] = [
+    let texts: [&[u8]; 27] = [
         b"",
         b"begin end",
         b"begin end. end.",
@@ -86,6 +109,9 @@ fn refuses_other_texts(rt: HostRuntime) {
         b"begin (* *) end.",
         b"beginend.",
         b"program begin; begin end.",
+        b"program if; begin end.",
+        b"program Xor; begin end.",
+        b"begin AND end.",
         b"program A begin end.",
         b"program 1; begin end.",
         b"begin Write end.",
@@ -111,14 +137,14 @@ fn refuses_other_texts(rt: HostRuntime) {
 #[test]
 fn reads_the_longest_text_and_none_longer(rt: HostRuntime) -> Result<(), Fail> {
     let alloc = rt.alloc();
-    let mut text = Vec::from_slice(alloc, b"begin Write('")?;
-    for _ in 0..4076 {
-        text.push(b'a')?;
+    let mut text = Vec::from_slice(alloc, b"begin Write('a'")?;
+    for _ in 0..1018 {
+        text.extend_from_slice(b",'a'")?;
     }
-    text.extend_from_slice(b"') end.")?;
+    text.extend_from_slice(b") end   .")?;
     let program: LiteralProgram = read_program(alloc, &text)?;
     assert_eq!(rt; text.len(), LONGEST_SOURCE);
-    assert_eq!(rt; program.pool.len(), 4076);
+    assert_eq!(rt; program.pool.len(), 1019);
     text.push(b' ')?;
     assert_refuses(&rt, alloc, &text);
     Ok(())

@@ -1,6 +1,6 @@
 //! The tokens of a text.
 
-/// A word that the form knows, in either case, or any other name.
+/// A word that the form knows, in either case, another word that is reserved, or any other name.
 #[derive(Clone, Copy)]
 pub enum Word {
     Program,
@@ -9,6 +9,7 @@ pub enum Word {
     Write,
     WriteLn,
     Halt,
+    Reserved,
     Name,
 }
 
@@ -24,7 +25,7 @@ pub enum Symbol {
 #[derive(Drop)]
 pub enum Token {
     Word(Word),
-    /// A text constant, as the bytes that it stands for.
+    /// A text constant, as the bytes that it stands for, at most 255.
     Text(Vec<u8>),
     Number(u32),
     Symbol(Symbol),

@@ -16,4 +16,4 @@ returns-in-None c =
 pub returns-in-Some-None-default : goal.returns-in-Some-None-default
 returns-in-Some-None-default c =
     let e : content_byte_at c.bytes.rest.now ≡ Some (None, c.in-Some-None-default.after.now) = cc (c.in-Some-None-default.ensures) in
-    rw (content_ends _ _ _ _ e c.bytes.invariant) refl
+    rw (content_ends _ _ _ _ e c.bytes.invariant, c.truncate.ensures.items) refl

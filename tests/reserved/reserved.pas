@@ -1,0 +1,1 @@
+program If; begin Write('x') end.
