@@ -1,4 +1,4 @@
-ghost use Rattle.std.specs.Prelude.{None, IfOk, ◌≤◌, length};
+ghost use Rattle.std.specs.Prelude.{◌≡◌, ◌≤◌, None, length, IfOk};
 
 use crate::faults::{Failed, WriteError};
 use crate::folders::Files;
@@ -17,7 +17,10 @@ pub struct RealFiles<R> {
 
 impl<R: System> RealFiles<R> {
     /// No fault was met yet.
-    pub fn new(system: R) -> RealFiles<R> {
+    pub fn new(system: R) -> RealFiles<R>
+        ensures system { result.system ≡ system }
+        ensures faults { result.faults ≡ 0 }
+    {
         RealFiles { system, faults: 0 }
     }
 }

@@ -1,4 +1,7 @@
-ghost use Rattle.std.specs.Prelude.{None};
+ghost use Rattle.std.specs.Prelude.{◌≡◌, ◌<◌, ◌≤◌, None, length, IfOk, OnOk, OnErr};
+ghost use Rattle.std.specs.Io.KnownBytes.{WriteAppends};
+ghost use Rattle.tp_outside.specs.Calls.{one_more};
+ghost use Rattle.tp_outside.specs.Faults.{HasRisen};
 
 use crate::faults::Failed;
 use crate::sinks::Sink;
@@ -14,7 +17,10 @@ pub struct RealSink<W> {
 
 impl<W: Write> RealSink<W> {
     /// No fault was met yet.
-    pub fn new(writer: W) -> RealSink<W> {
+    pub fn new(writer: W) -> RealSink<W>
+        ensures writer { result.writer ≡ writer }
+        ensures faults { result.faults ≡ 0 }
+    {
         RealSink { writer, faults: 0 }
     }
 }
@@ -24,7 +30,17 @@ impl<W: Write> Sink for RealSink<W> {
 
     ghost contents = { λ _. None };
 
-    fn write(&mut self, from: &[u8]) -> Result<usize, Failed> {
+    fn write(&mut self, from: &[u8]) -> Result<usize, Failed>
+        ensures writer { WriteAppends (W.contents self.old.writer) (W.contents self.new.writer) result from.now }
+        ensures quiet { OnOk result (self.new.faults ≡ self.old.faults) }
+        ensures loud { OnErr result (self.new.faults ≡ one_more self.old.faults) }
+
+        // As of any sink; that of its own bytes it tells none needs no clause.
+        ensures bound { IfOk result (λ count. count ≤ length from.now) }
+        ensures progress { IfOk result (λ count. 0 < length from.now → 0 < count) }
+        ensures counted { self.old.faults ≤ self.new.faults }
+        ensures failed { OnErr result (HasRisen self.old.faults self.new.faults) }
+    {
         match self.writer.write(from) {
             Ok(count) if count > 0 || from.is_empty() => Ok(count),
             _ => {
