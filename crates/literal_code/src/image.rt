@@ -141,6 +141,7 @@ fn assemble(alloc: Global, program: &LiteralProgram) -> Result<Exe, AllocError>
 /// The executable of a program of literals. It does what the program means: each list of bytes that stands for it
 /// agrees with the program's statements, and its run is short.
 pub fn executable(alloc: Global, program: &LiteralProgram) -> Result<Exe, AllocError>
+    ensures exact { IfOk result (λ exe. exe ≡ executable_of program.now.pool.items program.now.acts.items) }
     ensures writable { IfOk result IsWritable }
     ensures loadable { IfOk result IsLoadable }
     ensures agrees { IfOk result (λ exe. (bytes : List ℕ) →

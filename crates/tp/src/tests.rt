@@ -38,6 +38,7 @@ enum Executable {
 struct Row {
     failing: &'static [(Object, u64)],
     end: End,
+    status: u8,
     executable: Executable,
     output: &'static [u8],
     errors: &'static [u8],
@@ -49,6 +50,7 @@ const OLD: &[u8] = b"old";
 #[derive(Drop)]
 struct Left {
     end: End,
+    status: u8,
     source: Vec<u8>,
     executable: Vec<u8>,
     output: Vec<u8>,
@@ -98,6 +100,7 @@ fn go_a(alloc: Global, source: &[u8], failing: &[(Object, u64)]) -> Result<Left,
     );
     Ok(Left {
         end: end_of(&outcome),
+        status: outcome.status(),
         source: Vec::from_slice(alloc, files.bytes("a.pas").ok_or("no a.pas")?)?,
         executable: Vec::from_slice(alloc, files.bytes("a.exe").ok_or("no a.exe")?)?,
         output: Vec::from_slice(alloc, output.bytes())?,
@@ -105,7 +108,7 @@ fn go_a(alloc: Global, source: &[u8], failing: &[(Object, u64)]) -> Result<Left,
     })
 }
 
-/// Tests each row, and that no other row is due: the calls of an object are numbered up to one that isn't made.
+/// Tests each row: how `go A` ends on this source, and what it leaves.
 fn assert_rows(rt: &impl Abort, alloc: Global, source: &[u8], rows: &[Row]) -> Result<(), Fail> {
     let faultless = go_a(alloc, source, &[])?;
     for row in rows {
@@ -116,6 +119,7 @@ fn assert_rows(rt: &impl Abort, alloc: Global, source: &[u8], rows: &[Row]) -> R
             Executable::New => faultless.executable.as_slice(),
         };
         assert_eq!(rt; left.end, row.end, "{failing:?}");
+        assert_eq!(rt; left.status, row.status, "{failing:?}");
         assert_eq!(rt; left.source.as_slice(), source, "{failing:?}");
         assert_eq!(rt; left.executable.as_slice(), executable, "{failing:?}");
         assert_eq!(rt; left.output.as_slice(), row.output, "{failing:?}");
@@ -125,7 +129,8 @@ fn assert_rows(rt: &impl Abort, alloc: Global, source: &[u8], rows: &[Row]) -> R
 }
 
 // The files are asked for the source's size and its bytes, and write the executable; the output is written three
-// times, since an empty text is no call; the errors are written where a line is due.
+// times, since an empty text is no call; the errors are written where a line is due. A call with a number past these
+// is not made.
 #[test]
 fn each_call_of_a_run_fails_once(rt: HostRuntime) -> Result<(), Fail> {
     let source = b"program A; begin Write('Hi', ''); WriteLn('!'); Halt(3); Write('.') end.";
@@ -143,6 +148,7 @@ fn each_call_of_a_run_fails_once(rt: HostRuntime) -> Result<(), Fail> {
         Row {
             failing: &[(Object::Files, 1), (Object::Errors, 1)],
             end: End::ErrorsFault,
+            status: 254,
             executable: Executable::Old,
             output: b"",
             errors: b"",
@@ -150,6 +156,7 @@ fn each_call_of_a_run_fails_once(rt: HostRuntime) -> Result<(), Fail> {
         Row {
             failing: &[(Object::Output, 2), (Object::Errors, 1)],
             end: End::ErrorsFault,
+            status: 254,
             executable: Executable::New,
             output: b"Hi",
             errors: b"",
@@ -165,6 +172,7 @@ fn ran(failing: &'static [(Object, u64)]) -> Row {
     Row {
         failing,
         end: End::Program(3),
+        status: 3,
         executable: Executable::New,
         output: b"Hi!\r\n",
         errors: b"",
@@ -175,6 +183,7 @@ fn files_fault(failing: &'static [(Object, u64)]) -> Row {
     Row {
         failing,
         end: End::FilesFault,
+        status: 254,
         executable: Executable::Old,
         output: b"",
         errors: b"tp: FilesFault\n",
@@ -185,6 +194,7 @@ fn output_fault(failing: &'static [(Object, u64)], output: &'static [u8]) -> Row
     Row {
         failing,
         end: End::OutputFault,
+        status: 254,
         executable: Executable::New,
         output,
         errors: b"tp: OutputFault\n",
@@ -195,6 +205,7 @@ fn refused(failing: &'static [(Object, u64)]) -> Row {
     Row {
         failing,
         end: End::NotInProfile,
+        status: 252,
         executable: Executable::Old,
         output: b"",
         errors: b"tp: NotInProfile a.pas:1:1 NotYet\n",
@@ -212,6 +223,7 @@ fn each_call_of_a_refused_command_fails_once(rt: HostRuntime) -> Result<(), Fail
         Row {
             failing: &[(Object::Errors, 1)],
             end: End::ErrorsFault,
+            status: 254,
             executable: Executable::Old,
             output: b"",
             errors: b"",
