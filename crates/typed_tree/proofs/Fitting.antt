@@ -63,10 +63,11 @@ fits_width types room below at slot (Some width) is h = fits_expression types ro
 
 fit_written : (types : List TypeDef) (room below : ℕ) (items : List Written) → below + written_need types items ≤ room → FitWritten types room below items
 fit_written types room below [] h = tt
-fit_written types room below (item ∷ rest) h =
-    (fits_expression types room below item.value (omega arith),
-    fits_width types room below (below + slot_of types item.value) (slot_of types item.value) item.width refl (omega arith),
-    fit_written types room below rest (omega arith))
+fit_written types room below (item ∷ rest) h = (
+  fits_expression types room below item.value (omega arith),
+  fits_width types room below (below + slot_of types item.value) (slot_of types item.value) item.width refl (omega arith),
+  fit_written types room below rest (omega arith),
+)
 
 fit_taken : (types : List TypeDef) (room below : ℕ) (items : List Taken) → below + taken_need types items ≤ room → FitTaken types room below items
 fit_taken types room below [] h = h
@@ -91,14 +92,16 @@ mutual
   fits_statement types room below (Repeat body condition) h =
       (fits_statement types room below body (omega arith), fits_expression types room below condition (omega arith))
   fits_statement types room below (Block statements) h = fit_statements types room below statements h
-  fits_statement types room below (Case selector arms other) h =
-      (fits_expression types room below selector (omega arith),
-      fit_arms types room (below + slot_of types selector) arms (omega arith),
-      fits_statement types room (below + slot_of types selector) other (omega arith))
-  fits_statement types room below (For variable ty from to down body) h =
-      (fits_expression types room below from (omega arith),
-      fits_expression types room (below + slot_of_type types ty) to (omega arith),
-      fits_statement types room (below + slot_of_type types ty) body (omega arith))
+  fits_statement types room below (Case selector arms other) h = (
+    fits_expression types room below selector (omega arith),
+    fit_arms types room (below + slot_of types selector) arms (omega arith),
+    fits_statement types room (below + slot_of types selector) other (omega arith),
+  )
+  fits_statement types room below (For variable ty from to down body) h = (
+    fits_expression types room below from (omega arith),
+    fits_expression types room (below + slot_of_type types ty) to (omega arith),
+    fits_statement types room (below + slot_of_type types ty) body (omega arith),
+  )
   fits_statement types room below (With at body) h =
       (fits_place types room below 4 at (omega arith) (omega arith), fits_statement types room (below + 4) body (omega arith))
   fits_statement types room below (WriteItems items line) h = fit_written types room below items h

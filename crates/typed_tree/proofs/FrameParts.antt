@@ -1,5 +1,5 @@
 -- A frame holds its parts, and the need of a body is enough for it.
-use Rattle.std.proofs.Common.{◌≡◌, ◌≤◌, ◌+◌, ℕ, cond, Bool, true, false, List, arith}
+use Rattle.std.proofs.Common.{◌≤◌, ◌+◌, ℕ, cond, Bool, true, false, List, arith}
 use Rattle.std.specs.Option.{is_some}
 use Rattle.type_layout.specs.declared.definitions.TypeDef.{TypeDef}
 use Rattle.typed_tree.specs.declared.units.Routine.{Routine}

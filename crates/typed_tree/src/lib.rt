@@ -1,15 +1,17 @@
 //! Typed trees, and the memory and code that they ask for.
 #![tactic(auto)]
 
+#[cfg(test)]
+mod expression_tests;
 mod expressions;
 mod frames;
 mod needs;
 #[cfg(test)]
-mod node_tests;
-#[cfg(test)]
 mod samples;
 mod slots;
 mod statement_needs;
+#[cfg(test)]
+mod statement_tests;
 mod statement_weights;
 mod statements;
 #[cfg(test)]

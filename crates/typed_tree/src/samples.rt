@@ -2,7 +2,7 @@
 
 use crate::{
     Arg, BinaryOp, Expr, Globals, Items, Locals, PlaceExpr, Routine, Routines, SetElement, Stmt,
-    UnaryOp, Unit, Value, Variable,
+    UnaryOp, Unit, Value, Variable, need_of, weight_of,
 };
 use std::alloc::{AllocError, Global};
 use type_layout::{
@@ -236,4 +236,59 @@ pub(crate) fn unit_with(alloc: Global, body: Stmt) -> Result<Unit, AllocError> {
     let mut routines = Routines::new(alloc);
     routines.push(procedure(alloc, Params::new(alloc), true, None, body)?)?;
     unit_of(alloc, routines)
+}
+
+/// What a variable points to.
+pub(crate) fn target(alloc: Global) -> Result<PlaceExpr, AllocError> {
+    Ok(PlaceExpr::Deref {
+        pointer: Box::new(alloc, load(alloc, POINTER)?)?,
+    })
+}
+
+/// An element of a variable, by a LongInt.
+pub(crate) fn element(alloc: Global) -> Result<PlaceExpr, AllocError> {
+    Ok(PlaceExpr::Index {
+        place: boxed(alloc, variable(1))?,
+        index: Box::new(alloc, load(alloc, LONG)?)?,
+        checked: true,
+    })
+}
+
+/// n * 2, n being a variable.
+pub(crate) fn product(alloc: Global) -> Result<Expr, AllocError> {
+    binary(
+        alloc,
+        INTEGER,
+        BinaryOp::Multiply,
+        load(alloc, INTEGER)?,
+        number(INTEGER, 2),
+    )
+}
+
+pub(crate) fn halt(ty: TypeId) -> Stmt {
+    Stmt::Halt {
+        code: number(ty, 1),
+    }
+}
+
+/// What a statement needs and weighs.
+pub(crate) fn measured(alloc: Global, stmt: Stmt) -> Result<(u64, u64), AllocError> {
+    let unit = unit_with(alloc, stmt)?;
+    let need = if unit.routines.is_empty() {
+        0
+    } else {
+        need_of(&unit, 0)
+    };
+    Ok((need, weight_of(&unit).saturating_sub(160)))
+}
+
+/// The rows, or none where memory ran out.
+pub(crate) fn rows_of<T>(alloc: Global, rows: Result<Vec<T>, AllocError>) -> Vec<T>
+where
+    T: Drop,
+{
+    match rows {
+        Ok(rows) => rows,
+        Err(_) => Vec::new(alloc),
+    }
 }

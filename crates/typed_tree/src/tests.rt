@@ -1,7 +1,10 @@
 //! Frames and weights of whole routines and units, worked out by hand.
 
 use crate::samples::*;
-use crate::{BinaryOp, Expr, Locals, Routine, Routines, Stmt, Unit, frame_of, need_of, slot_of_type, weight_of};
+use crate::{
+    BinaryOp, Expr, Locals, Routine, Routines, Stmt, Unit, frame_of, need_of, slot_of_type,
+    weight_of,
+};
 use std::alloc::{AllocError, Global};
 use type_layout::{Kind, Param, Params, TypeId};
 
