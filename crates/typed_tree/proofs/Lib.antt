@@ -1,0 +1,5 @@
+pub mod Views
+pub mod StatementViews
+pub mod NeedSteps
+pub mod FrameParts
+pub mod Fitting

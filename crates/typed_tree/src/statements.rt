@@ -1,0 +1,112 @@
+//! Typed statements.
+
+use crate::{Arg, Expr, PlaceExpr, Variable};
+use type_layout::{RoutineId, TypeId};
+
+/// The labels of a `case` from `low` to `high`; one label alone is both.
+#[derive(Clone, Copy, Debug, PartialEq, Eq)]
+pub struct LabelRange {
+    pub low: i32,
+    pub high: i32,
+}
+
+/// The destructor that `Dispose` calls: a routine, or the one in a slot of the instance's class.
+#[derive(Clone, Copy, Debug, PartialEq, Eq)]
+pub enum Destructor {
+    Routine(RoutineId),
+    Slot(u32),
+}
+
+/// A value that is written, and its width.
+#[derive(Debug, Drop)]
+pub struct WriteItem {
+    pub value: Expr,
+    pub width: Option<Expr>,
+}
+
+/// A place that is read, and its type.
+#[derive(Debug, Drop)]
+pub struct ReadItem {
+    pub place: PlaceExpr,
+    pub ty: TypeId,
+}
+
+/// A statement. One that is missing is a `Block` of none.
+#[cycle(statement)]
+#[derive(Debug, Drop)]
+pub enum Stmt {
+    Assign {
+        place: PlaceExpr,
+        value: Expr,
+    },
+    /// A record, array or object from one place to another.
+    CopyAll {
+        to: PlaceExpr,
+        from: PlaceExpr,
+    },
+    Run {
+        call: Expr,
+    },
+    If {
+        condition: Expr,
+        yes: Box<Stmt>,
+        no: Box<Stmt>,
+    },
+    While {
+        condition: Expr,
+        body: Box<Stmt>,
+    },
+    Repeat {
+        body: Box<Stmt>,
+        condition: Expr,
+    },
+    Block {
+        statements: Vec<Stmt>,
+    },
+    Case {
+        selector: Expr,
+        arms: Vec<Arm>,
+        other: Box<Stmt>,
+    },
+    /// The type is the variable's.
+    For {
+        variable: Variable,
+        ty: TypeId,
+        from: Expr,
+        to: Expr,
+        down: bool,
+        body: Box<Stmt>,
+    },
+    With {
+        place: PlaceExpr,
+        body: Box<Stmt>,
+    },
+    /// With `line`, the end of the line follows.
+    WriteItems {
+        items: Vec<WriteItem>,
+        line: bool,
+    },
+    /// With `line`, the rest of the line is skipped.
+    ReadItems {
+        items: Vec<ReadItem>,
+        line: bool,
+    },
+    Halt {
+        code: Expr,
+    },
+    Exit,
+    /// Calls a destructor on a block and frees it.
+    Unmake {
+        pointer: Expr,
+        destructor: Destructor,
+        args: Vec<Arg>,
+    },
+}
+
+/// A branch of a `case`.
+#[cycle(statement)]
+#[derive(Debug, Drop)]
+pub struct Arm {
+    pub labels: Vec<LabelRange>,
+    pub body: Stmt,
+}

@@ -1,0 +1,3 @@
+mod TypedLaws
+mod FieldLaws
+mod ExampleLaws

@@ -1,0 +1,6 @@
+pub mod Fits
+pub mod Scopes
+pub mod Typed
+pub mod WellFormed
+pub mod Laws
+pub mod Example
