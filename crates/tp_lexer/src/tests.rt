@@ -129,212 +129,218 @@ fn is_one_read_as(alloc: Global, source: &str, expected: &str) -> Result<bool, A
     is_read_as(alloc, &[("a.pas", source)], expected)
 }
 
+// The sources that are read otherwise than the rows say.
+fn misread(alloc: Global, rows: &[(&str, &str)]) -> Result<String, AllocError> {
+    let mut sources = String::new(alloc);
+    for (source, expected) in rows {
+        if !is_one_read_as(alloc, source, expected)? {
+            sources.push_str(source)?;
+            sources.push_str("\n")?;
+        }
+    }
+    Ok(sources)
+}
+
+const LEXEMES: &[(&str, &str)] = &[
+    ("begin Write('x\n", "OpenString 0:1:13"),
+    ("1..5", "1 Range 5 "),
+    ("a(.1.)", "A OpenBracket 1 CloseBracket "),
+    (
+        "$FFFFFFFF $7f 2147483647 $80000000",
+        "-1 127 2147483647 -2147483648 ",
+    ),
+    ("2147483648", "BadNumber 0:1:1"),
+    ("$", "BadNumber 0:1:1"),
+    (" $123456789", "BadNumber 0:1:2"),
+    (
+        "1.5 2e3 2E-3 7e 7e+ 1.x",
+        "real real real 7 E 7 E Plus 1 Dot X ",
+    ),
+    ("'it''s' 'a'#66'c' ''", "'it's' 'aBc' '' "),
+    ("#256", "BadNumber 0:1:1"),
+    ("# 1", "BadNumber 0:1:1"),
+    ("#$41^Ax", "'A' Caret AX "),
+    ("'a\r'", "OpenString 0:1:1"),
+    ("a\r\n\n\t ?", "BadCharacter 0:3:3"),
+    ("x\ry\n\r?", "BadCharacter 0:2:2"),
+    ("Begin_ BEGIN _x1", "BEGIN_ !BEGIN _X1 "),
+    ("}", "BadCharacter 0:1:1"),
+];
+
 #[test]
 fn reads_lexemes(rt: HostRuntime) {
-    let rows = [
-        ("begin Write('x\n", "OpenString 0:1:13"),
-        ("1..5", "1 Range 5 "),
-        ("a(.1.)", "A OpenBracket 1 CloseBracket "),
-        (
-            "$FFFFFFFF $7f 2147483647 $80000000",
-            "-1 127 2147483647 -2147483648 ",
-        ),
-        ("2147483648", "BadNumber 0:1:1"),
-        ("$", "BadNumber 0:1:1"),
-        (" $123456789", "BadNumber 0:1:2"),
-        (
-            "1.5 2e3 2E-3 7e 7e+ 1.x",
-            "real real real 7 E 7 E Plus 1 Dot X ",
-        ),
-        ("'it''s' 'a'#66'c' ''", "'it's' 'aBc' '' "),
-        ("#256", "BadNumber 0:1:1"),
-        ("# 1", "BadNumber 0:1:1"),
-        ("#$41^Ax", "'A' Caret AX "),
-        ("'a\r'", "OpenString 0:1:1"),
-        ("a\r\n\n\t ?", "BadCharacter 0:3:3"),
-        ("x\ry\n\r?", "BadCharacter 0:2:2"),
-        ("Begin_ BEGIN _x1", "BEGIN_ !BEGIN _X1 "),
-        ("}", "BadCharacter 0:1:1"),
-    ];
-    for (source, expected) in rows {
-        let same = is_one_read_as(rt.alloc(), source, expected);
-        assert!(&rt; same == Ok(true), "{source}");
-    }
+    let misread = misread(rt.alloc(), LEXEMES);
+    assert!(&rt; misread.is_ok_and(|sources| sources.is_empty()));
 }
+
+const SYMBOLS: &[(&str, &str)] = &[
+    ("+", "Plus "),
+    ("-", "Minus "),
+    ("*", "Times "),
+    ("/", "Divide "),
+    ("=", "Equal "),
+    ("<", "Less "),
+    (">", "Greater "),
+    ("<=", "LessEqual "),
+    (">=", "GreaterEqual "),
+    ("<>", "NotEqual "),
+    ("(", "OpenParenthesis "),
+    (")", "CloseParenthesis "),
+    ("[", "OpenBracket "),
+    ("]", "CloseBracket "),
+    ("(.", "OpenBracket "),
+    (".)", "CloseBracket "),
+    (".", "Dot "),
+    (",", "Comma "),
+    (";", "Semicolon "),
+    (":", "Colon "),
+    (":=", "Becomes "),
+    ("..", "Range "),
+    ("^", "Caret "),
+    ("@", "At "),
+    (
+        "< = : = . . ( . )",
+        "Less Equal Colon Equal Dot Dot OpenParenthesis Dot CloseParenthesis ",
+    ),
+    (
+        "<=><>==:==...)",
+        "LessEqual Greater NotEqual Equal Equal Becomes Equal Range CloseBracket ",
+    ),
+];
 
 #[test]
 fn reads_each_symbol(rt: HostRuntime) {
-    let rows = [
-        ("+", "Plus "),
-        ("-", "Minus "),
-        ("*", "Times "),
-        ("/", "Divide "),
-        ("=", "Equal "),
-        ("<", "Less "),
-        (">", "Greater "),
-        ("<=", "LessEqual "),
-        (">=", "GreaterEqual "),
-        ("<>", "NotEqual "),
-        ("(", "OpenParenthesis "),
-        (")", "CloseParenthesis "),
-        ("[", "OpenBracket "),
-        ("]", "CloseBracket "),
-        ("(.", "OpenBracket "),
-        (".)", "CloseBracket "),
-        (".", "Dot "),
-        (",", "Comma "),
-        (";", "Semicolon "),
-        (":", "Colon "),
-        (":=", "Becomes "),
-        ("..", "Range "),
-        ("^", "Caret "),
-        ("@", "At "),
-        (
-            "< = : = . . ( . )",
-            "Less Equal Colon Equal Dot Dot OpenParenthesis Dot CloseParenthesis ",
-        ),
-        (
-            "<=><>==:==...)",
-            "LessEqual Greater NotEqual Equal Equal Becomes Equal Range CloseBracket ",
-        ),
-    ];
-    for (source, expected) in rows {
-        let same = is_one_read_as(rt.alloc(), source, expected);
-        assert!(&rt; same == Ok(true), "{source}");
-    }
+    let misread = misread(rt.alloc(), SYMBOLS);
+    assert!(&rt; misread.is_ok_and(|sources| sources.is_empty()));
 }
+
+const COMMENTS: &[(&str, &str)] = &[
+    ("{a (* } x (* { *) y", "X Y "),
+    ("x (*) y", "OpenComment 0:1:3"),
+    ("{ (*", "OpenComment 0:1:1"),
+    ("(* } ", "OpenComment 0:1:1"),
+    ("x { *)", "OpenComment 0:1:3"),
+    ("{ { } }", "BadCharacter 0:1:7"),
+    ("(* (* *) *)", "Times CloseParenthesis "),
+    ("{}a(**)b(***)c", "A B C "),
+    ("a\x1a?", "A "),
+    ("{ \x1a }", "OpenComment 0:1:1"),
+    ("'a\x1a'", "OpenString 0:1:1"),
+    ("{$IFDEF A}\x1a{$ENDIF}", "OpenCondition 0:1:1"),
+];
 
 #[test]
 fn passes_over_comments(rt: HostRuntime) {
-    let rows = [
-        ("{a (* } x (* { *) y", "X Y "),
-        ("x (*) y", "OpenComment 0:1:3"),
-        ("{ (*", "OpenComment 0:1:1"),
-        ("(* } ", "OpenComment 0:1:1"),
-        ("x { *)", "OpenComment 0:1:3"),
-        ("{ { } }", "BadCharacter 0:1:7"),
-        ("(* (* *) *)", "Times CloseParenthesis "),
-        ("{}a(**)b(***)c", "A B C "),
-        ("a\x1a?", "A "),
-        ("{ \x1a }", "OpenComment 0:1:1"),
-        ("'a\x1a'", "OpenString 0:1:1"),
-        ("{$IFDEF A}\x1a{$ENDIF}", "OpenCondition 0:1:1"),
-    ];
-    for (source, expected) in rows {
-        let same = is_one_read_as(rt.alloc(), source, expected);
-        assert!(&rt; same == Ok(true), "{source}");
-    }
+    let misread = misread(rt.alloc(), COMMENTS);
+    assert!(&rt; misread.is_ok_and(|sources| sources.is_empty()));
 }
+
+const DIRECTIVES: &[(&str, &str)] = &[
+    (
+        "{$R+,F+} a {$r-}",
+        "switches true false true false A switches false false true false ",
+    ),
+    (
+        "(*$R+*)(*$b+*)",
+        "switches true false false false switches true true false false ",
+    ),
+    ("(*$DEFINE a*)(*$IFDEF A*)x(*$ENDIF*)", "X "),
+    ("{ $R+}{$R+ on}", "switches true false false false "),
+    ("{$M 2048,0,655360}", "memory 2048 655360 "),
+    ("{$M 1023,0,0}", "BadDirective 0:1:1"),
+    ("{$M 65521,0,0}", "BadDirective 0:1:1"),
+    ("{$M 1024,1,0}", "BadDirective 0:1:1"),
+    ("{$M 1024,0,655361}", "BadDirective 0:1:1"),
+    (" {$O Oa}", "overlaid OA "),
+    ("{$I-}", "Directives NotInProfile 0:1:1"),
+    ("{$V-}", "Directives NotInProfile 0:1:1"),
+    (" {$R+,N+}", "Directives NotInProfile 0:1:2"),
+    ("{$I+,V+,N-,S-}", "switches false false false false "),
+    ("{$A-,D-,E-,L-}", "switches false false false false "),
+    ("{$L x}", "Directives NotInProfile 0:1:1"),
+    ("{$X+}", "BadDirective 0:1:1"),
+    ("{$R}", "BadDirective 0:1:1"),
+    ("x {$I more}", "more.pas MissingInclude 0:1:3"),
+    ("x\n {$I More.Inc}", "more.inc MissingInclude 0:2:2"),
+    ("{$I}", "BadDirective 0:1:1"),
+];
 
 #[test]
 fn follows_directives(rt: HostRuntime) {
-    let rows = [
-        (
-            "{$R+,F+} a {$r-}",
-            "switches true false true false A switches false false true false ",
-        ),
-        (
-            "(*$R+*)(*$b+*)",
-            "switches true false false false switches true true false false ",
-        ),
-        ("(*$DEFINE a*)(*$IFDEF A*)x(*$ENDIF*)", "X "),
-        ("{ $R+}{$R+ on}", "switches true false false false "),
-        ("{$M 2048,0,655360}", "memory 2048 655360 "),
-        ("{$M 1023,0,0}", "BadDirective 0:1:1"),
-        ("{$M 65521,0,0}", "BadDirective 0:1:1"),
-        ("{$M 1024,1,0}", "BadDirective 0:1:1"),
-        ("{$M 1024,0,655361}", "BadDirective 0:1:1"),
-        (" {$O Oa}", "overlaid OA "),
-        ("{$I-}", "Directives NotInProfile 0:1:1"),
-        ("{$V-}", "Directives NotInProfile 0:1:1"),
-        (" {$R+,N+}", "Directives NotInProfile 0:1:2"),
-        ("{$I+,V+,N-,S-}", "switches false false false false "),
-        ("{$A-,D-,E-,L-}", "switches false false false false "),
-        ("{$L x}", "Directives NotInProfile 0:1:1"),
-        ("{$X+}", "BadDirective 0:1:1"),
-        ("{$R}", "BadDirective 0:1:1"),
-        ("x {$I more}", "more.pas MissingInclude 0:1:3"),
-        ("x\n {$I More.Inc}", "more.inc MissingInclude 0:2:2"),
-        ("{$I}", "BadDirective 0:1:1"),
-    ];
-    for (source, expected) in rows {
-        let same = is_one_read_as(rt.alloc(), source, expected);
-        assert!(&rt; same == Ok(true), "{source}");
-    }
+    let misread = misread(rt.alloc(), DIRECTIVES);
+    assert!(&rt; misread.is_ok_and(|sources| sources.is_empty()));
 }
+
+const CONDITIONS: &[(&str, &str)] = &[
+    ("{$DEFINE a}{$IFDEF A}x{$ELSE}'{$ENDIF}y", "X Y "),
+    (
+        "{$IFNDEF A}x{$ELSE}?{$IFDEF B}?{$ELSE}?{$ENDIF}{$ENDIF}y",
+        "X Y ",
+    ),
+    (
+        "{$IFDEF A}?{$IFNDEF B}?{$ELSE}?{$ENDIF}{$ELSE}x{$IFDEF B}?{$ELSE}y{$ENDIF}{$ENDIF}",
+        "X Y ",
+    ),
+    ("{$DEFINE a}{$DEFINE A}{$UNDEF a}{$IFDEF A}?{$ENDIF}y", "Y "),
+    (
+        "{$IFDEF A} ' # $ ? 9999999999 {$I-}{$X}{$M 1}{$I no}{$DEFINE A}{$R+} (* ' *){ {$ENDIF} ? {$ENDIF}x",
+        "X ",
+    ),
+    ("{$IFDEF A} { ", "OpenComment 0:1:12"),
+    (
+        "{$IFDEF A}\n {$IFDEF B} {$ENDIF} {$IFDEF C}",
+        "OpenCondition 0:2:22",
+    ),
+    ("{$IFNDEF A}x", "OpenCondition 0:1:1"),
+    ("{$ELSE}", "BadDirective 0:1:1"),
+    ("{$ENDIF}", "BadDirective 0:1:1"),
+    ("{$IFDEF A}{$ELSE}{$ELSE}{$ENDIF}", "BadDirective 0:1:18"),
+    ("{$IFDEF}", "BadDirective 0:1:1"),
+];
 
 #[test]
 fn follows_conditions(rt: HostRuntime) {
-    let rows = [
-        ("{$DEFINE a}{$IFDEF A}x{$ELSE}'{$ENDIF}y", "X Y "),
-        (
-            "{$IFNDEF A}x{$ELSE}?{$IFDEF B}?{$ELSE}?{$ENDIF}{$ENDIF}y",
-            "X Y ",
-        ),
-        (
-            "{$IFDEF A}?{$IFNDEF B}?{$ELSE}?{$ENDIF}{$ELSE}x{$IFDEF B}?{$ELSE}y{$ENDIF}{$ENDIF}",
-            "X Y ",
-        ),
-        ("{$DEFINE a}{$DEFINE A}{$UNDEF a}{$IFDEF A}?{$ENDIF}y", "Y "),
-        (
-            "{$IFDEF A} ' # $ ? 9999999999 {$I-}{$X}{$M 1}{$I no}{$DEFINE A}{$R+} (* ' *){ {$ENDIF} ? {$ENDIF}x",
-            "X ",
-        ),
-        ("{$IFDEF A} { ", "OpenComment 0:1:12"),
-        (
-            "{$IFDEF A}\n {$IFDEF B} {$ENDIF} {$IFDEF C}",
-            "OpenCondition 0:2:22",
-        ),
-        ("{$IFNDEF A}x", "OpenCondition 0:1:1"),
-        ("{$ELSE}", "BadDirective 0:1:1"),
-        ("{$ENDIF}", "BadDirective 0:1:1"),
-        ("{$IFDEF A}{$ELSE}{$ELSE}{$ENDIF}", "BadDirective 0:1:18"),
-        ("{$IFDEF}", "BadDirective 0:1:1"),
-    ];
-    for (source, expected) in rows {
-        let same = is_one_read_as(rt.alloc(), source, expected);
-        assert!(&rt; same == Ok(true), "{source}");
-    }
+    let misread = misread(rt.alloc(), CONDITIONS);
+    assert!(&rt; misread.is_ok_and(|sources| sources.is_empty()));
 }
+
+const OPTIONS: &[(&str, &str)] = &[
+    (
+        "{$IFOPT R+}?{$ELSE}{$R+}{$ENDIF}{$IFOPT R+}x{$ENDIF}",
+        "switches true false false false X ",
+    ),
+    (
+        "{$IFOPT B-}b{$ENDIF}{$IFOPT F-}f{$ENDIF}{$IFOPT O-}o{$ENDIF}",
+        "B F O ",
+    ),
+    (
+        "{$F+}{$IFOPT f+}x{$ENDIF}",
+        "switches false false true false X ",
+    ),
+    (
+        "{$IFOPT A+}a{$ENDIF}{$IFOPT D+}d{$ENDIF}{$IFOPT E+}e{$ENDIF}",
+        "A D E ",
+    ),
+    (
+        "{$IFOPT I+}i{$ENDIF}{$IFOPT L+}l{$ENDIF}{$IFOPT S+}s{$ENDIF}",
+        "I L S ",
+    ),
+    (
+        "{$IFOPT V+}v{$ENDIF}{$IFOPT N-}n{$ENDIF}{$IFOPT N+}?{$ENDIF}",
+        "V N ",
+    ),
+    (
+        "{$S-}{$IFOPT S-}?{$ELSE}s{$ENDIF}",
+        "switches false false false false S ",
+    ),
+    ("{$IFOPT X+}", "BadDirective 0:1:1"),
+    ("{$IFOPT R}", "BadDirective 0:1:1"),
+];
 
 #[test]
 fn asks_for_switches(rt: HostRuntime) {
-    let rows = [
-        (
-            "{$IFOPT R+}?{$ELSE}{$R+}{$ENDIF}{$IFOPT R+}x{$ENDIF}",
-            "switches true false false false X ",
-        ),
-        (
-            "{$IFOPT B-}b{$ENDIF}{$IFOPT F-}f{$ENDIF}{$IFOPT O-}o{$ENDIF}",
-            "B F O ",
-        ),
-        (
-            "{$F+}{$IFOPT f+}x{$ENDIF}",
-            "switches false false true false X ",
-        ),
-        (
-            "{$IFOPT A+}a{$ENDIF}{$IFOPT D+}d{$ENDIF}{$IFOPT E+}e{$ENDIF}",
-            "A D E ",
-        ),
-        (
-            "{$IFOPT I+}i{$ENDIF}{$IFOPT L+}l{$ENDIF}{$IFOPT S+}s{$ENDIF}",
-            "I L S ",
-        ),
-        (
-            "{$IFOPT V+}v{$ENDIF}{$IFOPT N-}n{$ENDIF}{$IFOPT N+}?{$ENDIF}",
-            "V N ",
-        ),
-        (
-            "{$S-}{$IFOPT S-}?{$ELSE}s{$ENDIF}",
-            "switches false false false false S ",
-        ),
-        ("{$IFOPT X+}", "BadDirective 0:1:1"),
-        ("{$IFOPT R}", "BadDirective 0:1:1"),
-    ];
-    for (source, expected) in rows {
-        let same = is_one_read_as(rt.alloc(), source, expected);
-        assert!(&rt; same == Ok(true), "{source}");
-    }
+    let misread = misread(rt.alloc(), OPTIONS);
+    assert!(&rt; misread.is_ok_and(|sources| sources.is_empty()));
 }
 
 #[test]
