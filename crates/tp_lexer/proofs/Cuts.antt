@@ -1,5 +1,5 @@
 -- A text is cut in one way: what is taken at its front stands in the grammar, and nothing longer does.
-use Rattle.std.proofs.Common.{◌≡◌, ◌⊎◌, inl, inr, ℕ, zero, suc, ◌+◌, ◌<◌, ◌≤◌, Bool, true, false, cond, not, ◌&&◌, ◌||◌, eqb, ltb, List, [], ◌∷◌, ◌++◌, length, take, drop, get_or, IsTrue, refl, ap, sym, ◌∙◌, subst, arith, length-append, length-take-le, take-append-drop}
+use Rattle.std.proofs.Common.{◌≡◌, ◌⊎◌, inl, inr, ℕ, ◌+◌, ◌<◌, ◌≤◌, Bool, true, false, cond, not, ◌||◌, eqb, ltb, List, [], ◌∷◌, ◌++◌, length, take, drop, refl, ap, sym, ◌∙◌, subst, arith, length-append, length-take-le, take-append-drop}
 use Rattle.std.specs.List.{prefix_len, concat}
 use Rattle.std.specs.Char.{is_ascii_digit, is_ascii_hexdigit}
 use Rattle.std.specs.Prelude.{is_some}
@@ -8,7 +8,7 @@ use Rattle.tp_lexer.specs.Characters.{is_letter, is_word_byte, is_blank}
 use Rattle.tp_lexer.specs.Shapes.{extent, brace_extent, star_extent, star_len, comment_extent, number_extent, constant_from}
 use Rattle.tp_lexer.specs.Pieces.{shape_at, passed_at, symbol_extent, opens_star}
 use Rattle.tp_lexer.specs.Symbols.{symbol_of}
-use Rattle.tp_lexer.specs.Grammar.{IsQuoted, IsCode, IsConstant, IsOpenConstant, IsComment, IsOpenComment, IsRead, IsSkipped, HasShape, IsLongest, Takes}
+use Rattle.tp_lexer.specs.Grammar.{IsQuoted, IsCode, IsComment, IsOpenComment, IsRead, IsSkipped, HasShape, IsLongest, Takes}
 use Rattle.tp_lexer.specs.declared.shape.Shape.{Shape}
 use Rattle.tp_lexer.specs.declared.shape.Shape.TheVariants as s
 use Rattle.tp_lexer.specs.declared.shape.Extent.{Extent}

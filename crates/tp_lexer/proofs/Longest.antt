@@ -1,22 +1,17 @@
 -- No longer front of a text stands in the grammar than what is taken.
-use Rattle.std.proofs.Common.{◌≡◌, ◌⊎◌, inl, inr, ℕ, zero, suc, ◌+◌, ◌-◌, ◌<◌, ◌≤◌, Bool, true, false, cond, not, ◌&&◌, ◌||◌, eqb, ltb, leb, List, [], ◌∷◌, ◌++◌, length, take, drop, Option, Some, None, IsTrue, refl, ap, sym, ◌∙◌, subst, arith, append_assoc, length-append, append-nil, get_or}
-use Rattle.std.specs.List.{prefix_len, list_all, concat}
-use Rattle.std.specs.Option.{option_map_or}
+use Rattle.std.proofs.Common.{◌≡◌, ◌⊎◌, inl, inr, ℕ, ◌+◌, ◌<◌, ◌≤◌, Bool, true, false, cond, ◌&&◌, ◌||◌, eqb, ltb, List, [], ◌∷◌, ◌++◌, length, drop, refl, ap, sym, ◌∙◌, subst, arith, append_assoc, length-append, append-nil, get_or}
+use Rattle.std.specs.List.{prefix_len, list_all}
 use Rattle.std.specs.Char.{is_ascii_digit, is_ascii_hexdigit}
-use Rattle.std.specs.Prelude.{is_some, nat_eq}
 use Rattle.std.proofs.Math.Nat.{eq-or-lt_of_le}
 use Rattle.std.proofs.lemmas.Bool.Decides.{nat_tests}
 use Rattle.tp_lexer.specs.Characters.{is_letter, is_word_byte, is_blank}
-use Rattle.tp_lexer.specs.Shapes.{extent, star_len, brace_extent, star_extent, number_extent, comment_extent, constant_of, constant_from, next_part, opens, fraction_len, sign_len, exponent_len}
-use Rattle.tp_lexer.specs.Pieces.{shape_at, passed_at, symbol_extent, opens_star}
-use Rattle.tp_lexer.specs.Symbols.{symbol_of, spellings}
-use Rattle.tp_lexer.specs.Grammar.{IsBlank, IsWord, AreDigits, IsFraction, is_sign, IsExponent, IsReal, IsHexadecimal, is_quotable, IsQuoted, IsCode, AreParts, IsConstant, IsOpenConstant, has_no_brace, HasNoStar, IsComment, IsOpenComment, IsRead, IsSkipped, HasShape, IsLongest, Takes}
+use Rattle.tp_lexer.specs.Shapes.{extent, number_extent, fraction_len, sign_len, exponent_len}
+use Rattle.tp_lexer.specs.Pieces.{shape_at}
+use Rattle.tp_lexer.specs.Grammar.{IsBlank, IsWord, AreDigits, IsFraction, is_sign, IsExponent, IsReal, IsHexadecimal}
 use Rattle.tp_lexer.specs.declared.shape.Shape.{Shape}
 use Rattle.tp_lexer.specs.declared.shape.Shape.TheVariants as s
 use Rattle.tp_lexer.specs.declared.shape.Extent.{Extent}
-use Rattle.tp_lexer.specs.declared.constant.Part.{Part}
-use Rattle.tp_lexer.specs.declared.constant.Part.TheVariants as p
-use Rattle.tp_lexer.proofs.Prefixes.{and_left, and_right, prefix_ge, prefix_is, drop_front}
+use Rattle.tp_lexer.proofs.Prefixes.{and_left, prefix_ge, prefix_is, drop_front}
 
 -- a front of this shape and length is shorter than what is taken, or has its shape and length
 abbrev pub IsBest : Shape → ℕ → Extent → Type 0

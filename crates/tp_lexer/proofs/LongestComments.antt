@@ -1,5 +1,5 @@
 -- No longer front of a text is a comment or a symbol than the one that is taken.
-use Rattle.std.proofs.Common.{◌≡◌, ◌⊎◌, inl, inr, ℕ, zero, suc, ◌+◌, ◌<◌, ◌≤◌, Bool, true, false, cond, not, ◌&&◌, ◌||◌, eqb, ltb, List, [], ◌∷◌, ◌++◌, length, take, get_or, Option, Some, None, IsTrue, refl, ap, sym, ◌∙◌, subst, arith, append_assoc, length-append}
+use Rattle.std.proofs.Common.{◌≡◌, inl, inr, ℕ, ◌+◌, ◌<◌, ◌≤◌, Bool, true, false, cond, not, ◌&&◌, ◌||◌, eqb, ltb, List, [], ◌∷◌, ◌++◌, length, take, get_or, Option, Some, refl, ap, sym, ◌∙◌, subst, arith, append_assoc, length-append}
 use Rattle.std.specs.List.{prefix_len, list_all}
 use Rattle.std.specs.Map.{lookup}
 use Rattle.std.specs.Prelude.{is_some, nat_eq}
@@ -7,12 +7,11 @@ use Rattle.std.specs.Char.{is_ascii_digit}
 use Rattle.std.specs.Cmp.Lexicographic.{pointwise, same_text}
 use Rattle.std.proofs.lemmas.Bool.Decides.{nat_tests}
 use Rattle.tp_lexer.specs.Characters.{is_letter, is_blank}
-use Rattle.tp_lexer.specs.Shapes.{extent, star_len, brace_extent, star_extent, comment_extent}
+use Rattle.tp_lexer.specs.Shapes.{extent, star_len, brace_extent, star_extent}
 use Rattle.tp_lexer.specs.Pieces.{shape_at, passed_at, symbol_extent, opens_star}
 use Rattle.tp_lexer.specs.Symbols.{symbol_of, spellings}
 use Rattle.tp_lexer.specs.Grammar.{has_no_brace, HasNoStar, IsComment, IsOpenComment}
 use Rattle.tp_lexer.specs.declared.symbol.Symbol.{Symbol}
-use Rattle.tp_lexer.specs.declared.shape.Shape.{Shape}
 use Rattle.tp_lexer.specs.declared.shape.Shape.TheVariants as s
 use Rattle.tp_lexer.specs.declared.shape.Extent.{Extent}
 use Rattle.tp_lexer.proofs.Prefixes.{and_left, and_right, prefix_ge, prefix_is}

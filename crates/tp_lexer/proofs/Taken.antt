@@ -1,18 +1,15 @@
 -- What is taken at the front of a text stands in the grammar.
-use Rattle.std.proofs.Common.{◌≡◌, ◌⊎◌, inl, inr, ℕ, zero, suc, ◌+◌, ◌<◌, ◌≤◌, Bool, true, false, cond, not, ◌&&◌, ◌||◌, eqb, ltb, List, [], ◌∷◌, ◌++◌, length, take, drop, get_or, Option, Some, None, IsTrue, refl, ap, sym, ◌∙◌, subst, arith, append_assoc, length-append, append-nil}
-use Rattle.std.specs.List.{prefix_len, list_all, concat}
-use Rattle.std.specs.Option.{option_map_or, option_and_then}
+use Rattle.std.proofs.Common.{◌≡◌, ◌⊎◌, inl, inr, ℕ, ◌+◌, ◌<◌, Bool, true, false, cond, ◌&&◌, ◌||◌, eqb, ltb, List, [], ◌∷◌, ◌++◌, length, take, drop, get_or, refl, ap, sym, ◌∙◌, arith, length-append}
+use Rattle.std.specs.List.{prefix_len}
 use Rattle.std.specs.Char.{is_ascii_digit, is_ascii_hexdigit}
-use Rattle.std.specs.Prelude.{is_some}
-use Rattle.std.proofs.Math.Seq.{take-length}
 use Rattle.std.proofs.lemmas.Bool.Decides.{nat_tests}
-use Rattle.tp_lexer.specs.Characters.{is_letter, is_word_byte, is_blank}
-use Rattle.tp_lexer.specs.Shapes.{extent, star_len, brace_extent, star_extent, number_extent, comment_extent, fraction_len, sign_len, exponent_len}
-use Rattle.tp_lexer.specs.Grammar.{AreDigits, IsFraction, is_sign, IsExponent, IsReal, IsHexadecimal, IsWord, IsBlank, has_no_brace, HasNoStar, IsComment, IsOpenComment, IsRead}
+use Rattle.tp_lexer.specs.Characters.{is_letter, is_word_byte}
+use Rattle.tp_lexer.specs.Shapes.{extent, number_extent, fraction_len, sign_len, exponent_len}
+use Rattle.tp_lexer.specs.Grammar.{AreDigits, IsFraction, is_sign, IsExponent, IsRead}
 use Rattle.tp_lexer.specs.declared.shape.Shape.{Shape}
 use Rattle.tp_lexer.specs.declared.shape.Shape.TheVariants as s
 use Rattle.tp_lexer.specs.declared.shape.Extent.{Extent}
-use Rattle.tp_lexer.proofs.Prefixes.{and_left, and_right, take_more, drop_more, prefix_passes, prefix_is, drop_front}
+use Rattle.tp_lexer.proofs.Prefixes.{and_left, and_right, take_more, drop_more, prefix_passes}
 use Rattle.tp_lexer.proofs.Leads.{take_take}
 
 -- a spelling of this shape stands in the grammar; one of the shape Other is a byte

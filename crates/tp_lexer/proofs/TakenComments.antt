@@ -1,6 +1,6 @@
 -- A comment or a symbol that is taken at the front of a text stands in the grammar.
-use Rattle.std.proofs.Common.{◌≡◌, ◌⊎◌, inl, inr, ℕ, zero, suc, ◌+◌, ◌<◌, ◌≤◌, Bool, true, false, cond, not, ◌&&◌, eqb, ltb, List, [], ◌∷◌, ◌++◌, length, take, get_or, Option, Some, None, IsTrue, refl, ap, sym, ◌∙◌, subst, arith, append_assoc, append-nil, length-append}
-use Rattle.std.specs.List.{prefix_len, list_all}
+use Rattle.std.proofs.Common.{◌≡◌, ◌⊎◌, inl, inr, ℕ, ◌+◌, ◌<◌, ◌≤◌, Bool, true, false, cond, not, ◌&&◌, eqb, ltb, List, [], ◌∷◌, ◌++◌, length, take, get_or, refl, ap, sym, ◌∙◌, subst, arith, append_assoc, append-nil, length-append}
+use Rattle.std.specs.List.{prefix_len}
 use Rattle.std.specs.Prelude.{is_some}
 use Rattle.std.proofs.Math.Seq.{take-length}
 use Rattle.std.proofs.lemmas.List.{take-append-le}
@@ -10,9 +10,8 @@ use Rattle.tp_lexer.specs.Pieces.{symbol_extent}
 use Rattle.tp_lexer.specs.Symbols.{symbol_of}
 use Rattle.tp_lexer.specs.Grammar.{has_no_brace, HasNoStar, IsComment, IsOpenComment}
 use Rattle.tp_lexer.specs.declared.shape.Shape.TheVariants as s
-use Rattle.tp_lexer.specs.declared.shape.Extent.{Extent}
 use Rattle.tp_lexer.proofs.Prefixes.{and_left, and_right}
-use Rattle.tp_lexer.proofs.Taken.{IsFront, IsSound, sound_by}
+use Rattle.tp_lexer.proofs.Taken.{IsSound, sound_by}
 
 -- a text with no closer, or its front up to the first one
 abbrev Split : (List ℕ → Type 0) → List ℕ → List ℕ → ℕ → Type 0

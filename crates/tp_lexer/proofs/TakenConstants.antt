@@ -1,16 +1,15 @@
 -- A string constant that is taken at the front of a text stands in the grammar.
-use Rattle.std.proofs.Common.{◌≡◌, ◌⊎◌, inl, inr, ℕ, zero, suc, ◌+◌, ◌-◌, ◌<◌, ◌≤◌, Bool, true, false, cond, not, ◌&&◌, ◌||◌, eqb, List, [], ◌∷◌, ◌++◌, length, take, Option, Some, None, IsTrue, refl, ap, sym, ◌∙◌, subst, arith, append_assoc, length-take-le}
+use Rattle.std.proofs.Common.{◌≡◌, ◌⊎◌, inl, inr, ℕ, ◌+◌, ◌<◌, ◌≤◌, Bool, true, false, cond, not, ◌&&◌, ◌||◌, eqb, List, [], ◌∷◌, ◌++◌, length, take, Option, Some, None, refl, ap, sym, ◌∙◌, subst, arith, append_assoc, length-take-le}
 use Rattle.std.specs.List.{list_all, concat}
 use Rattle.std.specs.Option.{option_map_or, option_and_then}
 use Rattle.std.specs.Char.{is_ascii_digit, is_ascii_hexdigit}
 use Rattle.std.proofs.lemmas.Bool.Decides.{nat_tests}
-use Rattle.tp_lexer.specs.Shapes.{extent, constant_of, constant_from, next_part, opens}
-use Rattle.tp_lexer.specs.Grammar.{is_quotable, IsQuoted, IsCode, AreParts, IsConstant, IsOpenConstant}
-use Rattle.tp_lexer.specs.declared.shape.Shape.TheVariants as s
+use Rattle.tp_lexer.specs.Shapes.{constant_of, constant_from, next_part, opens}
+use Rattle.tp_lexer.specs.Grammar.{is_quotable, IsQuoted, IsCode, AreParts, IsConstant}
 use Rattle.tp_lexer.specs.declared.shape.Extent.{Extent}
 use Rattle.tp_lexer.specs.declared.constant.Part.{Part}
 use Rattle.tp_lexer.specs.declared.constant.Part.TheVariants as p
-use Rattle.tp_lexer.proofs.Positive.{constant_from-ge, constant_of-length}
+use Rattle.tp_lexer.proofs.Positive.{constant_of-length}
 use Rattle.tp_lexer.proofs.Prefixes.{take_more}
 use Rattle.tp_lexer.proofs.LongestConstants.{run}
 use Rattle.tp_lexer.proofs.Taken.{IsFront, IsSound}

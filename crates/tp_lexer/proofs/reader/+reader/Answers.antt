@@ -1,4 +1,4 @@
-use Rattle.std.proofs.Common.{◌≡◌, ◌++◌, ◌<◌, ◌≤◌, Err, length, ◌∙◌, ap, subst, take, drop, List, ℕ, arith, append_assoc}
+use Rattle.std.proofs.Common.{◌++◌, ◌<◌, ◌≤◌, Err, length, ◌∙◌, ap, subst, take, drop, List, ℕ, arith, append_assoc}
 use Rattle.tp_lexer.specs.declared.token.Token.{Token}
 use Rattle.tp_lexer.specs.declared.condition.Condition.{Condition}
 use Rattle.tp_lexer.specs.Grammar.{Takes}
