@@ -13,10 +13,10 @@ use type_layout::{Bytes, FileName};
 fn ordinary(alloc: Global, length: usize) -> Result<Vec<u8>, AllocError> {
     let source = ORDINARY.as_bytes();
     let mut bytes = Vec::new(alloc);
-    while !source.is_empty() && bytes.len() <= length && source.len() <= length - bytes.len() {
+    for _ in 0..length.checked_div(source.len()).unwrap_or(0) {
         bytes.extend_from_slice(source)?;
     }
-    while bytes.len() < length {
+    for _ in bytes.len()..length {
         bytes.push(b' ')?;
     }
     Ok(bytes)
