@@ -1,5 +1,7 @@
 -- What reading a source with all its includes shows.
-use Rattle.std.proofs.Common.{◌≡◌, ℕ, List, [], ◌++◌, Ok, Err, sym, refl, ap, ◌∙◌, subst}
+use Rattle.std.proofs.Common.{◌≡◌, ℕ, Bool, false, nat_eq, List, [], ◌++◌, Ok, Err, sym, refl, ap, ◌∙◌, subst}
+use Rattle.std.specs.List.{list_any}
+use Rattle.std.specs.Cmp.Lexicographic.{pointwise}
 use Rattle.tp_lexer.specs.declared.token.Text.{Text}
 use Rattle.tp_lexer.specs.declared.token.Token.{Token}
 use Rattle.tp_lexer.specs.declared.token.LexError.{LexError}
@@ -10,6 +12,13 @@ use Rattle.tp_lexer.specs.Tokens.{Outcome, Reads, Tokens, Breaks, first_settings
 use Rattle.tp_lexer.specs.Acting.{settings_of, Unless, Adds}
 use Rattle.tp_lexer.proofs.Including.{unless_then}
 use Rattle.tp_lexer.proofs.TokenLaws.{tokens_or_break, breaks_once}
+
+abbrev settings_with : (List ℕ → Bool) → Settings
+settings_with names = record { switches = record { r = false; b = false; f = false; o = false }; defined = names }
+
+pub same_settings : (defined : List (List ℕ)) (names : List ℕ → Bool) → names ≡ (λ name. list_any (λ other. pointwise nat_eq other name) defined) →
+    settings_with names ≡ first_settings defined
+same_settings defined names is = ap settings_with is
 
 module _ (texts : List Text) (main : ℕ) (defined : List (List ℕ)) (old new : State) (same : settings_of old ≡ first_settings defined) where
   pub list_found : (list : List Token) → old.tokens.items ≡ [] → Adds (Reads 8 texts main (settings_of old)) old new (Ok tt) → list ≡ new.tokens.items → Tokens texts main defined list

@@ -1,5 +1,5 @@
 -- From the front of a text to a position in it.
-use Rattle.std.proofs.Common.{◌≡◌, ℕ, ◌+◌, ◌≤◌, List, [], ◌∷◌, ◌++◌, length, take, drop, Ok, Err, sym, refl, ap, ◌∙◌, subst, arith, append_assoc, length-drop, length-take-le, take-append-drop, append-nil, drop-drop}
+use Rattle.std.proofs.Common.{◌≡◌, ℕ, ◌+◌, ◌≤◌, List, [], ◌∷◌, ◌++◌, length, take, drop, Ok, Err, sym, refl, ap, ◌∙◌, subst, arith, append_assoc, take-append-drop, append-nil, drop-drop}
 use Rattle.std.specs.List.{concat}
 use Rattle.std.proofs.lemmas.List.{take-take, drop-take}
 use Rattle.std.proofs.Math.ListN.{drop_of_length-le}
@@ -7,8 +7,10 @@ use Rattle.type_layout.specs.declared.texts.Place.{Place}
 use Rattle.tp_lexer.specs.declared.token.Token.{Token}
 use Rattle.tp_lexer.specs.declared.token.LexError.{LexError}
 use Rattle.tp_lexer.specs.Places.{place_after}
-use Rattle.tp_lexer.specs.Effects.{Settings, Context, Effect, goes, includes, fails}
-use Rattle.tp_lexer.specs.Tokens.{Outcome, preceded, ended, Follows, Spells, extent_at, effect_at}
+use Rattle.tp_lexer.specs.Effects.{Settings, Context, Effect, goes, includes, fails, is_read}
+use Rattle.tp_lexer.specs.Grammar.{Takes}
+use Rattle.tp_lexer.specs.declared.shape.Shape.{Shape}
+use Rattle.tp_lexer.specs.Tokens.{Outcome, preceded, ended, Follows, Spells, effect_at}
 
 pub preceded-none : (o : Outcome) → preceded [] o ≡ o
 preceded-none (Ok read) = refl
@@ -30,9 +32,9 @@ Leads Includes number bytes now position context emitted =
 
 -- the piece at a position has this effect
 pub record Stands (number : ℕ) (bytes : List ℕ) (position n : ℕ) (context : Context) (effect : Effect) : Type 0 where
-  pub long : n ≡ (extent_at context (drop position bytes)).length
-  pub within : position + n ≤ length bytes
-  pub does : effect_at (place_after number (take position bytes)) context (extent_at context (drop position bytes)) (take n (drop position bytes)) ≡ effect
+  pub shape : Shape
+  pub longest : Takes (is_read context.conditions) shape (take n (drop position bytes)) (drop n (drop position bytes))
+  pub does : effect_at (place_after number (take position bytes)) context shape (take n (drop position bytes)) ≡ effect
 
 drop_drop : (m n : ℕ) (xs : List ℕ) → drop n (drop m xs) ≡ drop (m + n) xs
 drop_drop m n xs = drop-drop n m xs
@@ -54,14 +56,13 @@ module _ (Includes : Place → List ℕ → Settings → Outcome → Type 0) (nu
       let place = place_after number (take position bytes) in
       let rest = drop position bytes in
       let s = take n rest in
-      let fits : n ≤ length rest = omega (arith, length-drop position bytes, stands.within) in
-      let whole : s ++ concat spellings ≡ rest = ap (λ (t : List ℕ). s ++ t) (joined ∙ sym (drop_drop position n bytes)) ∙ take-append-drop n rest in
-      let long : length s ≡ (extent_at context (s ++ concat spellings)).length = length-take-le n rest fits ∙ stands.long ∙ ap (λ (t : List ℕ). (extent_at context t).length) (sym whole) in
+      let behind : drop n rest ≡ concat spellings = drop_drop position n bytes ∙ sym joined in
+      let whole : s ++ concat spellings ≡ rest = ap (λ (t : List ℕ). s ++ t) (sym behind) ∙ take-append-drop n rest in
+      let longest : Takes (is_read context.conditions) stands.shape s (concat spellings) = subst (Takes (is_read context.conditions) stands.shape s) behind stands.longest in
       let F : List ℕ → Effect → Type 0 = λ before e. Follows Includes (λ next x. Spells Includes number before next spellings x) place context e o in
-      let does : effect_at place context (extent_at context (s ++ concat spellings)) s ≡ effect = ap (λ (t : List ℕ). effect_at place context (extent_at context t) s) whole ∙ stands.does in
       let here : F (take position bytes ++ s) effect = subst (λ (before : List ℕ). F before effect) (sym (take_take position n bytes)) follows in
-      let there : F (take position bytes ++ s) (effect_at place context (extent_at context (s ++ concat spellings)) s) = subst (λ (e : Effect). F (take position bytes ++ s) e) (sym does) here in
-      leads (s ∷ spellings) o whole (long, there)
+      let there : F (take position bytes ++ s) (effect_at place context stands.shape s) = subst (λ (e : Effect). F (take position bytes ++ s) e) (sym stands.does) here in
+      leads (s ∷ spellings) o whole (stands.shape, longest, there)
 
   more_tokens : (emitted tokens : List Token) (o : Outcome) → Whole Includes number bytes now (preceded emitted (preceded tokens o)) → Whole Includes number bytes now (preceded (emitted ++ tokens) o)
   more_tokens emitted tokens o whole = subst (Whole Includes number bytes now) (preceded-preceded emitted tokens o) whole

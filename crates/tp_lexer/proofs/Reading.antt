@@ -1,5 +1,5 @@
 -- One turn of reading a text, and its end.
-use Rattle.std.proofs.Common.{◌≡◌, ℕ, ◌+◌, ◌<◌, ◌≤◌, ◌^◌, inl, inr, List, ◌++◌, length, take, drop, fold, Option, Some, None, Result, Ok, Err, MatchResult, sym, ap, ◌∙◌, subst, arith, length-drop, length-take-le, append-nil}
+use Rattle.std.proofs.Common.{◌≡◌, ℕ, ◌+◌, ◌<◌, ◌≤◌, inl, inr, List, ◌++◌, length, take, drop, fold, Option, Some, None, Result, Ok, Err, MatchResult, sym, ap, ◌∙◌, subst, arith, length-drop, length-take-le, append-nil}
 use Rattle.type_layout.specs.declared.texts.Place.{Place}
 use Rattle.tp_lexer.specs.declared.token.Token.{Token}
 use Rattle.tp_lexer.specs.declared.token.LexError.{LexError}
@@ -7,17 +7,19 @@ use Rattle.tp_lexer.specs.declared.condition.Condition.{Condition}
 use Rattle.tp_lexer.specs.declared.shape.Extent.{Extent}
 use Rattle.tp_lexer.specs.declared.state.State.{State}
 use Rattle.tp_lexer.specs.Places.{place_after, moved}
-use Rattle.tp_lexer.specs.Effects.{Settings, Context, innermost}
-use Rattle.tp_lexer.specs.Tokens.{Outcome, preceded, ended, ended_by, extent_at, extent_at_by, effect_at}
+use Rattle.tp_lexer.specs.Grammar.{Takes}
+use Rattle.tp_lexer.specs.Effects.{Settings, Context, innermost, is_read}
+use Rattle.tp_lexer.specs.Tokens.{Outcome, preceded, ended, ended_by, effect_at}
 use Rattle.tp_lexer.specs.Acting.{settings_of, context_of, Unless, Adds, Gains, Stops, IsOpen}
 use Rattle.tp_lexer.proofs.Leads.{Whole, Leads, Stands, take_take, leads_goes, leads_included, fails_here, fails_included}
-use Rattle.tp_lexer.proofs.PlaceLaws.{place_after-append, line_after-le, column_after-le}
+use Rattle.tp_lexer.proofs.PlaceLaws.{place_after-append}
+use Rattle.tp_lexer.proofs.Cuts.{takes_some}
 
 -- what the code takes from a position
 pub record Taken (number : ℕ) (bytes : List ℕ) (position : ℕ) (context : Context) (rest spelling : List ℕ) (e : Extent) (place : Place) : Type 0 where
   pub below : position ≤ length bytes
   pub rest_is : rest ≡ drop position bytes
-  pub extent_is : e ≡ extent_at_by context.conditions rest
+  pub longest : Takes (is_read context.conditions) e.shape (take e.length rest) (drop e.length rest)
   pub within : e.length ≤ length rest
   pub spelling_is : spelling ≡ take e.length rest
   pub place_is : place ≡ place_after number (take position bytes)
@@ -32,17 +34,13 @@ module _ {number : ℕ} {bytes : List ℕ} {position : ℕ} {context : Context} 
   spelling_there : spelling ≡ take e.length (drop position bytes)
   spelling_there = taken.spelling_is ∙ ap (λ (t : List ℕ). take e.length t) taken.rest_is
 
-  pub stands : Stands number bytes position e.length context (effect_at place context e spelling)
+  pub stands : Stands number bytes position e.length context (effect_at place context e.shape spelling)
   stands =
-      let there = place_after number (take position bytes) in
-      let whole = extent_at context (drop position bytes) in
-      let same : e ≡ whole = taken.extent_is ∙ ap (λ (t : List ℕ). extent_at_by context.conditions t) taken.rest_is in
       record {
-        long = ap (λ (x : Extent). x.length) same;
-        within = taken_within;
-        does = ap (λ (p : Place). effect_at p context whole (take e.length (drop position bytes))) (sym taken.place_is)
-            ∙ ap (λ (x : Extent). effect_at place context x (take e.length (drop position bytes))) (sym same)
-            ∙ ap (λ (t : List ℕ). effect_at place context e t) (sym spelling_there);
+        shape = e.shape;
+        longest = subst (λ (t : List ℕ). Takes (is_read context.conditions) e.shape (take e.length t) (drop e.length t)) taken.rest_is taken.longest;
+        does = ap (λ (p : Place). effect_at p context e.shape (take e.length (drop position bytes))) (sym taken.place_is)
+            ∙ ap (λ (t : List ℕ). effect_at place context e.shape t) (sym spelling_there);
       }
 
   pub moved_on : (after : Place) → after ≡ fold moved place spelling → after ≡ place_after number (take (position + e.length) bytes)
@@ -51,22 +49,13 @@ module _ {number : ℕ} {bytes : List ℕ} {position : ℕ} {context : Context} 
       ∙ ap (λ (t : List ℕ). place_after number (take position bytes ++ t)) spelling_there
       ∙ ap (place_after number) (take_take position e.length bytes)
 
-  pub line_fits : length bytes < 2 ^ 31 → place.line + length spelling < 2 ^ 32
-  line_fits short =
-      let line = ap (λ (p : Place). p.line) taken.place_is in
-      let bound = line_after-le (take position bytes) in
-      let front = length-take-le position bytes taken.below in
-      omega (arith, taken_length, taken_within, line, bound, front, short)
-
-  pub column_fits : length bytes < 2 ^ 31 → place.column + length spelling < 2 ^ 32
-  column_fits short =
-      let column = ap (λ (p : Place). p.column) taken.place_is in
-      let bound = column_after-le (take position bytes) in
-      let front = length-take-le position bytes taken.below in
-      omega (arith, taken_length, taken_within, column, bound, front, short)
+  pub taken_some : 0 < e.length
+  taken_some =
+      let some = takes_some (is_read context.conditions) e.shape (take e.length rest) (drop e.length rest) taken.longest in
+      omega (arith, length-take-le e.length rest taken.within)
 
   module _ (Includes : Place → List ℕ → Settings → Outcome → Type 0) (now : Settings) (emitted : List Token) (leads : Leads Includes number bytes now position context emitted) where
-    pub leads_on : (new : State) (after : List Condition) (tokens : List Token) → Gains Includes place context.settings (effect_at place context e spelling) new context.conditions after tokens → Leads Includes number bytes now (position + e.length) (context_of new after) (emitted ++ tokens)
+    pub leads_on : (new : State) (after : List Condition) (tokens : List Token) → Gains Includes place context.settings (effect_at place context e.shape spelling) new context.conditions after tokens → Leads Includes number bytes now (position + e.length) (context_of new after) (emitted ++ tokens)
     leads_on new after tokens (inl goes_on) =
         leads_goes Includes number bytes now position e.length context emitted tokens (context_of new after) (subst (Stands number bytes position e.length context) goes_on stands) leads
     leads_on new after tokens (inr found) =
@@ -76,7 +65,7 @@ module _ {number : ℕ} {bytes : List ℕ} {position : ℕ} {context : Context} 
         let on = leads_included Includes number bytes now position e.length context emitted tokens name (settings_of new) (subst (Stands number bytes position e.length context) found.1 stands) there leads in
         subst (λ (conditions : List Condition). Leads Includes number bytes now (position + e.length) (context_of new conditions) (emitted ++ tokens)) (sym found.3) on
 
-    pub stops_whole : (error : LexError) → Stops Includes place context.settings (effect_at place context e spelling) error → Whole Includes number bytes now (Err error)
+    pub stops_whole : (error : LexError) → Stops Includes place context.settings (effect_at place context e.shape spelling) error → Whole Includes number bytes now (Err error)
     stops_whole error (inl breaks) =
         fails_here Includes number bytes now position e.length context emitted error (subst (Stands number bytes position e.length context) breaks stands) leads
     stops_whole error (inr found) =

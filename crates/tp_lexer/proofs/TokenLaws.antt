@@ -1,5 +1,5 @@
 -- A text comes to one outcome.
-use Rattle.std.proofs.Common.{◌≡◌, ℕ, zero, suc, ◌+◌, Bool, true, false, cond, List, [], ◌∷◌, ◌++◌, length, Option, Some, None, Ok, Err, MatchOption, sym, refl, ap, ◌∙◌, subst, arith, length-append}
+use Rattle.std.proofs.Common.{◌≡◌, ℕ, zero, suc, ◌+◌, ◌<◌, Bool, List, [], ◌∷◌, ◌++◌, length, Option, Some, None, Ok, Err, MatchOption, sym, refl, ap, ◌∙◌, subst, arith, length-append}
 use Rattle.std.specs.List.{concat}
 use Rattle.std.specs.Prelude.{position, nat_eq}
 use Rattle.std.specs.Cmp.Lexicographic.{pointwise}
@@ -8,10 +8,12 @@ use Rattle.tp_lexer.specs.declared.token.Text.{Text}
 use Rattle.tp_lexer.specs.declared.token.Token.{Token}
 use Rattle.tp_lexer.specs.declared.token.LexError.{LexError}
 use Rattle.tp_lexer.specs.declared.token.LexError.TheVariants as e
-use Rattle.tp_lexer.specs.Pieces.{shape_at, passed_at}
+use Rattle.tp_lexer.specs.Grammar.{Takes}
+use Rattle.tp_lexer.specs.declared.shape.Shape.{Shape}
 use Rattle.tp_lexer.specs.Places.{place_after}
 use Rattle.tp_lexer.specs.Effects.{Settings, Context, Effect, goes, includes, fails, is_read}
-use Rattle.tp_lexer.specs.Tokens.{Outcome, preceded, Continues, Follows, Spells, IncludesNone, IncludesBy, Reads, Tokens, Breaks, extent_at, effect_at, first_settings}
+use Rattle.tp_lexer.specs.Tokens.{Outcome, preceded, Continues, Follows, Spells, IncludesNone, IncludesBy, Reads, Tokens, Breaks, effect_at, first_settings}
+use Rattle.tp_lexer.proofs.Cuts.{takes_some, takes_once}
 
 module _ (Includes : Place → List ℕ → Settings → Outcome → Type 0) (once : (place : Place) (name : List ℕ) (now : Settings) (a b : Outcome) → Includes place name now a → Includes place name now b → a ≡ b) where
   continues_once : (R S : Context → Outcome → Type 0) → ((c : Context) (a b : Outcome) → R c a → S c b → a ≡ b) → (context : Context) (included a b : Outcome) → Continues R context included a → Continues S context included b → a ≡ b
@@ -25,13 +27,9 @@ module _ (Includes : Place → List ℕ → Settings → Outcome → Type 0) (on
       continues_once R S same context left.0 a b left.2 (subst (λ (i : Outcome). Continues S context i b) (sym e) right.2)
   follows_once R S same place context (fails error) a b left right = left ∙ sym right
 
-  extent_of_none : (is_live : Bool) → (cond is_live (shape_at []) (passed_at [])).length ≡ 1
-  extent_of_none true = refl
-  extent_of_none false = refl
-
-  nothing_stands : (context : Context) (spelling rest : List ℕ) → [] ≡ spelling ++ rest → length spelling ≡ (extent_at context (spelling ++ rest)).length → ⊥
-  nothing_stands context spelling rest e long =
-      let one : length spelling ≡ 1 = long ∙ ap (λ (bytes : List ℕ). (extent_at context bytes).length) (sym e) ∙ extent_of_none (is_read context.conditions) in
+  nothing_stands : (is_live : Bool) (shape : Shape) (spelling rest : List ℕ) → [] ≡ spelling ++ rest → Takes is_live shape spelling rest → ⊥
+  nothing_stands is_live shape spelling rest e takes =
+      let some : 0 < length spelling = takes_some is_live shape spelling rest takes in
       let none : 0 ≡ length spelling + length rest = ap length e ∙ length-append spelling rest in
       omega arith
 
@@ -49,17 +47,16 @@ module _ (Includes : Place → List ℕ → Settings → Outcome → Type 0) (on
 
   pub spells_once : (number : ℕ) (before : List ℕ) (context : Context) (left right : List (List ℕ)) (a b : Outcome) → concat left ≡ concat right → Spells Includes number before context left a → Spells Includes number before context right b → a ≡ b
   spells_once number before context [] [] a b e l r = l ∙ sym r
-  spells_once number before context [] (t ∷ more) a b e l r = absurd (nothing_stands context t (concat more) e r.0)
-  spells_once number before context (s ∷ more) [] a b e l r = absurd (nothing_stands context s (concat more) (sym e) l.0)
+  spells_once number before context [] (t ∷ more) a b e l r = absurd (nothing_stands (is_read context.conditions) r.0 t (concat more) e r.1)
+  spells_once number before context (s ∷ more) [] a b e l r = absurd (nothing_stands (is_read context.conditions) l.0 s (concat more) (sym e) l.1)
   spells_once number before context (s ∷ more) (t ∷ others) a b e l r =
       let place = place_after number before in
-      let whole : t ++ concat others ≡ s ++ concat more = sym e in
-      let F : List ℕ → List ℕ → Type 0 = λ spelling bytes. Follows Includes (λ next rest. Spells Includes number (before ++ spelling) next others rest) place context (effect_at place context (extent_at context bytes) spelling) b in
-      let long : length s ≡ length t = l.0 ∙ ap (λ (bytes : List ℕ). (extent_at context bytes).length) e ∙ sym r.0 in
-      let fronts = front_once s t (concat more) (concat others) e long in
-      let there : F t (s ++ concat more) = subst (λ (bytes : List ℕ). F t bytes) whole r.1 in
-      let here : F s (s ++ concat more) = subst (λ (spelling : List ℕ). F spelling (s ++ concat more)) (sym fronts.0) there in
-      follows_once _ _ (λ c x y p q. spells_once number (before ++ s) c more others x y fronts.1 p q) place context _ a b l.1 here
+      let F : List ℕ → Shape → Type 0 = λ spelling shape. Follows Includes (λ next rest. Spells Includes number (before ++ spelling) next others rest) place context (effect_at place context shape spelling) b in
+      let same = takes_once (is_read context.conditions) l.0 r.0 s (concat more) t (concat others) e l.1 r.1 in
+      let fronts = front_once s t (concat more) (concat others) e same.0 in
+      let there : F t l.0 = subst (λ (shape : Shape). F t shape) (sym same.1) r.2 in
+      let here : F s l.0 = subst (λ (spelling : List ℕ). F spelling l.0) (sym fronts.0) there in
+      follows_once _ _ (λ c x y p q. spells_once number (before ++ s) c more others x y fronts.1 p q) place context _ a b l.2 here
 
 includes_by_once : (Includes : ℕ → Settings → Outcome → Type 0) → ((number : ℕ) (now : Settings) (a b : Outcome) → Includes number now a → Includes number now b → a ≡ b) → (place : Place) (name : List ℕ) (now : Settings) (found : Option ℕ) (a b : Outcome) → MatchOption found (a ≡ Err (e.MissingInclude place name)) (λ n. Includes n now a) → MatchOption found (b ≡ Err (e.MissingInclude place name)) (λ n. Includes n now b) → a ≡ b
 includes_by_once Includes once place name now None a b l r = l ∙ sym r

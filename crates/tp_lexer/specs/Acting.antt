@@ -1,16 +1,28 @@
 -- What acting on an effect leaves.
-use Rattle.std.specs.Prelude.{◌≡◌, ◌⊎◌, ℕ, List, ◌++◌, Option, Some, None, Result, Ok, Err}
+use Rattle.std.specs.Prelude.{◌≡◌, ◌⊎◌, ℕ, Bool, nat_eq, position, List, ◌++◌, Option, Some, None, Result, Ok, Err}
+use Rattle.std.specs.HashMap.{HashMap, get}
+use Rattle.std.specs.HashSet.{HashSet, contains}
+use Rattle.std.specs.Cmp.Lexicographic.{pointwise}
 use Rattle.type_layout.specs.declared.texts.Place.{Place}
 use Rattle.tp_lexer.specs.declared.token.LexError.{LexError}
 use Rattle.tp_lexer.specs.declared.token.LexError.TheVariants.{NoMemory, OpenCondition}
+use Rattle.tp_lexer.specs.declared.token.Text.{Text}
 use Rattle.tp_lexer.specs.declared.token.Token.{Token}
 use Rattle.tp_lexer.specs.Tokens.{Outcome}
 use Rattle.tp_lexer.specs.declared.condition.Condition.{Condition}
 use Rattle.tp_lexer.specs.declared.state.State.{State}
 use Rattle.tp_lexer.specs.Effects.{Settings, Context, Effect, goes, includes, fails, given}
 
+-- which names a set has
+abbrev pub has_name : {S : Type 0} → HashSet (List ℕ) S → List ℕ → Bool
+has_name names name = contains (pointwise nat_eq) names name
+
+-- the map has the number of the first text with each name
+abbrev pub AreNumbers : {S : Type 0} → List Text → HashMap (List ℕ) ℕ S → Type 0
+AreNumbers texts numbers = (name : List ℕ) → get (pointwise nat_eq) numbers name ≡ position (λ text. pointwise nat_eq text.name name) texts
+
 abbrev pub settings_of : State → Settings
-settings_of state = record { switches = state.switches; defined = state.defined.items }
+settings_of state = record { switches = state.switches; defined = has_name state.defined }
 
 abbrev pub context_of : State → List Condition → Context
 context_of state conditions = record { settings = settings_of state; conditions = conditions }

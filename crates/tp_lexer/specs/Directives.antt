@@ -1,6 +1,6 @@
 -- What a comment that begins with `$` says.
 use Rattle.std.specs.Prelude.{ℕ, Bool, true, false, not, ◌&&◌, ◌||◌, ◌==◌, nat_lt, nat_le, if◌then◌else◌, List, [], ◌∷◌, ◌++◌, codes, nat_eq, length, map, take, drop, slice_index, Option, Some, None}
-use Rattle.std.specs.List.{prefix_len, before_first, after_first, list_any}
+use Rattle.std.specs.List.{prefix_len, before_first, after_first, list_any, list_all}
 use Rattle.std.specs.Option.{option_and_then, option_map, option_map_or}
 use Rattle.std.specs.Char.{to_ascii_lowercase, to_ascii_uppercase}
 use Rattle.std.specs.Str.{is_utf8}
@@ -91,9 +91,13 @@ sized stack low high = None
 abbrev pub is_comma : ℕ → Bool
 is_comma c = c == 44
 
+-- the word that stands alone between blanks, or nothing
+abbrev pub lone : List ℕ → List ℕ
+lone bytes = if list_all is_blank (after_word (without_blanks bytes)) then argument bytes else []
+
 abbrev pub memory_of : List ℕ → Option Directive
-memory_of bytes = sized (number_of (argument (before_first is_comma bytes)))
-    (number_of (argument (before_first is_comma (after_first is_comma bytes))))
+memory_of bytes = sized (number_of (lone (before_first is_comma bytes)))
+    (number_of (lone (before_first is_comma (after_first is_comma bytes))))
     (number_of (argument (after_first is_comma (after_first is_comma bytes))))
 
 abbrev pub lower_case : List ℕ → List ℕ
@@ -139,9 +143,13 @@ or_bad (Some directive) = p.Directive directive
 abbrev pub switches_piece : Changes → Piece
 switches_piece changes = if changes.left_out then p.Fault f.LeftOut else p.Directive (d.Switches changes)
 
+-- a file that is to be linked: where one is named, the profile leaves that out
+abbrev pub link_piece : List ℕ → Piece
+link_piece name = p.Fault (if nat_lt 0 (length name) then f.LeftOut else f.BadDirective)
+
 abbrev pub keyword_piece : Option Keyword → List ℕ → Piece
 keyword_piece None rest = p.Fault f.BadDirective
-keyword_piece (Some k.Link) rest = p.Fault f.LeftOut
+keyword_piece (Some k.Link) rest = link_piece (argument rest)
 keyword_piece (Some keyword) rest = or_bad (keyed keyword rest)
 
 -- the directive whose text, between `$` and the closer, this is

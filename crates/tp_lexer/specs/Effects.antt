@@ -1,6 +1,6 @@
 -- What holds at a place of a text, and what a piece there does.
-use Rattle.std.specs.Prelude.{ℕ, Bool, true, false, not, List, [], ◌∷◌, ◌++◌, nat_eq, length, take, ◌-◌, slice_set, filter, unwrap_or, Option, Some, None}
-use Rattle.std.specs.List.{list_any, slice_get}
+use Rattle.std.specs.Prelude.{ℕ, Bool, true, false, not, List, [], ◌∷◌, ◌++◌, nat_eq, length, take, ◌-◌, slice_set, unwrap_or, if◌then◌else◌, Option, Some, None}
+use Rattle.std.specs.List.{slice_get}
 use Rattle.std.specs.Option.{option_and_then, option_map}
 use Rattle.std.specs.Cmp.Lexicographic.{pointwise}
 use Rattle.type_layout.specs.declared.texts.Place.{Place}
@@ -29,7 +29,7 @@ use Rattle.tp_lexer.specs.declared.condition.Condition.{Condition}
 -- the switches that hold, and the names that are defined
 pub record Settings : Type 0 where
   pub switches : Switches
-  pub defined : List (List ℕ)
+  pub defined : List ℕ → Bool
 
 -- besides these, the conditions that are open in a text, the innermost last
 pub record Context : Type 0 where
@@ -81,16 +81,13 @@ state_of l.O now = now.o
 state_of l.N now = false
 state_of letter now = true
 
-abbrev pub is_defined : List ℕ → List (List ℕ) → Bool
-is_defined name defined = list_any (pointwise nat_eq name) defined
-
 abbrev pub same : Bool → Bool → Bool
 same true on = on
 same false on = not on
 
 abbrev pub holds : Test → Settings → Bool
-holds (q.Defined name) now = is_defined name now.defined
-holds (q.Undefined name) now = not (is_defined name now.defined)
+holds (q.Defined name) now = now.defined name
+holds (q.Undefined name) now = not (now.defined name)
 holds (q.Switched letter on) now = same (state_of letter now.switches) on
 
 abbrev pub with_settings : Context → Settings → Context
@@ -129,11 +126,12 @@ conditioned place context (Some conditions) = goes [] (with_conditions context c
 abbrev pub with_switches : Settings → Switches → Settings
 with_switches now switches = record { switches = switches; defined = now.defined }
 
-abbrev pub with_defined : Settings → List (List ℕ) → Settings
+abbrev pub with_defined : Settings → (List ℕ → Bool) → Settings
 with_defined now defined = record { switches = now.switches; defined = defined }
 
-abbrev pub undefined : List ℕ → List (List ℕ) → List (List ℕ)
-undefined name defined = filter (λ other. not (pointwise nat_eq name other)) defined
+-- the name is defined from now on, or not; the others stay as they are
+abbrev pub set_defined : List ℕ → Bool → (List ℕ → Bool) → List ℕ → Bool
+set_defined name is_defined defined other = if pointwise nat_eq name other then is_defined else defined other
 
 abbrev pub directed : Place → Context → Directive → Effect
 directed place context (d.Switches changes) =
@@ -143,9 +141,9 @@ directed place context (d.Memory stack max) = goes (token place (t.Memory stack 
 directed place context (d.Overlaid name) = goes (token place (t.Overlaid name) ∷ []) context
 directed place context (d.Include name) = includes name
 directed place context (d.Define name) =
-    goes [] (with_settings context (with_defined context.settings (context.settings.defined ++ name ∷ [])))
+    goes [] (with_settings context (with_defined context.settings (set_defined name true context.settings.defined)))
 directed place context (d.Undefine name) =
-    goes [] (with_settings context (with_defined context.settings (undefined name context.settings.defined)))
+    goes [] (with_settings context (with_defined context.settings (set_defined name false context.settings.defined)))
 directed place context (d.If test) =
     goes [] (with_conditions context (context.conditions ++ asked place (holds test context.settings) ∷ []))
 directed place context d.Else = conditioned place context (turned context.conditions)

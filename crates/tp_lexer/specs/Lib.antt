@@ -3,7 +3,7 @@ pub mod Characters
 pub mod Contents
 pub mod Directives
 pub mod Effects
-pub mod Fronts
+pub mod Grammar
 pub mod Numbers
 pub mod Pieces
 pub mod Places

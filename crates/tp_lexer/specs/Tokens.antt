@@ -1,6 +1,6 @@
 -- The tokens of a text, as a relation between texts and lists of tokens.
-use Rattle.std.specs.Prelude.{◌≡◌, ◌<◌, ◌^◌, ℕ, zero, suc, false, ◌==◌, List, [], ◌∷◌, ◌++◌, length, map, nat_eq, slice_index_or, position, Option, Some, None, Result, Ok, Err, MatchResult, MatchOption, All, if◌then◌else◌}
-use Rattle.std.specs.List.{concat, before_first}
+use Rattle.std.specs.Prelude.{◌≡◌, ℕ, zero, suc, false, ◌==◌, List, [], ◌∷◌, ◌++◌, map, nat_eq, slice_index_or, position, Option, Some, None, Result, Ok, Err, MatchResult, MatchOption, if◌then◌else◌}
+use Rattle.std.specs.List.{concat, before_first, list_any}
 use Rattle.std.specs.Cmp.Lexicographic.{pointwise}
 use Rattle.type_layout.specs.declared.texts.Place.{Place}
 use Rattle.tp_lexer.specs.declared.token.Text.{Text}
@@ -8,9 +8,10 @@ use Rattle.tp_lexer.specs.declared.token.Token.{Token}
 use Rattle.tp_lexer.specs.declared.token.LexError.{LexError}
 use Rattle.tp_lexer.specs.declared.token.LexError.TheVariants as e
 use Rattle.tp_lexer.specs.declared.condition.Condition.{Condition}
-use Rattle.tp_lexer.specs.declared.shape.Extent.{Extent}
+use Rattle.tp_lexer.specs.declared.shape.Shape.{Shape}
 use Rattle.tp_lexer.specs.Places.{place_after}
-use Rattle.tp_lexer.specs.Pieces.{shape_at, passed_at, piece_of, passed_of}
+use Rattle.tp_lexer.specs.Grammar.{Takes}
+use Rattle.tp_lexer.specs.Pieces.{piece_of, passed_of}
 use Rattle.tp_lexer.specs.Effects.{Settings, Context, Effect, goes, includes, fails, innermost, is_read, effect_of, passed_effect}
 
 -- the tokens and what holds behind them, or the first rule that is broken
@@ -29,17 +30,11 @@ ended_by (Some c) now = Err (e.OpenCondition c.place)
 abbrev pub ended : List Condition → Settings → Outcome
 ended conditions now = ended_by (innermost conditions) now
 
--- what stands at the front: as long as the token rules allow
-abbrev pub extent_at_by : List Condition → List ℕ → Extent
-extent_at_by conditions bytes = if is_read conditions then shape_at bytes else passed_at bytes
-
-abbrev pub extent_at : Context → List ℕ → Extent
-extent_at context bytes = extent_at_by context.conditions bytes
-
-abbrev pub effect_at : Place → Context → Extent → List ℕ → Effect
-effect_at place context e spelling = if is_read context.conditions
-    then effect_of place context (piece_of e.shape spelling)
-    else passed_effect place context (passed_of e.shape spelling)
+-- what a spelling of this shape does at a place
+abbrev pub effect_at : Place → Context → Shape → List ℕ → Effect
+effect_at place context shape spelling = if is_read context.conditions
+    then effect_of place context (piece_of shape spelling)
+    else passed_effect place context (passed_of shape spelling)
 
 -- what behind an included text comes to
 abbrev pub Continues : (Context → Outcome → Type 0) → Context → Outcome → Outcome → Type 0
@@ -55,23 +50,18 @@ Follows Includes Rest place context (includes name) outcome =
     (included : Outcome) × Includes place name context.settings included × Continues Rest context included outcome
 Follows Includes Rest place context (fails error) outcome = outcome ≡ Err error
 
--- These spellings stand one behind another in text `number`, behind the bytes `before`, and come to the outcome: each is as
--- long as the token rules allow there, and does what it stands for.
+-- These spellings stand one behind another in text `number`, behind the bytes `before`, and come to the outcome: each is the
+-- longest that the grammar of tokens, blanks and comments allows there, and does what it stands for.
 abbrev pub Spells : (Place → List ℕ → Settings → Outcome → Type 0) → ℕ → List ℕ → Context → List (List ℕ) → Outcome → Type 0
 Spells Includes number before context [] outcome = outcome ≡ ended context.conditions context.settings
 Spells Includes number before context (spelling ∷ more) outcome =
-    (length spelling ≡ (extent_at context (spelling ++ concat more)).length)
+    (shape : Shape) × Takes (is_read context.conditions) shape spelling (concat more)
     × Follows Includes (λ next rest. Spells Includes number (before ++ spelling) next more rest) (place_after number before) context
-    (effect_at (place_after number before) context (extent_at context (spelling ++ concat more)) spelling) outcome
+    (effect_at (place_after number before) context shape spelling) outcome
 
 -- a text ends before its first byte 26
 abbrev pub text_at : List Text → ℕ → List ℕ
 text_at texts number = before_first (λ c. c == 26) (slice_index_or (map (λ text. text.bytes) texts) number [])
-
--- the texts are few and short enough for lines and columns of 32 bits
-pub record HaveShortTexts (texts : List Text) : Type 0 where
-  pub count : length texts < 2 ^ 32
-  pub each : All (λ text. length text.bytes < 2 ^ 31) texts
 
 -- the spellings of a whole text come to the outcome
 abbrev pub ReadsText : (Place → List ℕ → Settings → Outcome → Type 0) → List Text → ℕ → Settings → Outcome → Type 0
@@ -101,7 +91,7 @@ IncludesAt (suc depth) texts place name now outcome = IncludesBy (Reads depth te
 
 -- what holds before a program's first byte
 abbrev pub first_settings : List (List ℕ) → Settings
-first_settings defined = record { switches = record { r = false; b = false; f = false; o = false }; defined = defined }
+first_settings defined = record { switches = record { r = false; b = false; f = false; o = false }; defined = λ name. list_any (λ other. pointwise nat_eq other name) defined }
 
 -- the spellings of the list, with blanks, comments and directives between them, are the text after includes and conditions are put in place
 pub record Tokens (texts : List Text) (main : ℕ) (defined : List (List ℕ)) (list : List Token) : Type 0 where

@@ -2,7 +2,7 @@
 
 ghost use Rattle.std.specs.Prelude.{◌≡◌, ◌≤◌, ◌<◌, ◌+◌, ◌==◌, not, length};
 ghost use Rattle.std.specs.List.{prefix_len};
-ghost use Rattle.tp_lexer.specs.Shapes.{star_len, comment_extent, brace_extent, star_extent};
+ghost use Rattle.tp_lexer.specs.Shapes.{star_len, brace_extent, star_extent};
 
 use crate::characters::byte_at;
 use crate::shape::{Extent, Shape};

@@ -1,7 +1,7 @@
 //! The conditions that are open at a place of a text.
 
-ghost use Rattle.std.specs.Prelude.{◌≡◌, ◌++◌, ◌∷◌, [], OnOk, if◌then◌else◌, Some, None};
-ghost use Rattle.tp_lexer.specs.Effects.{innermost, is_read, asked, unasked, turned_to, turned_one, turned, closed};
+ghost use Rattle.std.specs.Prelude.{◌≡◌, if◌then◌else◌, Some, None};
+ghost use Rattle.tp_lexer.specs.Effects.{innermost, is_read, asked, unasked, turned_one, turned, closed};
 
 use type_layout::Place;
 

@@ -1,10 +1,11 @@
 //! Directives.
 
 ghost use Rattle.std.specs.Prelude.{◌≡◌, IfOk};
-ghost use Rattle.tp_lexer.specs.Directives.{word_at, after_word, without_blanks, argument, letter_of, sign_of, no_changes, changed, switched, changes_from, option_of, sized, is_comma, memory_of, keyword_of, keyed, switches_piece, directive_piece};
-ghost use Rattle.std.specs.List.{before_first, after_first};
+ghost use Rattle.tp_lexer.specs.Directives.{word_at, after_word, without_blanks, argument, letter_of, sign_of, no_changes, changed, switched, changes_from, option_of, sized, is_comma, lone, memory_of, keyword_of, keyed, switches_piece, link_piece, keyword_piece, directive_piece};
+ghost use Rattle.std.specs.List.{before_first, after_first, list_all};
+ghost use Rattle.tp_lexer.specs.Characters.{is_blank};
 
-use crate::characters::{before_comma_len, blanks_len, unbroken_len};
+use crate::characters::{before_comma_len, blanks_len, is_blank, unbroken_len};
 use crate::file_name::file_name_of;
 use crate::piece::{Fault, Piece};
 use crate::value::number_of;
@@ -233,12 +234,29 @@ fn after_comma(bytes: &[u8]) -> &[u8]
     }
 }
 
+fn is_blank_text(bytes: &[u8]) -> bool
+    ensures { result ≡ list_all is_blank bytes.now }
+{
+    bytes.iter().all(|byte| is_blank(*byte))
+}
+
+// The word that stands alone between blanks, or nothing.
+fn lone(bytes: &[u8]) -> &[u8]
+    ensures { result.now ≡ lone bytes.now }
+{
+    if is_blank_text(after_word(without_blanks(bytes))) {
+        argument(bytes)
+    } else {
+        &[]
+    }
+}
+
 fn memory_of(bytes: &[u8]) -> Option<Directive>
     ensures { result ≡ memory_of bytes.now }
 {
     let heap = after_comma(bytes);
-    let stack = number_of(argument(before_comma(bytes)));
-    let low = number_of(argument(before_comma(heap)));
+    let stack = number_of(lone(before_comma(bytes)));
+    let low = number_of(lone(before_comma(heap)));
     let high = number_of(argument(after_comma(heap)));
     sized(stack, low, high)
 }
@@ -309,20 +327,38 @@ fn switches_piece(changes: Changes) -> Piece
     }
 }
 
+// A file that is to be linked.
+fn link_piece(name: &[u8]) -> Piece
+    ensures { result ≡ link_piece name.now }
+{
+    if name.is_empty() {
+        Piece::Fault(Fault::BadDirective)
+    } else {
+        Piece::Fault(Fault::LeftOut)
+    }
+}
+
+// What a directive with a word is.
+fn keyword_piece(alloc: Global, keyword: Option<Keyword>, rest: &[u8]) -> Result<Piece, AllocError>
+    ensures { IfOk result (λ piece. piece ≡ keyword_piece keyword rest.now) }
+{
+    match keyword {
+        None => Ok(Piece::Fault(Fault::BadDirective)),
+        Some(Keyword::Link) => Ok(link_piece(argument(rest))),
+        Some(keyword) => match keyed(alloc, keyword, rest)? {
+            None => Ok(Piece::Fault(Fault::BadDirective)),
+            Some(directive) => Ok(Piece::Directive(directive)),
+        },
+    }
+}
+
 /// The directive whose text, between `$` and the closer, this is.
 pub fn directive_piece(alloc: Global, body: &[u8]) -> Result<Piece, AllocError>
     ensures { IfOk result (λ piece. piece ≡ directive_piece body.now) }
 {
     let word = word_at(body);
-    if let Some(changes) = changes_of(word) {
-        return Ok(switches_piece(changes));
-    }
-    match keyword_of(word) {
-        None => Ok(Piece::Fault(Fault::BadDirective)),
-        Some(Keyword::Link) => Ok(Piece::Fault(Fault::LeftOut)),
-        Some(keyword) => match keyed(alloc, keyword, after_word(body))? {
-            None => Ok(Piece::Fault(Fault::BadDirective)),
-            Some(directive) => Ok(Piece::Directive(directive)),
-        },
+    match changes_of(word) {
+        Some(changes) => Ok(switches_piece(changes)),
+        None => keyword_piece(alloc, keyword_of(word), after_word(body)),
     }
 }

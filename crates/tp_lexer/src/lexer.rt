@@ -1,38 +1,39 @@
 //! The tokens of a source.
 
-ghost use Rattle.std.specs.Prelude.{◌≡◌, ◌<◌, length, IfOk, IfErr, IsErr, MatchResult, List};
+ghost use Rattle.std.specs.Prelude.{◌≡◌, ◌<◌, length, nat_eq, IfOk, IfErr, IsErr, MatchResult, List};
 ghost use Rattle.tp_lexer.specs.declared.token.Token.{Token};
 ghost use Rattle.tp_lexer.specs.declared.token.LexError.{LexError};
 ghost use Rattle.tp_lexer.specs.declared.token.LexError.TheVariants.{NoMemory};
-ghost use Rattle.tp_lexer.specs.Tokens.{Tokens, Breaks, HaveShortTexts, AreOneList, AreOneFault};
-ghost use Rattle.tp_lexer.specs.Acting.{Unless};
-ghost use Rattle.tp_lexer.specs.Characters.{is_word_byte};
-ghost use Rattle.tp_lexer.specs.Fronts.{IsLongestRun, IsLongestConstant};
-ghost use Rattle.std.specs.Char.{is_ascii_digit, is_ascii_hexdigit};
+ghost use Rattle.tp_lexer.specs.Tokens.{Tokens, Breaks, AreOneList, AreOneFault};
+ghost use Rattle.tp_lexer.specs.Acting.{Unless, has_name};
+ghost use Rattle.std.specs.List.{list_any};
+ghost use Rattle.std.specs.Cmp.Lexicographic.{pointwise};
 
+use crate::numbers::numbers_of;
 use crate::reader::read_text;
 use crate::state::{State, define};
 use crate::token::{LexError, Switches, Text, TokenList};
 use std::alloc::{AllocError, Global};
+use std::collections::HashSet;
 use type_layout::{Name, Sequence};
 
 /// How deep includes nest.
 const INCLUDE_DEPTH: u32 = 8;
 
-fn copied(alloc: Global, names: &[Name]) -> Result<Vec<Name>, AllocError>
-    ensures { IfOk result (λ copy. copy.items ≡ names.now) }
+// The set of some names.
+fn set_of(alloc: Global, names: &[Name]) -> Result<HashSet<Name>, AllocError>
+    ensures { IfOk result (λ set. has_name set ≡ (λ name. list_any (λ other. pointwise nat_eq other name) names.now)) }
 {
-    let mut copy = Vec::new(alloc);
+    let mut set = HashSet::new(alloc);
     for name in names {
-        define(&mut copy, name.copied())?;
+        define(&mut set, name.copied())?;
     }
-    Ok(copy)
+    Ok(set)
 }
 
 /// The tokens of text `main`, after includes and conditions are put in place, where these names are defined at its front.
 ///
-/// An error is the first rule that the text breaks, at its place. A text counts up to its first byte 26, and lines and
-/// columns fit 32 bits.
+/// An error is the first rule that the text breaks, at its place. A text counts up to its first byte 26.
 pub fn tokens(
     alloc: Global,
     texts: &[Text],
@@ -40,7 +41,6 @@ pub fn tokens(
     defined: &[Name],
 ) -> Result<TokenList, LexError>
     requires main { main < length texts.now }
-    requires short { HaveShortTexts texts.now }
 
     ensures found { IfOk result (λ list. Tokens texts.now main defined.now list) }
     ensures fault { IfErr result (λ error. Unless error (Breaks texts.now main defined.now error)) }
@@ -58,10 +58,18 @@ pub fn tokens(
     };
     let mut state = State {
         switches,
-        defined: copied(alloc, defined)?,
+        defined: set_of(alloc, defined)?,
         tokens: Vec::new(alloc),
     };
-    match read_text(alloc, texts, INCLUDE_DEPTH, main, &mut state) {
+    let numbers = numbers_of(alloc, texts)?;
+    match read_text(
+        alloc,
+        texts,
+        &numbers,
+        INCLUDE_DEPTH,
+        main as usize,
+        &mut state,
+    ) {
         Ok(()) => {
             let State { tokens, .. } = state;
             Ok(Sequence::from_vec(tokens))
@@ -74,12 +82,4 @@ pub fn tokens(
 pub fn one_list()
     ensures list { AreOneList }
     ensures fault { AreOneFault }
-{}
-
-/// The runs of bytes that words and numbers are made of, and string constants, end only where they have to.
-pub fn longest_fronts()
-    ensures word { IsLongestRun is_word_byte }
-    ensures digits { IsLongestRun is_ascii_digit }
-    ensures hexadecimal { IsLongestRun is_ascii_hexdigit }
-    ensures constant { IsLongestConstant }
 {}

@@ -12,6 +12,7 @@ mod front;
 mod lexer;
 mod meaning;
 mod number;
+mod numbers;
 mod piece;
 mod place;
 mod reader;
@@ -24,7 +25,6 @@ mod token;
 mod value;
 mod word;
 
-pub use lexer::{longest_fronts, one_list, tokens};
-pub use reader::have_short_texts;
+pub use lexer::{one_list, tokens};
 pub use symbol::Symbol;
 pub use token::{Feature, LexError, Switches, Text, Token, TokenKind, TokenList};

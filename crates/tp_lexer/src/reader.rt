@@ -1,22 +1,26 @@
 //! Texts, with what they include.
 
-ghost use Rattle.std.specs.Prelude.{◌≡◌, ◌≤◌, ◌<◌, ◌==◌, ◌^◌, ◌↔◌, IsTrue, length, position, nat_eq, IfSome, MatchResult, None, All};
+ghost use Rattle.std.specs.Prelude.{◌≡◌, ◌≤◌, ◌<◌, ◌==◌, length, position, nat_eq, take, drop, IfSome, MatchResult, None};
 ghost use Rattle.std.specs.List.{before_first};
 ghost use Rattle.std.specs.Cmp.Lexicographic.{pointwise};
-ghost use Rattle.tp_lexer.specs.Effects.{innermost};
-ghost use Rattle.tp_lexer.specs.Tokens.{extent_at_by, effect_at, text_at, Reads, IncludesAt, HaveShortTexts};
-ghost use Rattle.tp_lexer.specs.Acting.{settings_of, context_of, Acts, Adds, Advances, IsOpen};
+ghost use Rattle.tp_lexer.specs.Effects.{innermost, is_read};
+ghost use Rattle.tp_lexer.specs.Grammar.{Takes};
+ghost use Rattle.tp_lexer.specs.Places.{counted};
+ghost use Rattle.tp_lexer.specs.Tokens.{effect_at, text_at, Reads, IncludesAt};
+ghost use Rattle.tp_lexer.specs.Acting.{AreNumbers, settings_of, context_of, Acts, Adds, Advances, IsOpen};
 
 use crate::act::{act, pass};
 use crate::characters::before_end_len;
 use crate::condition::{Condition, innermost, is_read};
 use crate::front::{passed_at, shape_at};
 use crate::meaning::{passed_of, piece_of};
+use crate::numbers::number_named;
 use crate::place::moved_over;
-use crate::shape::Extent;
+use crate::shape::{Extent, Shape};
 use crate::state::State;
 use crate::token::{LexError, Text};
 use std::alloc::Global;
+use std::collections::HashMap;
 use type_layout::{FileName, Place};
 
 fn before_end(bytes: &[u8]) -> &[u8]
@@ -27,41 +31,34 @@ fn before_end(bytes: &[u8]) -> &[u8]
 }
 
 // The bytes of a text, up to its first byte 26.
-fn text_at(texts: &[Text], number: u32) -> &[u8]
+fn text_at(texts: &[Text], number: usize) -> &[u8]
     requires number { number < length texts.now }
-    requires short { HaveShortTexts texts.now }
-    ensures exact { result.now ≡ text_at texts.now number }
-    ensures short { length result.now < 2 ^ 31 }
+    ensures { result.now ≡ text_at texts.now number }
 {
-    before_end(texts[number as usize].bytes.as_slice())
+    before_end(texts[number].bytes.as_slice())
 }
 
-/// Whether lines and columns of the texts fit 32 bits.
-pub fn have_short_texts(texts: &[Text]) -> bool
-    ensures { IsTrue result ↔ HaveShortTexts texts.now }
+// The number of a text, as places show it.
+fn shown(number: usize) -> u32
+    ensures { result ≡ counted number }
 {
-    texts.len() < 1 << 32 && have_short_bytes(texts)
+    u32::try_from(number).unwrap_or(u32::MAX)
 }
 
-fn have_short_bytes(texts: &[Text]) -> bool
-    ensures { IsTrue result ↔ All (λ text. length text.bytes < 2 ^ 31) texts.now }
-{
-    texts.iter().all(|text| text.bytes.len() < 1 << 31)
-}
-
-// The first text with a name.
-fn text_named(texts: &[Text], name: &FileName) -> Option<usize>
+// The number of the first text with a name.
+fn text_named(texts: &[Text], numbers: &HashMap<FileName, usize>, name: &FileName) -> Option<usize>
+    requires { AreNumbers texts.now numbers.now }
     ensures exact { result ≡ position (λ text. pointwise nat_eq text.name name.now) texts.now }
     ensures within { IfSome result (λ number. number < length texts.now) }
 {
-    texts.iter().position(|text| text.name == *name)
+    number_named(numbers, name)
 }
 
 // The shape and the length of what stands at the front.
 fn extent_at(conditions: &[Condition], bytes: &[u8]) -> Extent
     requires { 0 < length bytes.now }
-    ensures exact { result ≡ extent_at_by conditions.now bytes.now }
     ensures within { result.length ≤ length bytes.now }
+    ensures longest { Takes (is_read conditions.now) result.shape (take result.length bytes.now) (drop result.length bytes.now) }
 {
     if is_read(conditions) {
         shape_at(bytes)
@@ -73,19 +70,19 @@ fn extent_at(conditions: &[Condition], bytes: &[u8]) -> Extent
 // Does what the bytes at a place stand for.
 fn step(
     alloc: Global,
-    extent: Extent,
+    shape: Shape,
     spelling: &[u8],
     place: Place,
     state: &mut State,
     conditions: &mut Vec<Condition>,
 ) -> Result<Option<FileName>, LexError>
-    ensures { Acts (effect_at place (context_of state.old conditions.old.items) extent spelling.now) state.old state.new conditions.old.items conditions.new.items result }
+    ensures { Acts (effect_at place (context_of state.old conditions.old.items) shape spelling.now) state.old state.new conditions.old.items conditions.new.items result }
 {
     if is_read(conditions.as_slice()) {
-        let piece = piece_of(alloc, extent.shape, spelling)?;
+        let piece = piece_of(alloc, shape, spelling)?;
         act(piece, place, state, conditions)
     } else {
-        pass(passed_of(extent.shape, spelling), place, state, conditions)
+        pass(passed_of(shape, spelling), place, state, conditions)
     }
 }
 
@@ -106,19 +103,20 @@ fn ended(conditions: &[Condition]) -> Result<(), LexError>
 fn advance(
     alloc: Global,
     texts: &[Text],
+    numbers: &HashMap<FileName, usize>,
     depth: u32,
-    extent: Extent,
+    shape: Shape,
     spelling: &[u8],
     place: Place,
     state: &mut State,
     conditions: &mut Vec<Condition>,
 ) -> Result<(), LexError>
-    requires { HaveShortTexts texts.now }
-    ensures { Advances (IncludesAt depth texts.now) place (settings_of state.old) (effect_at place (context_of state.old conditions.old.items) extent spelling.now) state.old state.new conditions.old.items conditions.new.items result }
+    requires { AreNumbers texts.now numbers.now }
+    ensures { Advances (IncludesAt depth texts.now) place (settings_of state.old) (effect_at place (context_of state.old conditions.old.items) shape spelling.now) state.old state.new conditions.old.items conditions.new.items result }
 {
-    match step(alloc, extent, spelling, place, state, conditions) {
+    match step(alloc, shape, spelling, place, state, conditions) {
         Ok(None) => Ok(()),
-        Ok(Some(name)) => include(alloc, texts, depth, name, place, state),
+        Ok(Some(name)) => include(alloc, texts, numbers, depth, name, place, state),
         Err(error) => Err(error),
     }
 }
@@ -128,20 +126,21 @@ fn advance(
 fn include(
     alloc: Global,
     texts: &[Text],
+    numbers: &HashMap<FileName, usize>,
     depth: u32,
     name: FileName,
     place: Place,
     state: &mut State,
 ) -> Result<(), LexError>
-    requires { HaveShortTexts texts.now }
+    requires { AreNumbers texts.now numbers.now }
     ensures { Adds (IncludesAt depth texts.now place name (settings_of state.old)) state.old state.new result }
 {
     if depth == 0 {
         return Err(LexError::BadDirective { place });
     }
-    match text_named(texts, &name) {
+    match text_named(texts, numbers, &name) {
         None => Err(LexError::MissingInclude { place, name }),
-        Some(number) => read_text(alloc, texts, depth - 1, number as u32, state),
+        Some(number) => read_text(alloc, texts, numbers, depth - 1, number, state),
     }
 }
 
@@ -150,18 +149,19 @@ fn include(
 pub fn read_text(
     alloc: Global,
     texts: &[Text],
+    numbers: &HashMap<FileName, usize>,
     depth: u32,
-    number: u32,
+    number: usize,
     state: &mut State,
 ) -> Result<(), LexError>
     requires number { number < length texts.now }
-    requires short { HaveShortTexts texts.now }
+    requires numbers { AreNumbers texts.now numbers.now }
     ensures { Adds (Reads depth texts.now number (settings_of state.old)) state.old state.new result }
 {
     let bytes = text_at(texts, number);
     let mut conditions = Vec::new(alloc);
     let mut place = Place {
-        text: number,
+        text: shown(number),
         line: 1,
         column: 1,
     };
@@ -173,8 +173,9 @@ pub fn read_text(
         match advance(
             alloc,
             texts,
+            numbers,
             depth,
-            extent,
+            extent.shape,
             spelling,
             place,
             state,

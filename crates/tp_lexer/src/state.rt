@@ -1,21 +1,20 @@
 //! What is read so far, and what holds.
 
-ghost use Rattle.std.specs.Prelude.{◌≡◌, ◌++◌, ◌∷◌, [], OnOk, nat_eq};
-ghost use Rattle.std.specs.List.{list_any};
-ghost use Rattle.std.specs.Cmp.Lexicographic.{pointwise};
-ghost use Rattle.tp_lexer.specs.Effects.{token, switches_after, state_of, is_defined, same, holds, undefined};
-ghost use Rattle.tp_lexer.specs.Acting.{settings_of};
+ghost use Rattle.std.specs.Prelude.{◌≡◌, ◌++◌, ◌∷◌, [], true, false, OnOk};
+ghost use Rattle.tp_lexer.specs.Effects.{token, switches_after, state_of, same, holds, set_defined};
+ghost use Rattle.tp_lexer.specs.Acting.{has_name, settings_of};
 
 use crate::directive::{Changes, Letter, Test};
 use crate::token::{Switches, Token, TokenKind};
 use std::alloc::AllocError;
+use std::collections::HashSet;
 use type_layout::{Name, Place};
 
 /// The switches that hold, the names that are defined, and the tokens so far.
 #[derive(Debug, Drop)]
 pub struct State {
     pub switches: Switches,
-    pub defined: Vec<Name>,
+    pub defined: HashSet<Name>,
     pub tokens: Vec<Token>,
 }
 
@@ -30,20 +29,20 @@ pub fn emit(tokens: &mut Vec<Token>, place: Place, kind: TokenKind) -> Result<()
 }
 
 /// Defines a name.
-pub fn define(defined: &mut Vec<Name>, name: Name) -> Result<(), AllocError>
-    ensures { OnOk result (defined.new.items ≡ defined.old.items ++ name ∷ []) }
+pub fn define(defined: &mut HashSet<Name>, name: Name) -> Result<(), AllocError>
+    ensures { OnOk result (has_name defined.new ≡ set_defined name true (has_name defined.old)) }
 {
-    match defined.push(name) {
-        Ok(()) => Ok(()),
+    match defined.insert(name) {
+        Ok(_) => Ok(()),
         Err(_) => Err(AllocError),
     }
 }
 
 /// Makes a name one that is not defined.
-pub fn undefine(defined: &mut Vec<Name>, name: &Name)
-    ensures { defined.new.items ≡ undefined name.now defined.old.items }
+pub fn undefine(defined: &mut HashSet<Name>, name: &Name)
+    ensures { has_name defined.new ≡ set_defined name.now false (has_name defined.old) }
 {
-    defined.retain(|other| !(*name == *other));
+    defined.remove(name);
 }
 
 /// The switches behind a list of changes.
@@ -71,10 +70,10 @@ fn state_of(letter: Letter, now: Switches) -> bool
     }
 }
 
-fn is_defined(name: &Name, defined: &[Name]) -> bool
-    ensures { result ≡ is_defined name.now defined.now }
+fn is_defined(name: &Name, defined: &HashSet<Name>) -> bool
+    ensures { result ≡ has_name defined.now name.now }
 {
-    defined.iter().any(|other| *name == *other)
+    defined.contains(name)
 }
 
 fn same(state: bool, on: bool) -> bool
@@ -88,8 +87,8 @@ pub fn holds(test: &Test, state: &State) -> bool
     ensures { result ≡ holds test.now (settings_of state.now) }
 {
     match test {
-        Test::Defined(name) => is_defined(name, state.defined.as_slice()),
-        Test::Undefined(name) => !is_defined(name, state.defined.as_slice()),
+        Test::Defined(name) => is_defined(name, &state.defined),
+        Test::Undefined(name) => !is_defined(name, &state.defined),
         Test::Switched(letter, on) => same(state_of(*letter, state.switches), *on),
     }
 }
