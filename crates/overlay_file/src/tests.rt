@@ -80,6 +80,7 @@ fn each_rule_has_its_place(rt: HostRuntime) {
         (25, 0x00, 25),
         (6, 0x01, 25),
     ] {
+        assert!(rt; at < 32);
         let mut bytes = TWO;
         bytes[at] = byte;
         assert_eq!(rt; damage(rt.alloc(), &bytes), Some(place), "byte {at}");
