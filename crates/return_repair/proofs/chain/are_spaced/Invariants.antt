@@ -1,0 +1,14 @@
+use Rattle.std.proofs.Common.{◌≡◌, ◌-◌, ◌<◌, ℕ}
+use Rattle.std.specs.Prelude.{IsOk}
+use Rattle.return_repair.specs.Chain.{chain, chain_of, links_of, are_spaced}
+use Rattle.return_repair.proofs.ChainLaws.{height}
+use Rattle.return_repair.proofs.chain.are_spaced.Given as goal
+
+-- what is left of the links decides
+abbrev pub invariant-loop-link : goal.invariant-loop-link
+invariant-loop-link l =
+    (l.link < 65536) × IsOk (chain l.machine.memory l.machine.registers.ss l.link)
+    × (are_spaced (links_of (chain l.machine.memory l.machine.registers.ss l.link)) ≡ are_spaced (links_of (chain_of l.machine)))
+
+abbrev pub decreases-loop-link : goal.decreases-loop-link
+decreases-loop-link l = height l.link
