@@ -1,0 +1,207 @@
+//! The program that a list of units makes, and where its parts lie.
+
+ghost use Rattle.std.specs.Prelude.{◌≡◌, ℕ, ◌+◌, ◌*◌, ◌^◌, ◌<◌, ◌≤◌, List, map, length, slice_get};
+ghost use Rattle.std.specs.Option.{option_map, option_and_then};
+ghost use Rattle.std.specs.Borrow.{Bor};
+ghost use Rattle.flat_code.specs.declared.unit.FlatUnit.{FlatUnit};
+ghost use Rattle.flat_code.specs.Program.{Routine};
+ghost use Rattle.flat_code.specs.Plain.{
+  view_unit,
+  view_routine,
+  view_datum,
+  view_vmt,
+  name_at,
+  data_size,
+  vmts_size,
+  unit_size,
+  units_size,
+  datum_from,
+  vmt_from,
+  datum_of,
+  vmt_of,
+  even,
+  vmt_size,
+  far_of,
+  far_if,
+  unit_from,
+};
+
+use crate::memory::Place;
+use crate::unit::{FlatDatum, FlatRoutine, FlatUnit, FlatVmt};
+
+/// What a unit is called that stands at a place of the list: the first three are the runtime's.
+pub fn name_at(at: usize, unit: &FlatUnit) -> &[u8]
+    ensures { result.now ≡ name_at at (view_unit unit.now) }
+{
+    match at {
+        0 => b".TEXT",
+        1 => b".STRINGS",
+        2 => b"OVERLAY",
+        _ => match unit.names.as_slice() {
+            [] => b"",
+            [name, ..] => name.as_bytes(),
+        },
+    }
+}
+
+fn even(size: u32) -> u32
+    requires { size + 1 < 2 ^ 32 }
+    ensures { result ≡ even size }
+{
+    size + size % 2
+}
+
+fn vmt_size(vmt: &FlatVmt) -> u32
+    requires { vmt_size (view_vmt vmt.now) < 65536 }
+    ensures { result ≡ vmt_size (view_vmt vmt.now) }
+{
+    4 + 4 * vmt.slots.len() as u32
+}
+
+// The offset of a datum of a list that begins at `start`.
+fn datum_from(start: u32, list: &[FlatDatum], number: u32) -> Option<u16>
+    requires { start + data_size (map view_datum list.now) < 65536 }
+    ensures { result ≡ datum_from start (map view_datum list.now) number }
+{
+    match list {
+        [] => None,
+        [datum, rest @ ..] => {
+            if number == 0 {
+                Some(start as u16)
+            } else {
+                datum_from(start + even(datum.size), rest, number - 1)
+            }
+        }
+    }
+}
+
+// The offset of a virtual method table of a list that begins at `start`.
+fn vmt_from(start: u32, list: &[FlatVmt], number: u32) -> Option<u16>
+    requires { start + vmts_size (map view_vmt list.now) < 65536 }
+    ensures { result ≡ vmt_from start (map view_vmt list.now) number }
+{
+    match list {
+        [] => None,
+        [vmt, rest @ ..] => {
+            if number == 0 {
+                Some(start as u16)
+            } else {
+                vmt_from(start + vmt_size(vmt), rest, number - 1)
+            }
+        }
+    }
+}
+
+fn data_size(list: &[FlatDatum]) -> u32
+    requires { data_size (map view_datum list.now) < 65536 }
+    ensures { result ≡ data_size (map view_datum list.now) }
+{
+    match list {
+        [] => 0,
+        [datum, rest @ ..] => even(datum.size) + data_size(rest),
+    }
+}
+
+fn vmts_size(list: &[FlatVmt]) -> u32
+    requires { vmts_size (map view_vmt list.now) < 65536 }
+    ensures { result ≡ vmts_size (map view_vmt list.now) }
+{
+    match list {
+        [] => 0,
+        [vmt, rest @ ..] => vmt_size(vmt) + vmts_size(rest),
+    }
+}
+
+fn unit_size(unit: &FlatUnit) -> u32
+    requires { unit_size (view_unit unit.now) < 65536 }
+    ensures { result ≡ unit_size (view_unit unit.now) }
+{
+    data_size(unit.globals.as_slice()) + vmts_size(unit.vmts.as_slice())
+}
+
+/// The offset of a datum, by its unit's name and its number there.
+pub fn datum_of(at: usize, start: u32, units: &[FlatUnit], name: &[u8], number: u32) -> Option<u16>
+    requires few { at + length units.now < 65536 }
+    requires small { start + units_size (map view_unit units.now) < 65536 }
+    ensures { result ≡ datum_of at start (map view_unit units.now) name.now number }
+{
+    match units {
+        [] => None,
+        [unit, rest @ ..] => {
+            if name_at(at, unit) == name {
+                datum_from(start, unit.globals.as_slice(), number)
+            } else {
+                datum_of(at + 1, start + unit_size(unit), rest, name, number)
+            }
+        }
+    }
+}
+
+/// The offset of a virtual method table, by its unit's name and its number there.
+pub fn vmt_of(at: usize, start: u32, units: &[FlatUnit], name: &[u8], number: u32) -> Option<u16>
+    requires few { at + length units.now < 65536 }
+    requires small { start + units_size (map view_unit units.now) < 65536 }
+    ensures { result ≡ vmt_of at start (map view_unit units.now) name.now number }
+{
+    match units {
+        [] => None,
+        [unit, rest @ ..] => {
+            if name_at(at, unit) == name {
+                let first = start + data_size(unit.globals.as_slice());
+                vmt_from(first, unit.vmts.as_slice(), number)
+            } else {
+                vmt_of(at + 1, start + unit_size(unit), rest, name, number)
+            }
+        }
+    }
+}
+
+// The far pointer of a routine of the unit at a place of the list.
+fn far_in(at: u16, routines: &[FlatRoutine], number: u32) -> Option<Place>
+    requires { at < 4096 }
+    ensures { result ≡ option_and_then (λ (r : Routine). far_if r.far at number) (slice_get (map view_routine routines.now) number) }
+{
+    let routine = routines.get(number as usize)?;
+    if routine.far && number < 0x1_0000 {
+        Some(Place {
+            segment: 0xf000 + at,
+            offset: number as u16,
+        })
+    } else {
+        None
+    }
+}
+
+/// The far pointer of a far routine, by its unit's name and its number there.
+pub fn far_of(at: u16, units: &[FlatUnit], name: &[u8], number: u32) -> Option<Place>
+    requires { at + length units.now ≤ 4096 }
+    ensures { result ≡ far_of at (map view_unit units.now) name.now number }
+{
+    match units {
+        [] => None,
+        [unit, rest @ ..] => {
+            if name_at(usize::from(at), unit) == name {
+                far_in(at, unit.routines.as_slice(), number)
+            } else {
+                far_of(at + 1, rest, name, number)
+            }
+        }
+    }
+}
+
+/// The unit of a name.
+pub fn unit_of<'a>(at: usize, units: &'a [FlatUnit], name: &[u8]) -> Option<&'a FlatUnit>
+    requires { at + length units.now ≤ 4096 }
+    ensures { option_map (λ (unit : Bor FlatUnit). view_unit unit.now) result ≡ unit_from at (map view_unit units.now) name.now }
+{
+    match units {
+        [] => None,
+        [unit, rest @ ..] => {
+            if name_at(at, unit) == name {
+                Some(unit)
+            } else {
+                unit_of(at + 1, rest, name)
+            }
+        }
+    }
+}
