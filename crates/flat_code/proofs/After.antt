@@ -235,4 +235,5 @@ after_run_by steps program choice zero code f s = steps.itself s
 after_run_by steps program choice (suc fuel) code f s = after_runs steps program choice (run_by program choice fuel) (after_run_by steps program choice fuel) code f s
 
 pub after_run : {Q : State → State → Type 0} → Steps Q → (program : FlatProgram) (choice : Choice) → Keeps Q (run program choice)
+unfolding run
 after_run steps program choice code f s = after_run_by steps program choice (suc s.turns) code f s

@@ -7,3 +7,7 @@ pub mod Turns
 pub mod Regions
 pub mod Shut
 pub mod Loops
+pub mod Founds
+pub mod Stops
+pub mod Sizes
+pub mod Rows

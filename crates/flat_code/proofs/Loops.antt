@@ -6,7 +6,7 @@ use Rattle.flat_code.specs.Program.{FlatProgram, Choice}
 use Rattle.flat_code.specs.Meaning.{Frame, State, Outcome, Next, Left, Returned, Over, and_then, spent, spend, begun, looped, run}
 use Rattle.flat_code.proofs.After.{After, after_run}
 use Rattle.flat_code.proofs.More.{Falls, falls}
-use Rattle.flat_code.proofs.Nodes.{run-loop}
+use Rattle.flat_code.proofs.Nodes.{and_then-next, run-loop}
 
 -- what the body has to come to: the invariant where the loop goes round, and what is wanted of the loop otherwise
 abbrev pub Rounds : (State → Type 0) → (Outcome → Type 0) → Outcome → Type 0
@@ -15,12 +15,6 @@ Rounds I Post (Left zero s) = Post (Next s)
 Rounds I Post (Left (suc loops) s) = Post (Left loops s)
 Rounds I Post (Returned s) = Post (Returned s)
 Rounds I Post (Over standing s) = Post (Over standing s)
-
-and_then-next : (program : FlatProgram) (choice : Choice) (f : Frame) (o : Outcome) → and_then o (run program choice End f) ≡ o
-and_then-next program choice f (Next s) = refl
-and_then-next program choice f (Left loops s) = refl
-and_then-next program choice f (Returned s) = refl
-and_then-next program choice f (Over standing s) = refl
 
 looped-post : (I : State → Type 0) (Post : Outcome → Type 0) (again : State → Outcome) (w : State) (o : Outcome) → Rounds I Post o → After Falls w o → ((u : State) → u.turns ≤ w.turns → I u → Post (again u)) → Post (looped o again)
 looped-post I Post again w (Next s) p fall q = q s fall p

@@ -338,10 +338,12 @@ more_by program choice k (suc m) (suc n) code f s p q =
 
 -- more turns
 pub more_run : (program : FlatProgram) (choice : Choice) (k : ℕ) (code : Code) (f : Frame) (s : State) → More k (run program choice code f s) (run program choice code f (more k s))
+unfolding run
 more_run program choice k code f s = more_by program choice k (suc s.turns) (suc (s.turns + k)) code f s (omega arith) (omega arith)
 
 -- the equation that the meaning solves: what statements do with fewer turns is their meaning too
 pub run-runs : (program : FlatProgram) (choice : Choice) (code : Code) (f : Frame) (s : State) → run program choice code f s ≡ runs program choice (run program choice) code f s
+unfolding run
 run-runs program choice code f s =
     let alike : Alike (run_by program choice s.turns) (run program choice) 0 s.turns = record {
       falling = after_run_by falls program choice s.turns;

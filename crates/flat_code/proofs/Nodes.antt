@@ -1,5 +1,5 @@
 -- The meaning of each node in terms of that of its parts.
-use Rattle.std.proofs.Common.{◌≡◌, ℕ, zero, suc, ◌+◌, refl, sym, ap, ◌∙◌}
+use Rattle.std.proofs.Common.{◌≡◌, ℕ, zero, suc, ◌+◌, refl, sym, ap, ◌∙◌, arith}
 use Rattle.flat_code.specs.Tree.{Expr, expr_size, Step, step_size, Code, End, Do, If, Loop, ◌then◌}
 use Rattle.flat_code.specs.Memory.{Found}
 use Rattle.flat_code.specs.declared.memory.Trap.TheVariants.{ByZero, Bad}
@@ -57,6 +57,26 @@ run-loop program choice body next f s =
     ∙ and_then-same (spend (begun 1 s) a) (runs program choice does next f) (does next f) (λ t. sym (run-runs program choice next f t))
     ∙ ap (λ o. and_then o (does next f)) (spent-same s.turns (begun 1 s) a b (λ t. looped-same (runs program choice does body f (begun 1 t)) (does body f (begun 1 t)) (does (Loop body End) f) (sym (run-runs program choice body f (begun 1 t)))))
 
+-- ---- one node alone
+
+pub and_then-next : (program : FlatProgram) (choice : Choice) (f : Frame) (o : Outcome) → and_then o (run program choice End f) ≡ o
+unfolding run
+and_then-next program choice f (Next s) = refl
+and_then-next program choice f (Left loops s) = refl
+and_then-next program choice f (Returned s) = refl
+and_then-next program choice f (Over standing s) = refl
+
+pub run-alone : (program : FlatProgram) (choice : Choice) (step : Step) (f : Frame) (s t : State) → t ≡ begun (step_size step) s → run program choice (Do step End) f s ≡ step_of program choice (run program choice) step f t
+run-alone program choice step f s t e =
+    let o = step_of program choice (run program choice) step f (begun (step_size step) s) in
+    run-step program choice step End f s ∙ and_then-next program choice f o ∙ ap (step_of program choice (run program choice) step f) (sym e)
+
+-- nodes that were counted in two goes
+pub begun-twice : (m n : ℕ) (s t u : State) → t ≡ begun m s → u ≡ begun n t → u ≡ begun (m + n) s
+begun-twice m n s t u p q =
+    let sum : s.work + m + n ≡ s.work + (m + n) = omega arith in
+    q ∙ ap (begun n) p ∙ ap (λ work. record s { work = work }) sum
+
 and_then-twice : (o : Outcome) (g h : State → Outcome) → and_then (and_then o g) h ≡ and_then o (λ s. and_then (g s) h)
 and_then-twice (Next s) g h = refl
 and_then-twice (Left loops s) g h = refl
@@ -88,6 +108,7 @@ run-then program choice first after f s =
     ∙ and_then-same (does first f s) (runs program choice does after f) (does after f) (λ t. sym (run-runs program choice after f t))
 
 pub node_laws : (program : FlatProgram) (choice : Choice) → NodeLaws program choice
+unfolding run
 node_laws program choice = record {
   nothing = λ f s. refl;
   step = run-step program choice;

@@ -347,4 +347,5 @@ shut_run_by program choice zero code f s = tt
 shut_run_by program choice (suc fuel) code f s = shut_runs program choice (run_by program choice fuel) (shut_run_by program choice fuel) code f s
 
 pub run-shut : (program : FlatProgram) (choice : Choice) (code : Code) (f : Frame) (s : State) → StaysShut s (run program choice code f s)
+unfolding run
 run-shut program choice code f s = shut_run_by program choice (suc s.turns) code f s

@@ -374,7 +374,7 @@ abbrev pub run_by : FlatProgram → Choice → ℕ → Does
 run_by program choice zero code f s = Over Going s
 run_by program choice (suc fuel) code f s = runs program choice (run_by program choice fuel) code f s
 
-abbrev pub run : FlatProgram → Choice → Does
+unfoldable pub run : FlatProgram → Choice → Does
 run program choice code f s = run_by program choice (suc s.turns) code f s
 
 -- ---- whole programs

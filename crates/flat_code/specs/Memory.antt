@@ -1,5 +1,5 @@
 -- Memory as flat code sees it: the machine's own addresses, of which only some can be reached.
-use Rattle.std.specs.Prelude.{ℕ, zero, suc, ◌+◌, ◌-◌, ◌*◌, ◌%◌, ◌==◌, ◌&&◌, nat_le, nat_lt, if◌then◌else◌, List, [], ◌∷◌, Result, Ok, Err, slice_index_or}
+use Rattle.std.specs.Prelude.{◌≡◌, ◌++◌, ℕ, zero, suc, ◌+◌, ◌-◌, ◌*◌, ◌%◌, ◌==◌, ◌&&◌, nat_le, nat_lt, if◌then◌else◌, List, [], ◌∷◌, Result, Ok, Err, slice_index_or}
 use Rattle.flat_code.specs.declared.memory.Cell.{Cell}
 use Rattle.flat_code.specs.declared.memory.Cell.TheVariants.{Known, Unset, Outside}
 use Rattle.flat_code.specs.declared.memory.Place.{Place}
@@ -30,6 +30,15 @@ infixl 10 ◌>>=◌
 abbrev pub ◌>>=◌ : {A B : Type 0} → Result A Trap → (A → Result B Trap) → Result B Trap
 (Ok x) >>= f = f x
 (Err trap) >>= f = Err trap
+
+-- a value was found that is seen as this, or there is none for the same cause
+abbrev pub Finds : {X Y : Type 0} → (X → Y) → Result X Trap → Found Y → Type 0
+Finds view (Ok x) y = y ≡ Ok (view x)
+Finds view (Err trap) y = y ≡ Err trap
+
+-- what was found after something else
+abbrev pub after_front : {A : Type 0} → List A → Found (List A) → Found (List A)
+after_front front found = found >>= λ rest. Ok (front ++ rest)
 
 -- ---- reading
 

@@ -9,6 +9,7 @@ use Rattle.flat_code.specs.declared.unit.FlatDatum.{FlatDatum}
 use Rattle.flat_code.specs.declared.unit.FlatVmt.{FlatVmt}
 use Rattle.flat_code.specs.declared.unit.FlatUnit.{FlatUnit}
 use Rattle.flat_code.specs.declared.memory.Place.{Place}
+use Rattle.flat_code.specs.declared.program.Callee.{Callee}
 use Rattle.flat_code.specs.declared.value.Activation.{Activation}
 use Rattle.flat_code.specs.Meaning.{Frame}
 use Rattle.flat_code.specs.View.{view_list}
@@ -150,8 +151,11 @@ choice_of units = record {
   callee = λ p. if nat_le 61440 p.segment then callee_of 0 units (p.segment - 61440) p.offset else None;
 }
 
+abbrev pub view_callee : Callee → Key
+view_callee callee = record { unit = callee.name.now; number = callee.number }
+
 -- ---- frames
 
 -- an activation as the interpreter keeps it
 abbrev pub view_frame : Activation → Frame
-view_frame f = record { unit = f.name.now; names = f.unit.now.names; bp = f.bp; link = f.link; sp = f.sp; sum = f.sum }
+view_frame f = record { unit = f.name.now; names = f.names.now; bp = f.bp; link = f.link; sp = f.sp; sum = f.sum }

@@ -8,9 +8,13 @@ ghost use Rattle.flat_code.specs.Program.{FlatProgram, Choice};
 ghost use Rattle.flat_code.specs.Meaning.{Frame, State, run, flat_run};
 ghost use Rattle.flat_code.specs.Laws.{NodeLaws, StaysShut};
 
+mod calls;
+mod context;
 mod memory;
 mod program;
+mod activations;
 mod state;
+mod statements;
 #[cfg(test)]
 mod tests;
 mod tree;
@@ -18,8 +22,9 @@ mod unit;
 mod value;
 
 pub use memory::{ADDRESSES, Cell, Memory, Place, Trap};
-pub use program::{datum_of, far_of, name_at, unit_of, vmt_of};
-pub use state::{Flow, MeanEnd, Run};
+pub use program::{Callee, callee_of, datum_of, far_of, name_at, runtime_callee, unit_of, vmt_of};
+pub use context::Interpreter;
+pub use state::{Flow, MeanEnd, Run, Stop};
 pub use tree::{Address, FlatExpr, FlatExprs, FlatList, FlatOp, FlatResult, FlatStmt};
 pub use unit::{
     FlatData, FlatDatum, FlatRoutine, FlatRoutines, FlatUnit, FlatVmt, FlatVmts, RoutineIds,

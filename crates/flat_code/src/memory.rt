@@ -1,6 +1,7 @@
 //! Memory as flat code sees it: the machine's own addresses, of which only some can be reached.
 
-ghost use Rattle.std.specs.Prelude.{◌≡◌, ℕ, ◌+◌, ◌*◌, ◌<◌, ◌≤◌, List, length, MatchResult, IfOk};
+ghost use Rattle.std.specs.Prelude.{◌≡◌, ℕ, ◌+◌, ◌*◌, ◌<◌, ◌≤◌, List, length, MatchResult, IfOk, Vec};
+ghost use Rattle.std.specs.Global.{Global};
 ghost use Rattle.flat_code.specs.declared.memory.Cell.TheVariants.{Outside};
 ghost use Rattle.flat_code.specs.Memory.{
   address_of,
@@ -15,9 +16,13 @@ ghost use Rattle.flat_code.specs.Memory.{
   copied_cell,
   copy,
   region,
+  bytes_at,
+  pushed,
+  laid,
+  Finds,
 };
 
-use integers::word_from_bytes;
+use integers::{high_byte, low_byte, word_from_bytes};
 use std::alloc::{AllocError, Global};
 
 /// A byte of data, heap or a live activation, known or unset; every other one is outside.
@@ -180,6 +185,52 @@ impl Memory {
         match self.cell(from) {
             Cell::Outside => Err(Trap::Bad(2)),
             cell => self.write(to, cell),
+        }
+    }
+
+    /// The bytes that stand from a place on.
+    pub fn bytes(
+        &self,
+        alloc: Global,
+        place: Place,
+        count: u16,
+    ) -> Result<Result<Vec<u8>, Trap>, AllocError>
+        ensures { IfOk result (λ found. Finds (λ (bytes : Vec ℕ Global). bytes.items) found (bytes_at (cells_of self.now.cells.items) place 0 count)) }
+    {
+        let mut bytes = Vec::new(alloc);
+        'bytes: for i in 0..count {
+            match self.byte(place, i) {
+                Ok(byte) => bytes.push(byte)?,
+                Err(trap) => return Ok(Err(trap)),
+            }
+        }
+        Ok(Ok(bytes))
+    }
+
+    /// Pushes words one after another below an offset of a segment, whatever stood there.
+    pub fn push(&mut self, segment: u16, sp: u16, words: &[u16])
+        requires room { 2 * length words.now ≤ sp }
+        requires inside { 16 * segment + sp ≤ 1048576 }
+        ensures { cells_of self.new.cells.items ≡ pushed (cells_of self.old.cells.items) segment sp words.now }
+    {
+        match words {
+            [] => {}
+            [word, rest @ ..] => {
+                let base = 16 * usize::from(segment);
+                self.set(base + usize::from(sp - 2), Cell::Known(low_byte(*word)));
+                self.set(base + usize::from(sp - 1), Cell::Known(high_byte(*word)));
+                self.push(segment, sp - 2, rest);
+            }
+        }
+    }
+
+    /// Lays bytes from a place on, whatever stood there.
+    pub fn lay(&mut self, place: Place, bytes: &[u8])
+        requires { length bytes.now < 65536 }
+        ensures { cells_of self.new.cells.items ≡ laid (cells_of self.old.cells.items) place 0 bytes.now }
+    {
+        'bytes: for (i, byte) in bytes.iter().enumerate() {
+            self.set(place.address(i as u16), Cell::Known(*byte));
         }
     }
 

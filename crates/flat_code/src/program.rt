@@ -4,7 +4,7 @@ ghost use Rattle.std.specs.Prelude.{◌≡◌, ℕ, ◌+◌, ◌*◌, ◌^◌, �
 ghost use Rattle.std.specs.Option.{option_map, option_and_then};
 ghost use Rattle.std.specs.Borrow.{Bor};
 ghost use Rattle.flat_code.specs.declared.unit.FlatUnit.{FlatUnit};
-ghost use Rattle.flat_code.specs.Program.{Routine};
+ghost use Rattle.flat_code.specs.Program.{Routine, runtime_key};
 ghost use Rattle.flat_code.specs.Plain.{
   view_unit,
   view_routine,
@@ -24,6 +24,10 @@ ghost use Rattle.flat_code.specs.Plain.{
   far_of,
   far_if,
   unit_from,
+  view_callee,
+  key_if,
+  callee_of,
+  choice_of,
 };
 
 use crate::memory::Place;
@@ -203,5 +207,69 @@ pub fn unit_of<'a>(at: usize, units: &'a [FlatUnit], name: &[u8]) -> Option<&'a 
                 unit_of(at + 1, rest, name)
             }
         }
+    }
+}
+
+/// A routine, by its unit's name and its number there.
+#[derive(Clone, Copy)]
+pub struct Callee<'a> {
+    pub name: &'a [u8],
+    pub number: u32,
+}
+
+// The far routine with this number of the unit at a place of the list.
+fn callee_in(at: usize, unit: &FlatUnit, number: u16) -> Option<Callee<'_>>
+    ensures { option_map view_callee result ≡ option_and_then (λ (r : Routine). key_if r.far (name_at at (view_unit unit.now)) number) (slice_get (map view_routine unit.now.routines) number) }
+{
+    let routine = unit.routines.as_slice().get(usize::from(number))?;
+    if routine.far {
+        Some(Callee {
+            name: name_at(at, unit),
+            number: u32::from(number),
+        })
+    } else {
+        None
+    }
+}
+
+fn callee_from(at: usize, units: &[FlatUnit], distance: u16, number: u16) -> Option<Callee<'_>>
+    requires { at + length units.now ≤ 4096 }
+    ensures { option_map view_callee result ≡ callee_of at (map view_unit units.now) distance number }
+{
+    match units {
+        [] => None,
+        [unit, rest @ ..] => {
+            if distance == 0 {
+                callee_in(at, unit, number)
+            } else {
+                callee_from(at + 1, rest, distance - 1, number)
+            }
+        }
+    }
+}
+
+/// The routine that a far pointer names.
+pub fn callee_of(units: &[FlatUnit], pointer: Place) -> Option<Callee<'_>>
+    requires { length units.now ≤ 4096 }
+    ensures { option_map view_callee result ≡ (choice_of (map view_unit units.now)).callee pointer }
+{
+    if pointer.segment < 0xf000 {
+        return None;
+    }
+    callee_from(0, units, pointer.segment - 0xf000, pointer.offset)
+}
+
+/// The routine of a runtime number above those of the acts.
+pub fn runtime_callee(number: u16) -> Callee<'static>
+    ensures { view_callee result ≡ runtime_key number }
+{
+    let name: &[u8] = match number / 0x100 {
+        1 => b".TEXT",
+        2 => b".STRINGS",
+        _ => b"OVERLAY",
+    };
+    Callee {
+        name,
+        number: u32::from(number % 0x100),
     }
 }

@@ -45,16 +45,9 @@ fn copies_run_forwards_and_keep_unset_bytes(rt: HostRuntime) -> Result<(), Fail>
 fn operators_wrap_and_compare(rt: HostRuntime) -> Result<(), Fail> {
     let alloc = rt.alloc();
     let memory = Memory::new(alloc)?;
-    let unit = FlatUnit {
-        names: Sequence::new(alloc),
-        routines: Sequence::new(alloc),
-        globals: Sequence::new(alloc),
-        vmts: Sequence::new(alloc),
-        initial: None,
-    };
     let f = Activation {
         name: b"P",
-        unit: &unit,
+        names: &[],
         bp: 100,
         link: 104,
         sp: 90,

@@ -16,6 +16,7 @@ use crate::unit::FlatUnit;
 use integers::{
     high_product, is_signed_less, shifted_left, shifted_right, signed_quotient, signed_remainder,
 };
+use type_layout::Name;
 
 /// The segments that the interpreter takes for data, stack and heap.
 pub const DATA_SEGMENT: u16 = 0x1000;
@@ -29,7 +30,8 @@ pub const HEAP_SEGMENT: u16 = 0x3000;
 pub struct Activation<'a> {
     /// What its unit is called.
     pub name: &'a [u8],
-    pub unit: &'a FlatUnit,
+    /// The unit itself, and the units that it refers to.
+    pub names: &'a [Name],
     pub bp: u16,
     /// The offset of its link word.
     pub link: u16,
@@ -112,13 +114,13 @@ fn rest(x: u16, y: u16) -> Result<u16, Trap>
 }
 
 // The name of a unit by its place in the names of the running routine's unit.
-fn named<'a>(f: &Activation<'a>, unit: u32) -> Option<&'a [u8]>
-    ensures { option_copied result ≡ named f.now.name.now f.now.unit.now.names unit }
+pub fn named<'a>(f: &Activation<'a>, unit: u32) -> Option<&'a [u8]>
+    ensures { option_copied result ≡ named f.now.name.now f.now.names.now unit }
 {
     if unit == 0 {
         return Some(f.name);
     }
-    let name = f.unit.names.as_slice().get(unit as usize)?;
+    let name = f.names.get(unit as usize)?;
     Some(name.as_bytes())
 }
 
