@@ -11,3 +11,4 @@ pub mod Founds
 pub mod Stops
 pub mod Sizes
 pub mod Rows
+pub mod Steps

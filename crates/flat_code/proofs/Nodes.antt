@@ -66,6 +66,10 @@ and_then-next program choice f (Left loops s) = refl
 and_then-next program choice f (Returned s) = refl
 and_then-next program choice f (Over standing s) = refl
 
+pub run-end : (program : FlatProgram) (choice : Choice) (f : Frame) (s : State) → run program choice End f s ≡ Next s
+unfolding run
+run-end program choice f s = refl
+
 pub run-alone : (program : FlatProgram) (choice : Choice) (step : Step) (f : Frame) (s t : State) → t ≡ begun (step_size step) s → run program choice (Do step End) f s ≡ step_of program choice (run program choice) step f t
 run-alone program choice step f s t e =
     let o = step_of program choice (run program choice) step f (begun (step_size step) s) in

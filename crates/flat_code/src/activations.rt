@@ -9,7 +9,7 @@ ghost use Rattle.flat_code.specs.Running.{view_program, view_choice, view_run, F
 
 use crate::calls::{activation_bytes, frame_of};
 use crate::context::Interpreter;
-use crate::program::{Callee, runtime_callee, unit_of};
+use crate::program::{Callee, routine_of, runtime_callee, unit_of};
 use crate::state::{Flow, Run, Stop};
 use crate::statements::{around, then_next};
 use crate::tree::{Address, FlatExpr, FlatResult, FlatStmt};
@@ -105,8 +105,9 @@ impl Interpreter<'_> {
             state.spend()?;
             state.begin(1)?;
             let flow = self.run_list(state, f, body)?;
-            if let Some(flow) = around(flow) {
-                return Ok(flow);
+            match around(flow) {
+                None => {}
+                Some(flow) => return Ok(flow),
             }
         }
     }
@@ -177,7 +178,7 @@ impl Interpreter<'_> {
         let Some(unit) = unit_of(0, self.units, callee.name) else {
             return Err(Stop::Undefined(1));
         };
-        let Some(routine) = unit.routines.as_slice().get(callee.number as usize) else {
+        let Some(routine) = routine_of(unit, callee.number) else {
             return Err(Stop::Undefined(1));
         };
         self.admit(state, f, callee.name, routine, args)?;

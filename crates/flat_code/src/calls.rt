@@ -104,7 +104,8 @@ impl Interpreter<'_> {
         f: &Activation,
         args: &[FlatExpr],
     ) -> Result<Vec<u16>, Stop>
-        ensures { let t = begun (1 + exprs_size (view_exprs args.now)) (view_run state.old) in Leads (λ (values : Vec ℕ Global). values.items) result (view_run state.new) (λ go. with_found (values_of (view_choice self.now) (view_frame f.now) t.cells (view_exprs args.now)) t (λ values. spend t (go values))) }
+        ensures turn { OnOk result (state.new.turns < state.old.turns) }
+        ensures leads { let t = begun (1 + exprs_size (view_exprs args.now)) (view_run state.old) in Leads (λ (values : Vec ℕ Global). values.items) result (view_run state.new) (λ go. with_found (values_of (view_choice self.now) (view_frame f.now) t.cells (view_exprs args.now)) t (λ values. spend t (go values))) }
     {
         state.begin(1)?;
         state.begin_exprs(args)?;

@@ -3,6 +3,7 @@
 ghost use Rattle.std.specs.Prelude.{◌≡◌, ℕ, ◌+◌, ◌*◌, ◌^◌, ◌<◌, ◌≤◌, List, map, length, slice_get};
 ghost use Rattle.std.specs.Option.{option_map, option_and_then};
 ghost use Rattle.std.specs.Borrow.{Bor};
+ghost use Rattle.flat_code.specs.declared.unit.FlatRoutine.{FlatRoutine};
 ghost use Rattle.flat_code.specs.declared.unit.FlatUnit.{FlatUnit};
 ghost use Rattle.flat_code.specs.Program.{Routine, runtime_key};
 ghost use Rattle.flat_code.specs.Plain.{
@@ -208,6 +209,13 @@ pub fn unit_of<'a>(at: usize, units: &'a [FlatUnit], name: &[u8]) -> Option<&'a 
             }
         }
     }
+}
+
+/// The routine with a number in a unit.
+pub fn routine_of(unit: &FlatUnit, number: u32) -> Option<&FlatRoutine>
+    ensures { option_map (λ (routine : Bor FlatRoutine). view_routine routine.now) result ≡ slice_get (map view_routine unit.now.routines) number }
+{
+    unit.routines.as_slice().get(number as usize)
 }
 
 /// A routine, by its unit's name and its number there.

@@ -144,6 +144,7 @@ impl Run<'_> {
     /// Spends a turn, where one is left.
     pub fn spend(&mut self) -> Result<(), Stop>
         ensures ok { OnOk result (view_run self.old ≡ record (view_run self.new) { turns = suc self.new.turns }) }
+        ensures turn { OnOk result (suc self.new.turns ≡ self.old.turns) }
         ensures err { IfErr result (λ stop. (stop ≡ Stop.Going) × (self.old.turns ≡ 0) × (view_run self.new ≡ view_run self.old)) }
     {
         if self.turns == 0 {
