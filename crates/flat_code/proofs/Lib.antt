@@ -8,6 +8,7 @@ pub mod Regions
 pub mod Shut
 pub mod Loops
 pub mod Founds
+pub mod Laid
 pub mod Stops
 pub mod Sizes
 pub mod Rows

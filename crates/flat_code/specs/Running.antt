@@ -1,7 +1,8 @@
 -- The interpreter's states and answers as values.
 use Rattle.std.specs.Prelude.{◌≡◌, ℕ, List, Option, Some, None, map, Result, Ok, Err}
-use Rattle.behaviour.specs.Seen.{Standing, Ended, Going, Undefined}
+use Rattle.behaviour.specs.Seen.{Standing, Ended, Going, Undefined, Seen}
 use Rattle.flat_code.specs.declared.context.Interpreter.{Interpreter}
+use Rattle.flat_code.specs.declared.start.Meaning.{Meaning}
 use Rattle.flat_code.specs.declared.state.Run.{Run}
 use Rattle.flat_code.specs.declared.state.Flow.{Flow}
 use Rattle.flat_code.specs.declared.state.Flow.TheVariants as flow
@@ -89,3 +90,11 @@ Leads {A} {B} view (Err stop) s o = (go : B → State → Outcome) → Stops sto
 abbrev pub Admits : FlatProgram → Choice → Name → List ℕ → Frame → State → Routine → Result (Unit {0}) Stop → Type 0
 Admits program choice name args f s r (Ok done) = (again : Does) (unit : UnitCode) (wanted : Option FlatResult) → entered program choice again name unit args wanted f s r ≡ activated choice again name unit r args wanted f s
 Admits program choice name args f s r (Err stop) = (again : Does) (unit : UnitCode) (wanted : Option FlatResult) → Stops stop s (entered program choice again name unit args wanted f s r)
+
+-- the interpreter ran all that was to be run, or stopped before
+abbrev pub EndsAll : Result (Unit {0}) Stop → State → Outcome → Type 0
+EndsAll (Ok done) s o = o ≡ Over (Ended 0) s
+EndsAll (Err stop) s o = Stops stop s o
+
+abbrev pub view_meaning : Meaning → Seen
+view_meaning meaning = record { out = meaning.out; err = meaning.err; end = view_end meaning.end }

@@ -123,7 +123,7 @@ impl Interpreter<'_> {
     ) -> Result<Callee<'a>, Stop>
         ensures { Leads view_callee result (view_run state.now) (λ go. with_found (key_of (view_frame f.now) routine.unit routine.number) (view_run state.now) (λ key. go key (view_run state.now))) }
     {
-        let name = named(f, routine.unit).ok_or(Trap::Bad(2))?;
+        let name = named(f.name, f.names, routine.unit).ok_or(Trap::Bad(2))?;
         Ok(Callee {
             name,
             number: routine.number,

@@ -8,6 +8,7 @@ use std::alloc::Global;
 use type_layout::Name;
 
 /// A program's units, the names of the overlaid ones, and the bytes of its stack and heap.
+#[derive(Drop)]
 pub struct Interpreter<'a> {
     pub alloc: Global,
     pub units: &'a [FlatUnit],

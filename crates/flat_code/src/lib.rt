@@ -13,6 +13,7 @@ mod context;
 mod memory;
 mod program;
 mod activations;
+mod start;
 mod state;
 mod statements;
 #[cfg(test)]
@@ -24,6 +25,7 @@ mod value;
 pub use memory::{ADDRESSES, Cell, Memory, Place, Trap};
 pub use program::{Callee, callee_of, datum_of, far_of, name_at, runtime_callee, unit_of, vmt_of};
 pub use context::Interpreter;
+pub use start::{Meaning, flat_mean};
 pub use state::{Flow, MeanEnd, Run, Stop};
 pub use tree::{Address, FlatExpr, FlatExprs, FlatList, FlatOp, FlatResult, FlatStmt};
 pub use unit::{

@@ -226,11 +226,10 @@ impl Memory {
 
     /// Lays bytes from a place on, whatever stood there.
     pub fn lay(&mut self, place: Place, bytes: &[u8])
-        requires { length bytes.now < 65536 }
         ensures { cells_of self.new.cells.items ≡ laid (cells_of self.old.cells.items) place 0 bytes.now }
     {
         'bytes: for (i, byte) in bytes.iter().enumerate() {
-            self.set(place.address(i as u16), Cell::Known(*byte));
+            self.set(place.address((i % 0x1_0000) as u16), Cell::Known(*byte));
         }
     }
 

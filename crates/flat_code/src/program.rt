@@ -36,7 +36,8 @@ use crate::unit::{FlatDatum, FlatRoutine, FlatUnit, FlatVmt};
 
 /// What a unit is called that stands at a place of the list: the first three are the runtime's.
 pub fn name_at(at: usize, unit: &FlatUnit) -> &[u8]
-    ensures { result.now ≡ name_at at (view_unit unit.now) }
+    ensures value { result.now ≡ name_at at (view_unit unit.now) }
+    ensures short { length result.now ≤ 63 }
 {
     match at {
         0 => b".TEXT",
@@ -64,7 +65,7 @@ fn vmt_size(vmt: &FlatVmt) -> u32
 }
 
 // The offset of a datum of a list that begins at `start`.
-fn datum_from(start: u32, list: &[FlatDatum], number: u32) -> Option<u16>
+fn datum_from(start: u32, list: &[FlatDatum], number: usize) -> Option<u16>
     requires { start + data_size (map view_datum list.now) < 65536 }
     ensures { result ≡ datum_from start (map view_datum list.now) number }
 {
@@ -81,7 +82,7 @@ fn datum_from(start: u32, list: &[FlatDatum], number: u32) -> Option<u16>
 }
 
 // The offset of a virtual method table of a list that begins at `start`.
-fn vmt_from(start: u32, list: &[FlatVmt], number: u32) -> Option<u16>
+fn vmt_from(start: u32, list: &[FlatVmt], number: usize) -> Option<u16>
     requires { start + vmts_size (map view_vmt list.now) < 65536 }
     ensures { result ≡ vmt_from start (map view_vmt list.now) number }
 {
@@ -125,7 +126,7 @@ fn unit_size(unit: &FlatUnit) -> u32
 }
 
 /// The offset of a datum, by its unit's name and its number there.
-pub fn datum_of(at: usize, start: u32, units: &[FlatUnit], name: &[u8], number: u32) -> Option<u16>
+pub fn datum_of(at: usize, start: u32, units: &[FlatUnit], name: &[u8], number: usize) -> Option<u16>
     requires few { at + length units.now < 65536 }
     requires small { start + units_size (map view_unit units.now) < 65536 }
     ensures { result ≡ datum_of at start (map view_unit units.now) name.now number }
@@ -143,7 +144,7 @@ pub fn datum_of(at: usize, start: u32, units: &[FlatUnit], name: &[u8], number: 
 }
 
 /// The offset of a virtual method table, by its unit's name and its number there.
-pub fn vmt_of(at: usize, start: u32, units: &[FlatUnit], name: &[u8], number: u32) -> Option<u16>
+pub fn vmt_of(at: usize, start: u32, units: &[FlatUnit], name: &[u8], number: usize) -> Option<u16>
     requires few { at + length units.now < 65536 }
     requires small { start + units_size (map view_unit units.now) < 65536 }
     ensures { result ≡ vmt_of at start (map view_unit units.now) name.now number }

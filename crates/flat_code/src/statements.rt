@@ -23,8 +23,8 @@ pub fn word_bytes(word: u16) -> [u8; 2]
     [low_byte(word), high_byte(word)]
 }
 
-// The bytes of a far pointer.
-fn far_bytes(place: Place) -> [u8; 4]
+/// The bytes of a far pointer, its offset first.
+pub fn far_bytes(place: Place) -> [u8; 4]
     ensures { result ≡ far_bytes place }
 {
     [

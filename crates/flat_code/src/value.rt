@@ -113,14 +113,14 @@ fn rest(x: u16, y: u16) -> Result<u16, Trap>
     Ok(x % y)
 }
 
-// The name of a unit by its place in the names of the running routine's unit.
-pub fn named<'a>(f: &Activation<'a>, unit: u32) -> Option<&'a [u8]>
-    ensures { option_copied result ≡ named f.now.name.now f.now.names.now unit }
+/// The name of a unit by its place in the names of a unit, the first of which is the unit itself.
+pub fn named<'a>(own: &'a [u8], names: &'a [Name], unit: u32) -> Option<&'a [u8]>
+    ensures { option_copied result ≡ named own.now names.now unit }
 {
     if unit == 0 {
-        return Some(f.name);
+        return Some(own);
     }
-    let name = f.names.get(unit as usize)?;
+    let name = names.get(unit as usize)?;
     Some(name.as_bytes())
 }
 
@@ -154,8 +154,8 @@ fn datum_place(units: &[FlatUnit], f: &Activation, unit: u32, number: u32) -> Re
     requires small { units_size (map view_unit units.now) ≤ 65520 }
     ensures { result ≡ datum_place (choice_of (map view_unit units.now)) (view_frame f.now) unit number }
 {
-    let name = named(f, unit).ok_or(Trap::Bad(2))?;
-    let offset = datum_of(0, 0, units, name, number).ok_or(Trap::Bad(2))?;
+    let name = named(f.name, f.names, unit).ok_or(Trap::Bad(2))?;
+    let offset = datum_of(0, 0, units, name, number as usize).ok_or(Trap::Bad(2))?;
     Ok(Place {
         segment: DATA_SEGMENT,
         offset,
@@ -168,8 +168,8 @@ fn vmt_offset(units: &[FlatUnit], f: &Activation, unit: u32, number: u32) -> Res
     requires small { units_size (map view_unit units.now) ≤ 65520 }
     ensures { result ≡ vmt_offset (choice_of (map view_unit units.now)) (view_frame f.now) unit number }
 {
-    let name = named(f, unit).ok_or(Trap::Bad(2))?;
-    vmt_of(0, 0, units, name, number).ok_or(Trap::Bad(2))
+    let name = named(f.name, f.names, unit).ok_or(Trap::Bad(2))?;
+    vmt_of(0, 0, units, name, number as usize).ok_or(Trap::Bad(2))
 }
 
 /// The far pointer to a routine.
@@ -182,7 +182,7 @@ pub fn routine_pointer(
     requires few { length units.now ≤ 4096 }
     ensures { result ≡ routine_pointer (choice_of (map view_unit units.now)) (view_frame f.now) unit number }
 {
-    let name = named(f, unit).ok_or(Trap::Bad(2))?;
+    let name = named(f.name, f.names, unit).ok_or(Trap::Bad(2))?;
     far_of(0, units, name, number).ok_or(Trap::Bad(2))
 }
 
