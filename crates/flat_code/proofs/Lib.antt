@@ -13,3 +13,4 @@ pub mod Stops
 pub mod Sizes
 pub mod Rows
 pub mod Steps
+pub mod Given

@@ -1,9 +1,9 @@
 -- A loop by an invariant: the turns that are left fall at each run of the body, so every run of the loop is covered.
-use Rattle.std.proofs.Common.{◌≡◌, ℕ, zero, suc, ◌+◌, ◌<◌, ◌≤◌, refl, sym, ap, subst, ◌∙◌, arith}
-use Rattle.behaviour.specs.Seen.{Standing, Going}
+use Rattle.std.proofs.Common.{◌≡◌, ℕ, zero, suc, ◌<◌, ◌≤◌, refl, sym, subst, ◌∙◌, arith}
+use Rattle.behaviour.specs.Seen.{Going}
 use Rattle.flat_code.specs.Tree.{Code, End, Loop}
 use Rattle.flat_code.specs.Program.{FlatProgram, Choice}
-use Rattle.flat_code.specs.Meaning.{Frame, State, Outcome, Next, Left, Returned, Over, and_then, spent, spend, begun, looped, run}
+use Rattle.flat_code.specs.Meaning.{Frame, State, Outcome, Next, Left, Returned, Over, spent, spend, begun, looped, run}
 use Rattle.flat_code.proofs.After.{After, after_run}
 use Rattle.flat_code.proofs.More.{Falls, falls}
 use Rattle.flat_code.proofs.Nodes.{and_then-next, run-loop}

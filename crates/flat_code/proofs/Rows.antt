@@ -1,5 +1,5 @@
 -- Lists of statements inside a statement, as the vectors that hold them.
-use Rattle.std.proofs.Common.{◌≡◌, ℕ, List, [], ◌∷◌, refl, sym, ap, ◌∙◌, Vec, Global}
+use Rattle.std.proofs.Common.{◌≡◌, refl, ap, ◌∙◌, Vec, Global}
 use Rattle.flat_code.specs.declared.tree.FlatExpr.{FlatExpr}
 use Rattle.flat_code.specs.declared.tree.FlatStmt.{FlatStmt, Row_of-FlatStmt, end_of-FlatStmt, more_of-FlatStmt, items-the_row-FlatStmt, items_hidden-the_row-FlatStmt-0}
 use Rattle.flat_code.specs.declared.tree.FlatStmt.TheVariants as st

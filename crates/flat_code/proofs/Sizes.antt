@@ -1,9 +1,9 @@
 -- How large statements and programs are: what is left to run falls by this.
-use Rattle.std.proofs.Common.{◌≡◌, ℕ, zero, suc, ◌+◌, ◌*◌, ◌≤◌, ◌<◌, List, [], ◌∷◌, length, get_or, Option, Some, None, refl, ap, ◌∙◌, arith}
+use Rattle.std.proofs.Common.{◌≡◌, ℕ, zero, suc, ◌+◌, ◌*◌, ◌≤◌, ◌<◌, List, [], ◌∷◌, length, get_or, Option, Some, ap, ◌∙◌, arith}
 use Rattle.std.specs.Prelude.{slice_get, if◌then◌else◌, true, false, Bool}
 use Rattle.flat_code.specs.declared.tree.FlatStmt.{FlatStmt}
 use Rattle.type_layout.specs.Words.{same_bytes}
-use Rattle.flat_code.specs.Tree.{Step, Code, End, Do, If, Loop, ◌then◌}
+use Rattle.flat_code.specs.Tree.{Code, End, Do, If, Loop, ◌then◌}
 use Rattle.flat_code.specs.View.{view_stmt, view_list}
 use Rattle.flat_code.specs.Program.{Name, Routine, UnitCode}
 use Rattle.flat_code.specs.Plain.{name_at, unit_from}

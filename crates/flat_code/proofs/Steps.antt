@@ -1,5 +1,5 @@
 -- Steps of the interpreter over lists, tests, loops and calls.
-use Rattle.std.proofs.Common.{◌≡◌, ℕ, zero, suc, ◌+◌, ◌≤◌, ◌<◌, List, [], ◌∷◌, length, get_or, drop, Option, Some, slice_get, refl, sym, ap, subst, ◌∙◌, add-one, arith}
+use Rattle.std.proofs.Common.{◌≡◌, ℕ, zero, suc, ◌+◌, ◌≤◌, ◌<◌, List, ◌∷◌, length, get_or, drop, Option, Some, slice_get, refl, sym, ap, subst, ◌∙◌, arith}
 use Rattle.std.proofs.Math.Seq.{drop-cons}
 use Rattle.behaviour.specs.Seen.{Going}
 use Rattle.flat_code.specs.declared.tree.FlatStmt.{FlatStmt}
@@ -8,10 +8,10 @@ use Rattle.flat_code.specs.declared.state.Flow.{Flow}
 use Rattle.flat_code.specs.declared.state.Flow.TheVariants as flow
 use Rattle.flat_code.specs.declared.state.Stop.{Stop}
 use Rattle.flat_code.specs.declared.state.Stop.TheVariants as stops
-use Rattle.flat_code.specs.Tree.{Expr, expr_size, Code, End, Do, If, Loop, ◌then◌}
+use Rattle.flat_code.specs.Tree.{Expr, expr_size, Code, End, If, Loop}
 use Rattle.flat_code.specs.View.{view_stmt, view_list}
 use Rattle.flat_code.specs.Program.{Key, Routine, UnitCode, FlatProgram, Choice, runtime_key}
-use Rattle.flat_code.specs.Meaning.{Frame, State, Outcome, Next, Over, and_then, spend, with_found, begun, looped, chosen, value_of, Does, with_some, entered, entered_at, called, runtime_of, run}
+use Rattle.flat_code.specs.Meaning.{Frame, State, Outcome, Over, and_then, spend, with_found, begun, looped, chosen, value_of, Does, with_some, entered, entered_at, called, runtime_of, run}
 use Rattle.flat_code.specs.Running.{outcome_of, forget, Stops}
 use Rattle.flat_code.proofs.After.{After, after_run}
 use Rattle.flat_code.proofs.More.{Falls, falls}

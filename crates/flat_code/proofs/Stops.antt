@@ -1,6 +1,6 @@
 -- A run that stopped passes by what would have come after it.
-use Rattle.std.proofs.Common.{◌≡◌, ℕ, zero, suc, ◌++◌, List, Option, refl, sym, ap, subst, ◌∙◌}
-use Rattle.std.specs.Prelude.{◌%◌, Ok, Err}
+use Rattle.std.proofs.Common.{◌≡◌, ℕ, zero, suc, ◌++◌, refl, sym, ap, subst, ◌∙◌}
+use Rattle.std.specs.Prelude.{◌%◌, Err}
 use Rattle.behaviour.specs.Seen.{Standing, Ended, Going, Undefined}
 use Rattle.flat_code.specs.declared.memory.Cell.TheVariants.{Outside}
 use Rattle.flat_code.specs.declared.memory.Trap.{Trap}

@@ -7,3 +7,4 @@ pub mod Legal
 pub mod Laws
 pub mod Plain
 pub mod Running
+pub mod Gives

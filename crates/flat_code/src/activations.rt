@@ -20,12 +20,7 @@ use type_layout::RoutineId;
 impl Interpreter<'_> {
     /// Runs statements in order.
     #[cycle(run)]
-    pub fn run_list(
-        &self,
-        state: &mut Run,
-        f: &Activation,
-        list: &[FlatStmt],
-    ) -> Result<Flow, Stop>
+    pub fn run_list(&self, state: &mut Run, f: &Activation, list: &[FlatStmt]) -> Result<Flow, Stop>
         ensures { Flows result (view_run state.new) (run (view_program self.now) (view_choice self.now) (view_list list.now) (view_frame f.now) (view_run state.old)) }
     {
         'statements: for statement in list {
@@ -52,7 +47,13 @@ impl Interpreter<'_> {
             FlatStmt::StoreByte { to, value } => self.store_byte(state, f, *to, value),
             FlatStmt::StoreWord { to, value } => self.store_word(state, f, *to, value),
             FlatStmt::Copy { to, from, bytes } => self.copy(state, f, *to, *from, *bytes),
-            FlatStmt::If { test, yes, no } => self.choose(state, f, test, yes.as_slice(), no.as_slice()),
+            FlatStmt::If { test, yes, no } => self.choose(
+                state,
+                f,
+                test,
+                yes.as_slice(),
+                no.as_slice(),
+            ),
             FlatStmt::Loop(body) => self.repeat(state, f, body.as_slice()),
             FlatStmt::Leave { loops } => self.leave(state, f, *loops),
             FlatStmt::Call {

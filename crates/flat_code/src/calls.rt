@@ -157,9 +157,7 @@ impl Interpreter<'_> {
             return Ok(Ok(Vec::new(self.alloc)));
         };
         match place_of(self.units, f, &state.memory, own.at) {
-            Ok(place) => state
-                .memory
-                .bytes(self.alloc, place, u16::from(own.bytes)),
+            Ok(place) => state.memory.bytes(self.alloc, place, u16::from(own.bytes)),
             Err(trap) => Ok(Err(trap)),
         }
     }
@@ -237,7 +235,8 @@ impl Interpreter<'_> {
     {
         state.memory.push(STACK_SEGMENT, f.sp, args);
         let low = u32::from(f.sp) - activation_bytes(routine) as u32;
-        state.memory
+        state
+            .memory
             .fill(STACK_SEGMENT, low, routine.locals, Cell::Unset);
     }
 

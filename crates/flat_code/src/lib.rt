@@ -1,4 +1,4 @@
-//! Flat code: structured code over bytes, what it means, and the parts of an interpreter.
+//! Flat code: structured code over bytes, what it means, and its interpreter.
 #![tactic(auto)]
 
 ghost use Rattle.std.specs.Prelude.{ℕ, List};
@@ -8,11 +8,11 @@ ghost use Rattle.flat_code.specs.Program.{FlatProgram, Choice};
 ghost use Rattle.flat_code.specs.Meaning.{Frame, State, run, flat_run};
 ghost use Rattle.flat_code.specs.Laws.{NodeLaws, StaysShut};
 
+mod activations;
 mod calls;
 mod context;
 mod memory;
 mod program;
-mod activations;
 mod start;
 mod state;
 mod statements;
@@ -22,9 +22,11 @@ mod tree;
 mod unit;
 mod value;
 
-pub use memory::{ADDRESSES, Cell, Memory, Place, Trap};
-pub use program::{Callee, callee_of, datum_of, far_of, name_at, runtime_callee, unit_of, vmt_of};
 pub use context::Interpreter;
+pub use memory::{ADDRESSES, Cell, Memory, Place, Trap};
+pub use program::{
+    Callee, callee_of, datum_of, far_of, fits, name_at, runtime_callee, unit_of, vmt_of,
+};
 pub use start::{Meaning, flat_mean};
 pub use state::{Flow, MeanEnd, Run, Stop};
 pub use tree::{Address, FlatExpr, FlatExprs, FlatList, FlatOp, FlatResult, FlatStmt};

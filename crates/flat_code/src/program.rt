@@ -1,6 +1,6 @@
 //! The program that a list of units makes, and where its parts lie.
 
-ghost use Rattle.std.specs.Prelude.{◌≡◌, ℕ, ◌+◌, ◌*◌, ◌^◌, ◌<◌, ◌≤◌, List, map, length, slice_get};
+ghost use Rattle.std.specs.Prelude.{◌≡◌, ◌↔◌, IsTrue, MatchOption, ℕ, ◌+◌, ◌*◌, ◌^◌, ◌<◌, ◌≤◌, List, map, length, slice_get};
 ghost use Rattle.std.specs.Option.{option_map, option_and_then};
 ghost use Rattle.std.specs.Borrow.{Bor};
 ghost use Rattle.flat_code.specs.declared.unit.FlatRoutine.{FlatRoutine};
@@ -125,8 +125,67 @@ fn unit_size(unit: &FlatUnit) -> u32
     data_size(unit.globals.as_slice()) + vmts_size(unit.vmts.as_slice())
 }
 
+// What is left of some room after data, each rounded up to even.
+fn room_after_data(room: u32, list: &[FlatDatum]) -> Option<u32>
+    ensures { MatchOption result (room < data_size (map view_datum list.now)) (λ left. left + data_size (map view_datum list.now) ≡ room) }
+{
+    match list {
+        [] => Some(room),
+        [datum, rest @ ..] => {
+            let odd = datum.size % 2;
+            if room < odd || room - odd < datum.size {
+                return None;
+            }
+            room_after_data(room - odd - datum.size, rest)
+        }
+    }
+}
+
+// What is left of some room after virtual method tables.
+fn room_after_vmts(room: u32, list: &[FlatVmt]) -> Option<u32>
+    ensures { MatchOption result (room < vmts_size (map view_vmt list.now)) (λ left. left + vmts_size (map view_vmt list.now) ≡ room) }
+{
+    match list {
+        [] => Some(room),
+        [vmt, rest @ ..] => {
+            let slots = vmt.slots.len();
+            if (room / 4) as usize <= slots {
+                return None;
+            }
+            room_after_vmts(room - 4 - 4 * slots as u32, rest)
+        }
+    }
+}
+
+fn room_after_units(room: u32, units: &[FlatUnit]) -> Option<u32>
+    ensures { MatchOption result (room < units_size (map view_unit units.now)) (λ left. left + units_size (map view_unit units.now) ≡ room) }
+{
+    match units {
+        [] => Some(room),
+        [unit, rest @ ..] => {
+            let room = room_after_data(room, unit.globals.as_slice())?;
+            let room = room_after_vmts(room, unit.vmts.as_slice())?;
+            room_after_units(room, rest)
+        }
+    }
+}
+
+/// Whether there are at most 4,096 units, and their data and virtual method tables take at most
+/// 65,520 bytes.
+pub fn fits(units: &[FlatUnit]) -> bool
+    ensures { IsTrue result ↔ (length units.now ≤ 4096) × (units_size (map view_unit units.now) ≤ 65520) }
+{
+    units.len() <= 4096 && room_after_units(65520, units).is_some()
+}
+
 /// The offset of a datum, by its unit's name and its number there.
-pub fn datum_of(at: usize, start: u32, units: &[FlatUnit], name: &[u8], number: usize) -> Option<u16>
+pub fn datum_of(
+    at: usize,
+    start: u32,
+    units: &[FlatUnit],
+    name: &[u8],
+    number: usize,
+) -> Option<u16>
     requires few { at + length units.now < 65536 }
     requires small { start + units_size (map view_unit units.now) < 65536 }
     ensures { result ≡ datum_of at start (map view_unit units.now) name.now number }

@@ -133,12 +133,7 @@ impl Interpreter<'_> {
     }
 
     // The bytes of a virtual method table.
-    fn vmt_bytes(
-        &self,
-        name: &[u8],
-        names: &[Name],
-        vmt: &FlatVmt,
-    ) -> Result<Vec<u8>, AllocError>
+    fn vmt_bytes(&self, name: &[u8], names: &[Name], vmt: &FlatVmt) -> Result<Vec<u8>, AllocError>
         ensures { IfOk result (λ bytes. bytes.items ≡ vmt_bytes (view_choice self.now) name.now names.now (view_vmt vmt.now)) }
     {
         let mut bytes = Vec::from_slice(self.alloc, &word_bytes(vmt.size))?;
@@ -211,7 +206,11 @@ impl Interpreter<'_> {
         let segment = word_bytes(HEAP_SEGMENT);
         self.lay_at(memory, datum_of(0, 0, self.units, b"OVERLAY", 1), &segment);
         self.lay_at(memory, datum_of(0, 0, self.units, b"OVERLAY", 2), &heap);
-        self.lay_at(memory, datum_of(0, 0, self.units, b"OVERLAY", 3), ovr_name.as_slice());
+        self.lay_at(
+            memory,
+            datum_of(0, 0, self.units, b"OVERLAY", 3),
+            ovr_name.as_slice(),
+        );
         Ok(())
     }
 

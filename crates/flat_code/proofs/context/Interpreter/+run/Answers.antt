@@ -1,10 +1,10 @@
-use Rattle.std.proofs.Common.{◌≡◌, ℕ, ◌+◌, ◌<◌, ◌≤◌, List, [], drop, length, map, suc, refl, sym, ap, subst, ◌∙◌, arith}
+use Rattle.std.proofs.Common.{◌≡◌, ℕ, ◌+◌, ◌<◌, List, [], drop, map, refl, sym, ap, subst, ◌∙◌, arith}
 use Rattle.std.proofs.lemmas.Result.{err_from_is_err_and}
 use Rattle.std.proofs.lemmas.List.{drop_all}
 use Rattle.flat_code.specs.declared.tree.FlatStmt.{FlatStmt}
 use Rattle.flat_code.specs.declared.state.Flow.{Flow}
 use Rattle.flat_code.specs.Memory.{Found}
-use Rattle.flat_code.specs.Tree.{expr_size, exprs_size, Call, CallThrough, Runtime, Code, End, Do, If, Loop}
+use Rattle.flat_code.specs.Tree.{expr_size, exprs_size, Call, CallThrough, Runtime, Code, End, If, Loop}
 use Rattle.flat_code.specs.View.{view_expr, view_exprs, view_stmt, view_list}
 use Rattle.flat_code.specs.Program.{Key}
 use Rattle.flat_code.specs.Meaning.{State, Outcome, with_found, with_some, begun, chosen, looped, and_then, value_of, key_of, pointer_at, called, runtime_of, run}
@@ -152,8 +152,8 @@ call_runtime-returns t c =
     let key = view_callee c.runtime_callee-callee.result in
     let on : Key → Outcome = λ key. called program choice (run program choice) c.as_slice-2.result.now c.args.wanted f u key in
     let e = alone ∙ c.in_ok-values.ensures.leads go ∙ ap (λ (values : List ℕ). go values u) given
-        ∙ runtime-routine program choice (run program choice) c.args.number c.as_slice-2.result.now c.args.wanted f u c.if-number-lt5.false
-        ∙ ap on (sym c.runtime_callee-callee.ensures) in
+    ∙ runtime-routine program choice (run program choice) c.args.number c.as_slice-2.result.now c.args.wanted f u c.if-number-lt5.false
+    ∙ ap on (sym c.runtime_callee-callee.ensures) in
     subst (λ (o : Outcome). Flows c.then_next-2.result v o) (sym e) (c.then_next-2.ensures v (on key) c.call.ensures)
 
 pub call_through-returns-in_err-values : goal.call_through-returns-in_err-values

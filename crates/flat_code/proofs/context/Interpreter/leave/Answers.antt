@@ -1,4 +1,4 @@
-use Rattle.std.proofs.Common.{ap, ◌∙◌}
+use Rattle.std.proofs.Common.{◌∙◌}
 use Rattle.flat_code.specs.Tree.{Leave}
 use Rattle.flat_code.specs.Plain.{view_frame}
 use Rattle.flat_code.specs.Running.{view_program, view_choice, view_run}

@@ -1,4 +1,3 @@
-use Rattle.std.proofs.Common.{ap, ◌∙◌}
 use Rattle.flat_code.specs.Tree.{Return}
 use Rattle.flat_code.specs.Plain.{view_frame}
 use Rattle.flat_code.specs.Running.{view_program, view_choice, view_run}
