@@ -1,0 +1,16 @@
+pub mod After
+pub mod Copies
+pub mod More
+pub mod Whole
+pub mod Nodes
+pub mod Turns
+pub mod Regions
+pub mod Shut
+pub mod Loops
+pub mod Founds
+pub mod Laid
+pub mod Stops
+pub mod Sizes
+pub mod Rows
+pub mod Steps
+pub mod Given

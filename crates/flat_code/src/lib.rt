@@ -1,0 +1,45 @@
+//! Flat code: structured code over bytes, what it means, and its interpreter.
+#![tactic(auto)]
+
+ghost use Rattle.std.specs.Prelude.{ℕ, List};
+ghost use Rattle.behaviour.specs.Seen.{IsRun};
+ghost use Rattle.flat_code.specs.Tree.{Code};
+ghost use Rattle.flat_code.specs.Program.{FlatProgram, Choice};
+ghost use Rattle.flat_code.specs.Meaning.{Frame, State, run, flat_run};
+ghost use Rattle.flat_code.specs.Laws.{NodeLaws, StaysShut};
+
+mod activations;
+mod calls;
+mod context;
+mod memory;
+mod program;
+mod start;
+mod state;
+mod statements;
+#[cfg(test)]
+mod tests;
+mod tree;
+mod unit;
+mod value;
+
+pub use context::Interpreter;
+pub use memory::{ADDRESSES, Cell, Memory, Place, Trap};
+pub use program::{
+    Callee, callee_of, datum_of, far_of, fits, name_at, runtime_callee, unit_of, vmt_of,
+};
+pub use start::{Meaning, flat_mean};
+pub use state::{Flow, MeanEnd, Run, Stop};
+pub use tree::{Address, FlatExpr, FlatExprs, FlatList, FlatOp, FlatResult, FlatStmt};
+pub use unit::{
+    FlatData, FlatDatum, FlatRoutine, FlatRoutines, FlatUnit, FlatVmt, FlatVmts, RoutineIds,
+};
+pub use value::{Activation, place_of, routine_pointer, value_of};
+
+/// The laws of flat code: greater numbers of turns change nothing of a run that is over and only
+/// add to what was written; the meaning of each node is that of its parts; and what can't be reached
+/// as statements begin can't be reached after them. It does nothing.
+pub fn flat_laws()
+    ensures runs { (program : FlatProgram) (choice : Choice) (input : List ℕ) → IsRun (λ turns. (flat_run program choice input turns).seen) }
+    ensures nodes { (program : FlatProgram) (choice : Choice) → NodeLaws program choice }
+    ensures shut { (program : FlatProgram) (choice : Choice) (code : Code) (f : Frame) (s : State) → StaysShut s (run program choice code f s) }
+{}
