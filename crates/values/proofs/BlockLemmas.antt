@@ -1,7 +1,8 @@
 -- The rows of blocks count a history, and what their sum is.
-use Rattle.std.proofs.Common.{◌≡◌, ◌≢◌, ℕ, zero, suc, ◌+◌, ◌-◌, ◌*◌, ◌<◌, ◌≤◌, max, Bool, true, false, cond, List, [], ◌∷◌, refl, sym, ap, ◌∙◌, subst, arith, ltb, eqb}
-use Rattle.std.specs.List.{AllByRecursion}
+use Rattle.std.proofs.Common.{◌≡◌, ◌≢◌, ℕ, zero, suc, ◌+◌, ◌-◌, ◌*◌, ◌<◌, ◌≤◌, max, Bool, true, false, not, cond, List, [], ◌∷◌, ◌++◌, length, get_or, set, Option, Some, None, refl, sym, ap, ◌∙◌, subst, arith, ltb, eqb}
+use Rattle.std.specs.List.{AllByRecursion, position, position_or_len}
 use Rattle.std.proofs.lemmas.Bool.{eqb-true, eqb-false, ne_eqb, ltb-true, ltb-false, lt-ltb, eq-eqb}
+use Rattle.std.proofs.lemmas.List.Quantifiers.{position-Some}
 use Rattle.std.proofs.lemmas.List.Sums.{sum_by-cons}
 use Rattle.values.specs.declared.blocks.Row.{Row}
 use Rattle.values.specs.Blocks.{row_bytes, block_sum, first_block, with_one_more, with_one_less, with_block, without_block, live_of, most_of}
@@ -205,3 +206,60 @@ again size rows h some =
 
 pub sum_laws : SumLaws
 sum_laws = record { grows = grows; stays = stays; again = again }
+
+-- ---- the row of a size
+
+pub record IsAtPlace (size : ℕ) (rows : List Row) (i : ℕ) (d : Row) : Type 0 where
+  pub live : live_of size rows ≡ (get_or rows i d).live
+  pub most : most_of size rows ≡ (get_or rows i d).most
+  pub more : with_block size rows ≡ set rows i (with_one_more (get_or rows i d))
+  pub less : without_block size rows ≡ set rows i (with_one_less (get_or rows i d))
+
+at_place : (size : ℕ) (rows : List Row) (i : ℕ) (d : Row) → i < length rows → eqb (get_or rows i d).size size ≡ true → ((k : ℕ) → k < i → eqb (get_or rows k d).size size ≡ false) → IsAtPlace size rows i d
+at_place size [] i d h e f = absurd (omega arith)
+at_place size (row ∷ rows) zero d h e f = record { live = rw e refl; most = rw e refl; more = rw e refl; less = rw e refl }
+at_place size (row ∷ rows) (suc i) d h e f =
+    let other : eqb row.size size ≡ false = f 0 (omega arith) in
+    let rest = at_place size rows i d (omega arith) e (λ k l. f (suc k) (omega arith)) in
+    record {
+      live = rw other rest.live;
+      most = rw other rest.most;
+      more = rw other (ap (λ (l : List Row). row ∷ l) rest.more);
+      less = rw other (ap (λ (l : List Row). row ∷ l) rest.less);
+    }
+
+pub placed : (size : ℕ) (rows : List Row) (i : ℕ) (d : Row) → position (λ row. eqb row.size size) rows ≡ Some i → IsAtPlace size rows i d
+placed size rows i d e =
+    let p = position-Some (λ (row : Row). eqb row.size size) rows i d e in
+    at_place size rows i d p.0 p.1 p.2
+
+pub within : (size : ℕ) (rows : List Row) (i : ℕ) → position (λ row. eqb row.size size) rows ≡ Some i → i < length rows
+within size rows i e = (position-Some (λ (row : Row). eqb row.size size) rows i (first_block 0) e).0
+
+pub record IsNowhere (size : ℕ) (rows : List Row) : Type 0 where
+  pub live : live_of size rows ≡ 0
+  pub most : most_of size rows ≡ 0
+  pub more : with_block size rows ≡ rows ++ first_block size ∷ []
+  pub less : without_block size rows ≡ rows
+
+nowhere_by : (size : ℕ) (row : Row) (rows : List Row) (v : Bool) → eqb row.size size ≡ v → suc (length rows) ≤ cond (not v) (1 + position_or_len (λ (r : Row). eqb r.size size) rows) 0 → (length rows ≤ position_or_len (λ (r : Row). eqb r.size size) rows → IsNowhere size rows) → IsNowhere size (row ∷ rows)
+nowhere_by size row rows true e h ih = absurd (omega arith)
+nowhere_by size row rows false e h ih =
+    let rest = ih (omega arith) in
+    record {
+      live = rw e rest.live;
+      most = rw e rest.most;
+      more = rw e (ap (λ (l : List Row). row ∷ l) rest.more);
+      less = rw e (ap (λ (l : List Row). row ∷ l) rest.less);
+    }
+
+nowhere_from : (size : ℕ) (rows : List Row) → length rows ≤ position_or_len (λ (r : Row). eqb r.size size) rows → IsNowhere size rows
+nowhere_from size [] h = record { live = refl; most = refl; more = refl; less = refl }
+nowhere_from size (row ∷ rows) h = nowhere_by size row rows (eqb row.size size) refl h (nowhere_from size rows)
+
+not_below : (m n : ℕ) (v : Bool) → ltb m n ≡ v → cond v (Some m) None ≡ None → n ≤ m
+not_below m n true e h = absurd cc
+not_below m n false e h = ltb-false m n e
+
+pub nowhere : (size : ℕ) (rows : List Row) → position (λ row. eqb row.size size) rows ≡ None → IsNowhere size rows
+nowhere size rows e = nowhere_from size rows (not_below _ (length rows) (ltb (position_or_len (λ (r : Row). eqb r.size size) rows) (length rows)) refl e)

@@ -15,7 +15,7 @@ use Rattle.std.proofs.lemmas.Int.Digits.{digits_value_push, digits_push}
 use Rattle.std.proofs.lemmas.List.{length-append, take_all}
 use Rattle.values.specs.declared.numerals.Stage.{Stage}
 use Rattle.values.specs.declared.numerals.Stage.TheVariants as stages
-use Rattle.values.specs.Numerals.{Sign, none, plus, minus, Numeral, sign_bytes, is_minus, dollar_bytes, radix_of, spelling, signed, value_of, IsNumeral, IsFront, greatest_magnitude, with_digit, after_sign, next_stage, value_at, numeral_from, numeral_of}
+use Rattle.values.specs.Numerals.{Sign, none, plus, minus, Numeral, sign_bytes, is_minus, dollar_bytes, radix_of, spelling, signed, value_of, IsNumeral, IsFront, greatest_magnitude, with_digit, after_sign, next_stage, value_at, IsBounded, numeral_from, numeral_of}
 use Rattle.values.specs.NumeralLaws.{IsFault, ReadingLaws}
 
 -- the stage behind a text
@@ -353,6 +353,40 @@ fault_from text p (Err q) e a =
 fault : (text : List ℕ) (p : ℕ) → numeral_of text ≡ Err p → IsFault IsFront text p
 unfolding numeral_of
 fault text p e = fault_from text p (numeral_from stages.Start 1 text) e (answers stages.Start 1 text)
+
+-- ---- one byte on
+
+pub numeral_more : (s t : Stage) (place b : ℕ) (text rest : List ℕ) (whole : Result ℤ ℕ) → text ≡ b ∷ rest → next_stage s b ≡ Some t → numeral_from s place text ≡ whole → numeral_from t (place + 1) rest ≡ whole
+numeral_more s t place b text rest whole e n h =
+    let on : numeral_from s place (b ∷ rest) ≡ numeral_from t (place + 1) rest = rw n refl in
+    sym on ∙ ap (numeral_from s place) (sym e) ∙ h
+
+pub numeral_stops : (s : Stage) (place b : ℕ) (text rest : List ℕ) (whole : Result ℤ ℕ) → text ≡ b ∷ rest → next_stage s b ≡ None → numeral_from s place text ≡ whole → Err place ≡ whole
+numeral_stops s place b text rest whole e n h =
+    let here : numeral_from s place (b ∷ rest) ≡ Err place = rw n refl in
+    sym here ∙ ap (numeral_from s place) (sym e) ∙ h
+
+bounded_digit : (negative hex : Bool) (v b : ℕ) (t : Stage) (u : Bool) → (ltb (digit_value b) (radix_of hex) && leb (v * radix_of hex + digit_value b) (greatest_magnitude negative)) ≡ u → cond u (Some (stages.Digits negative hex (v * radix_of hex + digit_value b))) None ≡ Some t → IsBounded t
+bounded_digit negative hex v b t true q e =
+    let parts = and_parts (ltb (digit_value b) (radix_of hex)) (leb (v * radix_of hex + digit_value b) (greatest_magnitude negative)) q in
+    let is : stages.Digits negative hex (v * radix_of hex + digit_value b) ≡ t = cc in
+    subst IsBounded is (leb-true (v * radix_of hex + digit_value b) (greatest_magnitude negative) parts.1)
+bounded_digit negative hex v b t false q e = absurd cc
+
+bounded_dollar : (negative : Bool) (b : ℕ) (t : Stage) (u : Bool) → cond u (Some (stages.Dollar negative)) (with_digit negative false 0 b) ≡ Some t → IsBounded t
+bounded_dollar negative b t true e = let is : stages.Dollar negative ≡ t = cc in subst IsBounded is tt
+bounded_dollar negative b t false e = bounded_digit negative false 0 b t _ refl e
+
+bounded_sign : (b : ℕ) (t : Stage) (u w : Bool) → cond u (Some (stages.Signed false)) (cond w (Some (stages.Signed true)) (after_sign false b)) ≡ Some t → IsBounded t
+bounded_sign b t true w e = let is : stages.Signed false ≡ t = cc in subst IsBounded is tt
+bounded_sign b t false true e = let is : stages.Signed true ≡ t = cc in subst IsBounded is tt
+bounded_sign b t false false e = bounded_dollar false b t (eqb b 36) e
+
+pub next_bounded : (s t : Stage) (b : ℕ) → next_stage s b ≡ Some t → IsBounded t
+next_bounded stages.Start t b e = bounded_sign b t (eqb b 43) (eqb b 45) e
+next_bounded (stages.Signed negative) t b e = bounded_dollar negative b t (eqb b 36) e
+next_bounded (stages.Dollar negative) t b e = bounded_digit negative true 0 b t _ refl e
+next_bounded (stages.Digits negative hex v) t b e = bounded_digit negative hex v b t _ refl e
 
 -- ---- what is written is read
 

@@ -6,6 +6,8 @@ use Rattle.std.proofs.lemmas.Bool.{eqb-true, eq-eqb, le-leb, and_parts, and_from
 use Rattle.std.proofs.lemmas.Bool.Decides.{nat_tests}
 use Rattle.std.proofs.lemmas.Nat.{pow_pos, pow-add, shr_high, shr_split, mul-le}
 use Rattle.std.proofs.lemmas.Grind.{pow_more}
+use Rattle.std.proofs.lemmas.List.{map-append}
+use Rattle.std.proofs.Math.Nat.{pow-le-pow_right}
 use Rattle.values.specs.Sets.{contains, union, difference, intersection, is_subset, is_same, ordinals_between, byte_of, bit_of, set_size, has_byte, assigned, weight_if, low_bits, set_byte, set_bytes}
 use Rattle.values.specs.SetLaws.{SameElements, ElementLaws, SubsetLaws, ByteLaws}
 
@@ -226,3 +228,33 @@ byte_laws = record {
   same = same_bytes;
   assigned = assigned_bytes;
 }
+
+-- ---- one more
+
+pub range_push : (a n : ℕ) → range_with_len a (suc n) ≡ range_with_len a n ++ (a + n) ∷ []
+range_push a zero = ap (λ (m : ℕ). m ∷ []) (omega arith)
+range_push a (suc n) =
+    let e : a + 1 + n ≡ a + suc n = omega arith in
+    ap (λ (l : List ℕ). a ∷ l) (range_push (a + 1) n ∙ ap (λ (m : ℕ). range_with_len (a + 1) n ++ m ∷ []) e)
+
+pub range_next : (a n : ℕ) → range_with_len a n ++ (a + n) ∷ [] ≡ range_with_len a (n + 1)
+range_next a n = rw add-one (sym (range_push a n))
+
+pub map_range_next : (f : ℕ → ℕ) (a n : ℕ) → map f (range_with_len a n) ++ f (a + n) ∷ [] ≡ map f (range_with_len a (n + 1))
+map_range_next f a n = sym (map-append f (range_with_len a n) ((a + n) ∷ [])) ∙ ap (map f) (range_next a n)
+
+pub bits-next : (set : List ℕ) (byte n : ℕ) → low_bits set byte n + weight_if (contains set (8 * byte + n)) n ≡ low_bits set byte (n + 1)
+unfolding low_bits
+bits-next set byte n = rw add-one refl
+
+pub bits-none : (set : List ℕ) (byte : ℕ) → 0 ≡ low_bits set byte 0
+unfolding low_bits
+bits-none set byte = refl
+
+pub bits-fit : (set : List ℕ) (byte n : ℕ) → n < 8 → low_bits set byte n + weight_if (contains set (8 * byte + n)) n < 256
+bits-fit set byte n h =
+    let e = bits-next set byte n in
+    let b = bits-below set byte (n + 1) in
+    let more : n + 1 ≤ 8 = omega arith in
+    let p : 2 ^ (n + 1) ≤ 2 ^ 8 = pow-le-pow_right {n = 2} (omega arith) more in
+    omega arith

@@ -55,8 +55,10 @@ pub piece_laws : PieceLaws
 piece_laws = record {
   halves = λ text n. halves text n (n + 1 - 1) (omega arith);
   deletes = deletes;
-  room = λ part text place room. cut_twice longest room (take (bytes_before place) text ++ (part ++ drop (bytes_before place) text));
-  undone = λ part text n room h fits small. undone longest part text n (n + 1 - 1) room (omega arith) h fits small;
+  room = λ part text place room. cut_twice longest room (take (bytes_before place) text ++ part ++ drop (bytes_before place) text);
+  undone = λ part text n room h fits small.
+    subst (λ (l : List ℕ). take (n + 1 - 1) (take room (take longest l)) ++ drop (length part) (drop (n + 1 - 1) (take room (take longest l))) ≡ text)
+        (sym (append_assoc (take (n + 1 - 1) text) part (drop (n + 1 - 1) text))) (undone longest part text n (n + 1 - 1) room (omega arith) h fits small);
 }
 
 -- ---- where a part stands
@@ -133,6 +135,24 @@ first (b ∷ part) text n some s =
 
 pub position_laws : PositionLaws
 position_laws = record { empty = λ text. refl; found = found_first; first = first }
+
+-- ---- the search, place by place
+
+pub place_more : (place b : ℕ) (part text rest : List ℕ) (whole : ℕ) → text ≡ b ∷ rest → starts_with nat_eq text part ≡ false → place_from place part text ≡ whole → place_from (place + 1) part rest ≡ whole
+place_more place b part text rest whole e t h =
+    let test : starts_with nat_eq (b ∷ rest) part ≡ false = ap (λ (l : List ℕ). starts_with nat_eq l part) (sym e) ∙ t in
+    let on : place_from place part (b ∷ rest) ≡ place_from (place + 1) part rest = rw test refl in
+    sym on ∙ ap (place_from place part) (sym e) ∙ h
+
+pub place_here : (place b : ℕ) (part text rest : List ℕ) (whole : ℕ) → text ≡ b ∷ rest → starts_with nat_eq text part ≡ true → place_from place part text ≡ whole → place ≡ whole
+place_here place b part text rest whole e t h =
+    let test : starts_with nat_eq (b ∷ rest) part ≡ true = ap (λ (l : List ℕ). starts_with nat_eq l part) (sym e) ∙ t in
+    let here : place_from place part (b ∷ rest) ≡ place = rw test refl in
+    sym here ∙ ap (place_from place part) (sym e) ∙ h
+
+pub position-some : (part text : List ℕ) → nat_eq (length part) 0 ≡ false → position_of part text ≡ place_from 1 part text
+position-some [] text h = absurd cc
+position-some (b ∷ part) text h = refl
 
 -- ---- one string behind another
 

@@ -34,7 +34,7 @@ deleted text place count = take (bytes_before place) text ++ drop (byte_count co
 
 -- The text with a part put before a place, or behind its end where the place lies farther. It is cut as a string, and then to the room of its variable.
 abbrev pub inserted : List ℕ → List ℕ → ℤ → ℕ → List ℕ
-inserted part text place room = cut room (cut longest (take (bytes_before place) text ++ (part ++ drop (bytes_before place) text)))
+inserted part text place room = cut room (cut longest (take (bytes_before place) text ++ part ++ drop (bytes_before place) text))
 
 -- one string behind another
 abbrev pub joined : List ℕ → List ℕ → List ℕ

@@ -1,6 +1,6 @@
 //! How much of the heap is taken: of each rounded size, as many blocks as ever lived at once.
 
-ghost use Rattle.std.specs.Prelude.{◌≡◌, ◌<◌, ◌+◌, ◌^◌, IfOk, OnOk, OnErr, List};
+ghost use Rattle.std.specs.Prelude.{◌≡◌, ◌<◌, ◌+◌, ◌^◌, IfOk, OnOk, OnErr, List, position, ◌==◌, length, IfSome};
 ghost use Rattle.values.specs.Blocks.{
   rounded as rounded_of,
   block_sum as sum_of,
@@ -48,7 +48,11 @@ pub fn rounded(size: u16) -> u32
     8 * u32::from(size).div_ceil(8).max(1)
 }
 
-fn place_of(rows: &[Row], size: u32) -> Option<usize> {
+/// Where the row of a size stands.
+fn place_of(rows: &[Row], size: u32) -> Option<usize>
+    ensures value { result ≡ position (λ row. row.size == size) rows.now }
+    ensures within { IfSome result (λ place. place < length rows.now) }
+{
     rows.iter().position(|row| row.size == size)
 }
 
@@ -68,14 +72,20 @@ pub fn block_sum(rows: &[Row]) -> u64
 pub fn live_of(rows: &[Row], size: u32) -> u32
     ensures { result ≡ living_of size rows.now }
 {
-    rows.iter().find(|row| row.size == size).map_or(0, |row| row.live)
+    match place_of(rows, size) {
+        Some(place) => rows[place].live,
+        None => 0,
+    }
 }
 
 /// How many blocks of a size ever lived at once.
 pub fn most_of(rows: &[Row], size: u32) -> u32
     ensures { result ≡ peak_of size rows.now }
 {
-    rows.iter().find(|row| row.size == size).map_or(0, |row| row.most)
+    match place_of(rows, size) {
+        Some(place) => rows[place].most,
+        None => 0,
+    }
 }
 
 /// The sum once a block of a rounded size more is made. Error 203 comes where it passes the heap.
@@ -105,8 +115,9 @@ pub fn add_block(rows: &mut Vec<Row>, size: u32) -> Result<(), AllocError>
 pub fn remove_block(rows: &mut Vec<Row>, size: u32)
     ensures { rows.new.items ≡ without_block size rows.old.items }
 {
-    if let Some(place) = place_of(rows.as_slice(), size) {
-        rows[place] = rows[place].with_one_less();
+    match place_of(rows.as_slice(), size) {
+        Some(place) => rows[place] = rows[place].with_one_less(),
+        None => {}
     }
 }
 

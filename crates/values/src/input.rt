@@ -1,6 +1,7 @@
 //! Reading. Input is the bytes that no item and no ReadLn has taken yet; byte 26 or their end is Eof.
 
-ghost use Rattle.std.specs.Prelude.{◌≡◌, true, List, ℕ};
+ghost use Rattle.std.specs.Prelude.{◌≡◌, ◌≤◌, true, List, ℕ, length};
+ghost use Rattle.std.specs.List.{prefix_len};
 ghost use Rattle.values.specs.Input.{
   is_eof as at_eof,
   is_eoln as at_eoln,
@@ -14,6 +15,7 @@ ghost use Rattle.values.specs.Input.{
   word_read as word_of,
   number_read as number_in,
   after_separators as behind_separators,
+  after_13 as behind_13,
   after_line as behind_line,
 };
 ghost use Rattle.values.specs.InputLaws.{EofLaws, TakingLaws};
@@ -63,12 +65,19 @@ fn is_text_byte(byte: u8) -> bool
     !(ends_line(byte) || byte == EOF)
 }
 
+/// How many bytes stand before the end of the line.
+fn line_length(input: &[u8]) -> usize
+    ensures value { result ≡ prefix_len text_byte input.now }
+    ensures within { result ≤ length input.now }
+{
+    input.iter().take_while(|byte| is_text_byte(**byte)).count()
+}
+
 /// A string of at most `size` bytes, up to the end of the line, and the input behind it.
 pub fn read_string(input: &[u8], size: u8) -> (&[u8], &[u8])
     ensures { (result.0.now, result.1.now) ≡ string_of size input.now }
 {
-    let line = input.iter().take_while(|byte| is_text_byte(**byte)).count();
-    input.split_at(min(usize::from(size), line))
+    input.split_at(min(usize::from(size), line_length(input)))
 }
 
 fn is_separator(byte: u8) -> bool
@@ -83,16 +92,33 @@ fn is_word_byte(byte: u8) -> bool
     !(is_separator(byte) || byte == EOF)
 }
 
+/// How many blanks, tabs and line ends come first.
+fn separator_count(input: &[u8]) -> usize
+    ensures value { result ≡ prefix_len separator input.now }
+    ensures within { result ≤ length input.now }
+{
+    input.iter().take_while(|byte| is_separator(**byte)).count()
+}
+
 fn after_separators(input: &[u8]) -> &[u8]
     ensures { result.now ≡ behind_separators input.now }
 {
-    &input[input.iter().take_while(|byte| is_separator(**byte)).count()..]
+    let (_, rest) = input.split_at(separator_count(input));
+    rest
+}
+
+/// How many bytes the word has that comes first.
+fn word_length(input: &[u8]) -> usize
+    ensures value { result ≡ prefix_len word_byte input.now }
+    ensures within { result ≤ length input.now }
+{
+    input.iter().take_while(|byte| is_word_byte(**byte)).count()
 }
 
 fn read_word(input: &[u8]) -> (&[u8], &[u8])
     ensures { (result.0.now, result.1.now) ≡ word_of input.now }
 {
-    input.split_at(input.iter().take_while(|byte| is_word_byte(**byte)).count())
+    input.split_at(word_length(input))
 }
 
 /// The number of a word; 0 of none, and None of a word that is no numeral.
@@ -129,8 +155,6 @@ pub fn after_line(input: &[u8]) -> &[u8]
     }
     rest
 }
-
-ghost use Rattle.values.specs.Input.{after_13 as behind_13};
 
 /// What follows a line end of which 13 is taken.
 fn after_13(rest: &[u8]) -> &[u8]

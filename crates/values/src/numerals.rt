@@ -1,6 +1,6 @@
 //! Numerals, as Val and Read take them.
 
-ghost use Rattle.std.specs.Prelude.{◌≡◌, ◌≤◌, ◌*◌, ◌+◌, length, IfSome, IsTrue};
+ghost use Rattle.std.specs.Prelude.{◌≡◌, ◌≤◌, ◌*◌, ◌+◌, length, IfErr};
 ghost use Rattle.values.specs.Numerals.{
   IsBounded,
   is_gap_byte as gap_byte,
@@ -10,6 +10,7 @@ ghost use Rattle.values.specs.Numerals.{
   greatest_magnitude as limit_of,
   value_at as value_in,
   numeral_of as numeral_in,
+  gap_length as gap_in,
   val_of as val_in,
 };
 ghost use Rattle.values.specs.NumeralLaws.{ReadingLaws, ValLaws};
@@ -89,7 +90,8 @@ fn value_at(stage: Stage) -> Option<i32>
 /// on, of the first byte by which no numeral goes on; where the text only ends too early, the place behind it.
 #[tactic(auto, unfolding(crate::specs::Numerals::numeral_of))]
 pub fn numeral_of(text: &[u8]) -> Result<i32, usize>
-    ensures { result ≡ numeral_in text.now }
+    ensures value { result ≡ numeral_in text.now }
+    ensures within { IfErr result (λ place. place ≤ length text.now + 1) }
 {
     let mut stage = Stage::Start;
     for (i, byte) in text.iter().enumerate() {
@@ -108,13 +110,22 @@ pub fn is_gap_byte(byte: u8) -> bool
     matches!(byte, b' ' | b'\t')
 }
 
+/// How many blanks and tabs come first.
+fn gap_length(text: &[u8]) -> usize
+    ensures value { result ≡ gap_in text.now }
+    ensures within { result ≤ length text.now }
+{
+    text.iter().take_while(|byte| is_gap_byte(**byte)).count()
+}
+
 /// Val: the value of a text of any blanks and tabs and then a numeral, and code 0. Of another text, 0 and
 /// the place of the first byte by which no numeral goes on, or the place behind the text.
 pub fn val_of(text: &[u8]) -> (i32, usize)
     ensures { result ≡ val_in text.now }
 {
-    let gap = text.iter().take_while(|byte| is_gap_byte(**byte)).count();
-    match numeral_of(&text[gap..]) {
+    let gap = gap_length(text);
+    let (_, rest) = text.split_at(gap);
+    match numeral_of(rest) {
         Ok(value) => (value, 0),
         Err(place) => (0, gap + place),
     }

@@ -1,6 +1,7 @@
 //! What the integer types store of a number, and `div`, `mod`, `shl` and `shr` in them.
 
-ghost use Rattle.std.specs.Prelude.{◌≡◌, ◌≢◌, ℤ, pos, IsTrue, ◌↔◌};
+ghost use Rattle.std.specs.Prelude.{◌≡◌, ◌≢◌, ◌<◌, ◌≤◌, ◌^◌, ◌*ℤ◌, ℤ, pos, IsTrue, ◌↔◌};
+ghost use Rattle.std.specs.Int.Signed.{mag};
 ghost use Rattle.integers.specs.Words.{Width, w8, w16, w32, bits, word_of as word_in};
 ghost use Rattle.values.specs.Ordinals.{
   IsWithin,
@@ -70,12 +71,20 @@ pub fn quotient(kind: IntegerType, a: i32, b: i32) -> i32
     kept(kind, i64::from(a) / i64::from(b))
 }
 
+/// A product that wraps nowhere.
+fn product(a: i32, b: i32) -> i64
+    ensures value { result ≡ a *ℤ b }
+    ensures small { mag result ≤ 2 ^ 62 }
+{
+    i64::from(a) * i64::from(b)
+}
+
 /// `mod`: what `div` leaves of `a`. A divisor of 0 is error 200 of the program.
 pub fn remainder(kind: IntegerType, a: i32, b: i32) -> i32
     requires { b ≢ pos 0 }
     ensures { result ≡ remainder_of kind a b }
 {
-    kept(kind, i64::from(a) - i64::from(quotient(kind, a, b)) * i64::from(b))
+    kept(kind, i64::from(a) - product(quotient(kind, a, b), b))
 }
 
 /// The count of a shift, modulo 256.
@@ -96,12 +105,20 @@ fn bits(kind: IntegerType) -> u8
     }
 }
 
+/// A value, and so many zeros behind its lowest bit.
+fn with_zeros(value: i32, places: u8) -> i64
+    requires { places < 32 }
+    ensures { result ≡ value *ℤ pos (2 ^ places) }
+{
+    i64::from(value) * (1 << places)
+}
+
 /// `shl` in the type of the left operand; a count of its width or more gives 0.
 pub fn left_shift(kind: IntegerType, value: i32, count: i32) -> i32
     ensures { result ≡ shifted_left kind value count }
 {
     let places = shift_count(count);
-    if places < bits(kind) { kept(kind, i64::from(value) * (1 << places)) } else { 0 }
+    if places < bits(kind) { kept(kind, with_zeros(value, places)) } else { 0 }
 }
 
 /// The word that stores a value.

@@ -9,9 +9,11 @@ ghost use Rattle.values.specs.Sets.{
   intersection as intersection_of,
   is_subset as subset_of,
   is_same as same_as,
+  ordinals_between as range_of,
   with_range as range_with,
   set_size as size_of,
   assigned as kept_of,
+  weight_if as weight_of,
   set_byte as byte_at,
   set_bytes as bytes_of,
 };
@@ -71,15 +73,25 @@ pub fn is_same(left: &[u8], right: &[u8]) -> bool
     is_subset(left, right) && is_subset(right, left)
 }
 
+/// The ordinals from `low` to `high`; none where `low` is above `high`. Fails only without memory.
+#[tactic(auto, using(crate::proofs::SetLemmas::range_next))]
+pub fn ordinals_between(alloc: Global, low: u8, high: u8) -> Result<Vec<u8>, AllocError>
+    ensures { IfOk result (λ v. v.items ≡ range_of low high) }
+{
+    let count = (u16::from(high) + 1).saturating_sub(u16::from(low));
+    let mut range = Vec::new(alloc);
+    for offset in 0..count {
+        range.push((u16::from(low) + offset) as u8)?;
+    }
+    Ok(range)
+}
+
 /// The set with the ordinals from `low` to `high` too; none where `low` is above `high`. Fails only
 /// without memory.
 pub fn with_range(alloc: Global, set: &[u8], low: u8, high: u8) -> Result<Vec<u8>, AllocError>
     ensures { IfOk result (λ v. v.items ≡ range_with set.now low high) }
 {
-    let mut range = Vec::new(alloc);
-    for element in usize::from(low)..usize::from(high) + 1 {
-        range.push(element as u8)?;
-    }
+    let range = ordinals_between(alloc, low, high)?;
     union(alloc, set, range.as_slice())
 }
 
@@ -99,6 +111,13 @@ pub fn assigned(alloc: Global, low: u8, high: u8, set: &[u8]) -> Result<Vec<u8>,
     set.iter().copied().filter(|e| low / 8 <= *e / 8 && *e / 8 <= high / 8).collect(alloc)
 }
 
+fn weight_if(there: bool, bit: u8) -> u8
+    requires { bit < 8 }
+    ensures { result ≡ weight_of there bit }
+{
+    if there { 1 << bit } else { 0 }
+}
+
 /// The byte of a set's memory that holds the elements from `8 * byte` on.
 pub fn set_byte(set: &[u8], byte: u8) -> u8
     requires { byte < 32 }
@@ -106,9 +125,7 @@ pub fn set_byte(set: &[u8], byte: u8) -> u8
 {
     let mut bits = 0;
     for i in 0..8 {
-        if contains(set, 8 * byte + i) {
-            bits += 1 << i;
-        }
+        bits += weight_if(contains(set, 8 * byte + i), i);
     }
     bits
 }
@@ -119,8 +136,8 @@ pub fn set_bytes(alloc: Global, low: u8, high: u8, set: &[u8]) -> Result<Vec<u8>
     ensures { IfOk result (λ v. v.items ≡ bytes_of low high set.now) }
 {
     let mut bytes = Vec::new(alloc);
-    for byte in low / 8..high / 8 + 1 {
-        bytes.push(set_byte(set, byte))?;
+    for offset in 0..set_size(low, high) {
+        bytes.push(set_byte(set, low / 8 + offset))?;
     }
     Ok(bytes)
 }

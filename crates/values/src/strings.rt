@@ -120,7 +120,7 @@ pub fn position_of(part: &[u8], text: &[u8]) -> usize
         return 0;
     }
     for i in 0..text.len() {
-        if text[i..].starts_with(part) {
+        if behind(text, i).starts_with(part) {
             return i + 1;
         }
     }
