@@ -1,0 +1,14 @@
+pub mod Strings
+pub mod StringLaws
+pub mod Sets
+pub mod SetLaws
+pub mod Numerals
+pub mod NumeralLaws
+pub mod Written
+pub mod WrittenLaws
+pub mod Input
+pub mod InputLaws
+pub mod Blocks
+pub mod BlockLaws
+pub mod Ordinals
+pub mod OrdinalLaws

@@ -1,0 +1,7 @@
+mod blocks;
+mod input;
+mod numerals;
+mod ordinals;
+mod sets;
+mod strings;
+mod written;
