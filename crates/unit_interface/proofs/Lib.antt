@@ -1,0 +1,3 @@
+pub mod CircleLaws
+pub mod VisitLaws
+pub mod OrderLaws
