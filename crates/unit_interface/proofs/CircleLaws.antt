@@ -4,6 +4,7 @@ use Rattle.std.specs.List.{list_any, IsDistinct, AllByRecursion}
 use Rattle.std.proofs.lemmas.Map.Steps.{length-le_from_distinct_below}
 use Rattle.unit_interface.specs.declared.edges.UsesOf.{UsesOf}
 use Rattle.unit_interface.specs.Uses.{places_of}
+use Rattle.unit_interface.specs.Order.{repeats}
 use Rattle.unit_interface.specs.Circles.{next, LeadsWithin, IsOnCircle, leads, reach, returns}
 
 pub one_true : (a b : Bool) → (a || b) ≡ true → (a ≡ true) ⊎ (b ≡ true)
@@ -129,10 +130,6 @@ front edges from (to ∷ between) target place is on =
           record { between = to ∷ f.between; is = (is.0, f.is); shorter = omega (arith, f.shorter) }
     ]
 
-abbrev repeats : List ℕ → Bool
-repeats [] = false
-repeats (x ∷ xs) = list_any (nat_eq x) xs || repeats xs
-
 record Shorter (edges : List (List ℕ)) (whole : List ℕ) : Type 0 where
   pub circle : Circle edges
   pub shorter : length circle.between < length whole
@@ -161,7 +158,7 @@ none_equal x (y ∷ ys) h =
     let both = both_false (nat_eq x y) (list_any (nat_eq x) ys) h in
     (both.0, none_equal x ys both.1)
 
-distinct : (xs : List ℕ) → repeats xs ≡ false → IsDistinct nat_eq xs
+pub distinct : (xs : List ℕ) → repeats xs ≡ false → IsDistinct nat_eq xs
 unfolding IsDistinct
 distinct [] h = tt
 distinct (x ∷ xs) h =
@@ -169,7 +166,7 @@ distinct (x ∷ xs) h =
     (none_equal x xs both.0, distinct xs both.1)
 
 -- a place with a use is a unit
-used_below : (edges : List (List ℕ)) (from to : ℕ) → list_any (nat_eq to) (next edges from) ≡ true → from < length edges
+pub used_below : (edges : List (List ℕ)) (from to : ℕ) → list_any (nat_eq to) (next edges from) ≡ true → from < length edges
 used_below [] zero to h = absurd (cc)
 used_below [] (suc from) to h = absurd (cc)
 used_below (uses ∷ edges) zero to h = omega arith

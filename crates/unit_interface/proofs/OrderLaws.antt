@@ -1,51 +1,49 @@
 -- An order has no unit twice, and ends with its start.
-use Rattle.std.proofs.Common.{◌≡◌, ℕ, zero, suc, ◌<◌, Bool, true, false, ◌||◌, cond, List, [], ◌∷◌, ◌++◌, length, get_or, refl, sym, ap, ◌∙◌, subst, arith, ◌⊎◌, inl, inr, nat_eq, eqb-true, eq-eqb, append_assoc, append-nil}
+use Rattle.std.proofs.Common.{◌≡◌, ℕ, zero, suc, Bool, true, false, ◌||◌, cond, List, [], ◌∷◌, ◌++◌, get_or, refl, sym, ap, ◌∙◌, subst, ◌⊎◌, inl, inr, nat_eq, eqb-true, eq-eqb, append_assoc, append-nil}
 use Rattle.std.specs.List.{list_any}
 use Rattle.std.proofs.lemmas.List.Folds.{list_any-append}
-use Rattle.unit_interface.specs.declared.edges.UsesOf.{UsesOf}
 use Rattle.unit_interface.specs.declared.visits.Progress.{Progress}
-use Rattle.unit_interface.specs.Uses.{all_edges}
-use Rattle.unit_interface.specs.Order.{no_progress, meet, finish, visit_each, visit, start_order, repeats, IsOrderFor}
+use Rattle.unit_interface.specs.Order.{meet, finish, visit_each, visit, repeats}
 use Rattle.unit_interface.proofs.CircleLaws.{one_true, or_right}
 
-abbrev IsIn : ℕ → List ℕ → Type 0
+abbrev pub IsIn : ℕ → List ℕ → Type 0
 IsIn q places = list_any (nat_eq q) places ≡ true
 
-abbrev IsOut : ℕ → List ℕ → Type 0
+abbrev pub IsOut : ℕ → List ℕ → Type 0
 IsOut q places = list_any (nat_eq q) places ≡ false
 
-contrary : {A : Type 0} (b : Bool) → b ≡ true → b ≡ false → A
+pub contrary : {A : Type 0} (b : Bool) → b ≡ true → b ≡ false → A
 contrary b holds fails = absurd (cc)
 
-decided : (b : Bool) → (b ≡ true → b ≡ false) → b ≡ false
+pub decided : (b : Bool) → (b ≡ true → b ≡ false) → b ≡ false
 decided true h = h refl
 decided false h = refl
 
-in_append : (q : ℕ) (xs ys : List ℕ) → IsIn q (xs ++ ys) → IsIn q xs ⊎ IsIn q ys
+pub in_append : (q : ℕ) (xs ys : List ℕ) → IsIn q (xs ++ ys) → IsIn q xs ⊎ IsIn q ys
 in_append q xs ys h = one_true (list_any (nat_eq q) xs) (list_any (nat_eq q) ys) (sym (list_any-append (nat_eq q) xs ys) ∙ h)
 
-in_left : (q : ℕ) (xs ys : List ℕ) → IsIn q xs → IsIn q (xs ++ ys)
+pub in_left : (q : ℕ) (xs ys : List ℕ) → IsIn q xs → IsIn q (xs ++ ys)
 in_left q xs ys h = list_any-append (nat_eq q) xs ys ∙ ap (λ (b : Bool). b || list_any (nat_eq q) ys) h
 
-in_right : (q : ℕ) (xs ys : List ℕ) → IsIn q ys → IsIn q (xs ++ ys)
+pub in_right : (q : ℕ) (xs ys : List ℕ) → IsIn q ys → IsIn q (xs ++ ys)
 in_right q xs ys h = list_any-append (nat_eq q) xs ys ∙ or_right (list_any (nat_eq q) xs) (list_any (nat_eq q) ys) h
 
-in_one : (q : ℕ) → IsIn q (q ∷ [])
+pub in_one : (q : ℕ) → IsIn q (q ∷ [])
 in_one q = ap (λ (b : Bool). b || false) (eq-eqb q q refl)
 
-only_one : (q place : ℕ) → IsIn q (place ∷ []) → q ≡ place
+pub only_one : (q place : ℕ) → IsIn q (place ∷ []) → q ≡ place
 only_one q place h = elim (one_true (nat_eq q place) false h) [ inl same ↦ eqb-true q place same | inr never ↦ contrary false never refl ]
 
-both_false : (a b : Bool) → (a || b) ≡ false → (a ≡ false) × (b ≡ false)
+pub both_false : (a b : Bool) → (a || b) ≡ false → (a ≡ false) × (b ≡ false)
 both_false true b h = absurd (cc)
 both_false false b h = (refl, h)
 
-neither : (a b : Bool) → a ≡ false → b ≡ false → (a || b) ≡ false
+pub neither : (a b : Bool) → a ≡ false → b ≡ false → (a || b) ≡ false
 neither true b h k = absurd (cc)
 neither false b h k = k
 
 -- two lists without a place twice, and none in both
-no_repeat-append : (xs ys : List ℕ) → repeats xs ≡ false → repeats ys ≡ false → ((q : ℕ) → IsIn q xs → IsOut q ys) → repeats (xs ++ ys) ≡ false
+pub no_repeat-append : (xs ys : List ℕ) → repeats xs ≡ false → repeats ys ≡ false → ((q : ℕ) → IsIn q xs → IsOut q ys) → repeats (xs ++ ys) ≡ false
 no_repeat-append [] ys one other apart = other
 no_repeat-append (x ∷ xs) ys one other apart =
     let both = both_false (list_any (nat_eq x) xs) (repeats xs) one in
@@ -63,7 +61,7 @@ pub record IsAfter (before after : Progress) : Type 0 where
   pub met : (q : ℕ) → IsIn q new → IsIn q after.met
   pub once : repeats new ≡ false
 
-stays : (p : Progress) → IsAfter p p
+unfoldable pub stays : (p : Progress) → IsAfter p p
 stays p = record {
   new = [];
   is = sym (append-nil p.order);
@@ -73,7 +71,7 @@ stays p = record {
   once = refl;
 }
 
-then_after : (p q r : Progress) → IsAfter p q → IsAfter q r → IsAfter p r
+unfoldable pub then_after : (p q r : Progress) → IsAfter p q → IsAfter q r → IsAfter p r
 then_after p q r one two = record {
   new = one.new ++ two.new;
   is = two.is ∙ ap (λ (xs : List ℕ). xs ++ two.new) one.is ∙ append_assoc p.order one.new two.new;
@@ -88,7 +86,7 @@ then_after p q r one two = record {
 }
 
 -- a unit that was not met, round the visits of the units that it uses
-finished : (p visited : Progress) (place : ℕ) → IsOut place p.met → IsAfter (meet place p) visited → IsAfter p (finish place visited)
+unfoldable pub finished : (p visited : Progress) (place : ℕ) → IsOut place p.met → IsAfter (meet place p) visited → IsAfter p (finish place visited)
 finished p visited place out a = record {
   new = a.new ++ place ∷ [];
   is = ap (λ (xs : List ℕ). xs ++ place ∷ []) a.is ∙ append_assoc p.order a.new (place ∷ []);
@@ -115,23 +113,9 @@ by_test : (p new : Progress) (b : Bool) → (b ≡ false → IsAfter p new) → 
 by_test p new true after = stays p
 by_test p new false after = after refl
 
-visit_after : (edges : List (List ℕ)) (room : ℕ) (p : Progress) (place : ℕ) → IsAfter p (visit room edges p place)
+pub visit_after : (edges : List (List ℕ)) (room : ℕ) (p : Progress) (place : ℕ) → IsAfter p (visit room edges p place)
 visit_after edges zero p place = stays p
 visit_after edges (suc room) p place =
     by_test p (finish place (visit_each (visit room edges) (meet place p) (get_or edges place []))) (list_any (nat_eq place) p.met)
     (λ out. finished p (visit_each (visit room edges) (meet place p) (get_or edges place [])) place out
     (each_after (visit room edges) (visit_after edges room) (meet place p) (get_or edges place [])))
-
-order_from : (edges : List (List ℕ)) (room start : ℕ) → 0 < room → IsOrderFor start (visit room edges no_progress start).order
-order_from edges zero start some = absurd (omega arith)
-order_from edges (suc room) start some =
-    let visited : Progress = visit_each (visit room edges) (meet start no_progress) (get_or edges start []) in
-    let a = visit_after edges (suc room) no_progress start in
-    record {
-      once = subst (λ (xs : List ℕ). repeats xs ≡ false) (sym a.is) a.once;
-      before = visited.order;
-      last = refl;
-    }
-
-pub is_order : (units : List UsesOf) (start : ℕ) → start < length units → IsOrderFor start (start_order units start)
-is_order units start within = order_from (all_edges units) (length units) start (omega arith)

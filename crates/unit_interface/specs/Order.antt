@@ -1,12 +1,12 @@
 -- The order of initialisation.
-use Rattle.std.specs.Prelude.{◌≡◌, ℕ, zero, suc, Bool, false, ◌||◌, nat_eq, cond, List, [], ◌∷◌, ◌++◌, Some, length, slice_get, get_or}
+use Rattle.std.specs.Prelude.{◌≡◌, ℕ, zero, suc, Bool, true, false, ◌||◌, nat_eq, cond, List, [], ◌∷◌, ◌++◌, Some, length, slice_get, get_or}
 use Rattle.std.specs.List.{list_any}
 use Rattle.unit_interface.specs.declared.edges.UsesOf.{UsesOf}
 use Rattle.unit_interface.specs.declared.visits.Progress.{Progress}
 use Rattle.unit_interface.specs.declared.order.OrderError.{OrderError}
 use Rattle.unit_interface.specs.declared.order.OrderError.TheVariants.{Circular, NoMemory}
 use Rattle.unit_interface.specs.Uses.{interface_edges, all_edges}
-use Rattle.unit_interface.specs.Circles.{IsOnCircle}
+use Rattle.unit_interface.specs.Circles.{IsOnCircle, next}
 
 abbrev pub no_progress : Progress
 no_progress = record { met = []; order = [] }
@@ -50,8 +50,10 @@ abbrev pub repeats : List ℕ → Bool
 repeats [] = false
 repeats (place ∷ places) = list_any (nat_eq place) places || repeats places
 
--- an order of initialisation for a start: no unit twice, and the start itself last
-pub record IsOrderFor (start : ℕ) (order : List ℕ) : Type 0 where
+-- An order of initialisation for a start: no unit twice, the start itself last, and with each unit those that it uses.
+pub record IsOrderFor (edges : List (List ℕ)) (start : ℕ) (order : List ℕ) : Type 0 where
   pub once : repeats order ≡ false
+  pub needed : (from to : ℕ) → list_any (nat_eq from) order ≡ true → list_any (nat_eq to) (next edges from) ≡ true
+      → list_any (nat_eq to) order ≡ true
   pub before : List ℕ
   pub last : order ≡ before ++ start ∷ []

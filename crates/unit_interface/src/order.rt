@@ -1,7 +1,7 @@
 //! The order of initialisation.
 
 ghost use Rattle.std.specs.Prelude.{◌≡◌, ℕ, ◌<◌, IfOk, OnOk, IfErr, length};
-ghost use Rattle.unit_interface.specs.Uses.{interface_edges};
+ghost use Rattle.unit_interface.specs.Uses.{interface_edges, all_edges};
 ghost use Rattle.unit_interface.specs.Circles.{IsOnCircle};
 ghost use Rattle.unit_interface.specs.Order.{start_order, IsCause, IsOrderFor};
 
@@ -68,7 +68,7 @@ pub fn initial_order(alloc: Global, units: &[UsesOf], start: u32) -> Result<Orde
     ensures ok { IfOk result (λ order. order ≡ start_order units.now start) }
     ensures no_circle { OnOk result ((place : ℕ) → IsOnCircle (interface_edges units.now) place → ⊥) }
     ensures cause { IfErr result (IsCause units.now) }
-    ensures order { IsOrderFor start (start_order units.now start) }
+    ensures order { IsOrderFor (all_edges units.now) start (start_order units.now start) }
 {
     let edges = interface_edges(alloc, units)?;
     let circle = first_circle(alloc, edges.as_slice())?;

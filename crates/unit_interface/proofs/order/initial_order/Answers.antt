@@ -3,7 +3,7 @@ use Rattle.std.proofs.lemmas.Option.{slice_get_read}
 use Rattle.unit_interface.specs.Uses.{interface_edges}
 use Rattle.unit_interface.specs.declared.edges.UsesOf.{UsesOf}
 use Rattle.unit_interface.proofs.CircleLaws.{no_circle, circle_of, edge_count}
-use Rattle.unit_interface.proofs.OrderLaws.{is_order}
+use Rattle.unit_interface.proofs.NeededLaws.{is_order}
 use Rattle.unit_interface.proofs.order.initial_order.Goals as goal
 
 pub returns-in-Some-clause-cause : goal.returns-in-Some-clause-cause
