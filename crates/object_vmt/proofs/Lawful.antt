@@ -28,11 +28,11 @@ none_lawful (MissingVirtual name) fails = none_at fails.is.place fails.is.method
 none_lawful (BadOverride name) fails = none_at fails.is.place fails.is.method fails.is.stands
 none_lawful NoMemory fails = fails
 
-no_fault : (b : Bool) (fault : ClassError) (rest : Option ClassError) → cond b (Some fault) rest ≡ None → (b ≡ false) × (rest ≡ None)
+pub no_fault : (b : Bool) (fault : ClassError) (rest : Option ClassError) → cond b (Some fault) rest ≡ None → (b ≡ false) × (rest ≡ None)
 no_fault true fault rest h = absurd (cc)
 no_fault false fault rest h = (refl, h)
 
-first_none : (one rest : Option ClassError) → first_of one rest ≡ None → (one ≡ None) × (rest ≡ None)
+pub first_none : (one rest : Option ClassError) → first_of one rest ≡ None → (one ≡ None) × (rest ≡ None)
 first_none None rest h = (refl, h)
 first_none (Some fault) rest h = absurd (cc)
 
@@ -102,7 +102,7 @@ field_push members field lawful none (BadOverride name) fails = lawful (BadOverr
 field_push members field lawful none NoMemory fails = fails
 
 -- an override without fault is virtual and has the same header
-sound_override : (above method : Method) → override_fault (Some above) method ≡ None
+pub sound_override : (above method : Method) → override_fault (Some above) method ≡ None
     → (method.is_virtual ≡ true) × (same_header above.header method.header ≡ true)
 sound_override above method none =
     sound_tests method.is_virtual (same_header above.header method.header) (BadOverride method.name) (MissingVirtual method.name) none

@@ -4,3 +4,4 @@ pub mod Lines
 pub mod Lawful
 pub mod Failing
 pub mod DispatchLaws
+pub mod Overrides

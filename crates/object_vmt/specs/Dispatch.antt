@@ -74,3 +74,12 @@ pub record IsDispatch (types : List TypeDef) : Type 0 where
       → slice_get types class.0 ≡ Some (ObjectOf (Some parent) dynamic fields methods)
       → slice_get (slots_of (members_in (members_of types) parent).methods) slot ≡ Some name
       → slice_get (slots_of (members_in (members_of types) class).methods) slot ≡ Some name
+
+-- the method that answers a slot is virtual, and has the header with which the slot was taken
+abbrev pub AreAnsweredAlike : List Method → Type 0
+AreAnsweredAlike methods = (name : List ℕ) (first last : Method) → first_virtual methods name ≡ Some first → nearest methods name ≡ Some last
+    → (last.is_virtual ≡ true) × (same_header first.header last.header ≡ true)
+
+-- so it is in each class
+abbrev pub AnswersAlike : List TypeDef → Type 0
+AnswersAlike types = (class : TypeId) → AreAnsweredAlike (members_in (members_of types) class).methods

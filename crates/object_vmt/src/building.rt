@@ -4,7 +4,7 @@ ghost use Rattle.std.specs.Prelude.{◌≡◌, ◌++◌, ◌∷◌, [], Some, No
 ghost use Rattle.object_vmt.specs.Members.{inherited, members_by, members_of};
 ghost use Rattle.type_layout.specs.Table.{IsWellFormed};
 ghost use Rattle.object_vmt.specs.Faults.{type_fault, first_fault, IsAnswerTo};
-ghost use Rattle.object_vmt.specs.Dispatch.{IsLawful, IsCause, IsDispatch};
+ghost use Rattle.object_vmt.specs.Dispatch.{IsLawful, IsCause, IsDispatch, AnswersAlike};
 
 use crate::{Class, ClassError, Classes};
 use std::alloc::{AllocError, Global};
@@ -66,6 +66,7 @@ pub fn classes(alloc: Global, types: &Types) -> Result<Classes, ClassError>
     ensures ok { IfOk result (λ classes. classes ≡ members_of types.now.types) }
     ensures each { IfOk result (λ classes. length classes ≡ length types.now.types) }
     ensures lawful { OnOk result (IsLawful types.now.types) }
+    ensures alike { OnOk result (AnswersAlike types.now.types) }
     ensures cause { IfErr result (IsCause types.now.types) }
     ensures dispatch { IsDispatch types.now.types }
 {
