@@ -1,0 +1,4 @@
+pub mod CircleLaws
+pub mod VisitLaws
+pub mod OrderLaws
+pub mod NeededLaws
