@@ -14,3 +14,4 @@ pub mod Sizes
 pub mod Rows
 pub mod Steps
 pub mod Given
+pub mod Bodies
