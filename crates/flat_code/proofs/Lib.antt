@@ -15,3 +15,4 @@ pub mod Rows
 pub mod Steps
 pub mod Given
 pub mod Bodies
+pub mod PlainChoice
