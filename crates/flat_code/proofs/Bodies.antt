@@ -1,13 +1,12 @@
 -- What a call comes to, from what the body of its routine comes to.
-use Rattle.std.proofs.Common.{◌≡◌, ℕ, ◌+◌, ◌*◌, ◌≤◌, ◌<◌, Bool, true, false, List, length, Option, Some, Ok, refl, sym, ap, ◌∙◌, arith}
+use Rattle.std.proofs.Common.{◌≡◌, ℕ, ◌+◌, ◌*◌, ◌≤◌, Bool, true, false, List, length, Option, Some, Ok, refl, ap, ◌∙◌}
 use Rattle.std.specs.Prelude.{if◌then◌else◌, ◌==◌, ◌&&◌, not, nat_lt, slice_get}
 use Rattle.std.proofs.Common.{eq-eqb}
 use Rattle.std.proofs.lemmas.Bool.{le-ltb}
 use Rattle.flat_code.specs.declared.tree.FlatResult.{FlatResult}
 use Rattle.flat_code.specs.Memory.{Found}
 use Rattle.flat_code.specs.Program.{Key, Routine, UnitCode, FlatProgram, Choice}
-use Rattle.flat_code.specs.Meaning.{Frame, State, Outcome, Next, Left, Returned, Over, with_found, with_cells, activation_bytes, stack_top, is_too_deep, frame_of, opened, closed, result_bytes, give, ended, finished, Does, activated, tested, admitted, entered, called, run}
-use Rattle.flat_code.specs.Gives.{with_turns}
+use Rattle.flat_code.specs.Meaning.{Frame, State, Outcome, Next, Returned, with_found, with_cells, activation_bytes, stack_top, is_too_deep, frame_of, opened, closed, result_bytes, give, ended, finished, activated, tested, admitted, called, run}
 use Rattle.flat_code.proofs.Steps.{called-entered}
 
 if-true : (b : Bool) (x y : Outcome) → b ≡ true → (if b then x else y) ≡ x

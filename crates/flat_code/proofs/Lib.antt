@@ -16,3 +16,5 @@ pub mod Steps
 pub mod Given
 pub mod Bodies
 pub mod PlainChoice
+pub mod PlainFar
+pub mod PlainLegal

@@ -1,6 +1,6 @@
 -- The choice of the interpreter is legal: everything has its place, and the places keep apart.
-use Rattle.std.proofs.Common.{◌≡◌, ◌≢◌, ℕ, zero, suc, ◌+◌, ◌-◌, ◌*◌, ◌≤◌, ◌<◌, ◌⊎◌, inl, inr, Bool, true, false, List, [], ◌∷◌, length, Option, Some, None, refl, sym, ap, subst, ◌∙◌, arith}
-use Rattle.std.specs.Prelude.{◌%◌, if◌then◌else◌, slice_get}
+use Rattle.std.proofs.Common.{◌≡◌, ◌≢◌, ℕ, zero, suc, ◌+◌, ◌≤◌, ◌<◌, ◌⊎◌, inl, inr, Bool, true, false, List, [], ◌∷◌, Option, Some, None, refl, sym, ap, ◌∙◌, arith}
+use Rattle.std.specs.Prelude.{if◌then◌else◌, slice_get}
 use Rattle.std.specs.Option.{option_and_then}
 use Rattle.std.specs.Cmp.Lexicographic.{same_text, other_text}
 use Rattle.type_layout.specs.Words.{same_bytes}
@@ -34,12 +34,12 @@ datum_apart start (x ∷ list) zero (suc n) a b c d h p q r s =
 datum_apart start (x ∷ list) (suc m) zero a b c d h p q r s = absurd (omega (arith, h))
 datum_apart start (x ∷ list) (suc m) (suc n) a b c d h p q r s = datum_apart (start + even x.size) list m n a b c d (omega (arith, h)) p q r s
 
-datum_there : (start : ℕ) (list : List Datum) (n : ℕ) (d : Datum) → slice_get list n ≡ Some d → (o : ℕ) × (datum_from start list n ≡ Some o)
+pub datum_there : (start : ℕ) (list : List Datum) (n : ℕ) (d : Datum) → slice_get list n ≡ Some d → (o : ℕ) × (datum_from start list n ≡ Some o)
 datum_there start [] n d q = absurd cc
 datum_there start (x ∷ list) zero d q = (start, refl)
 datum_there start (x ∷ list) (suc n) d q = datum_there (start + even x.size) list n d q
 
-datum_listed : (start : ℕ) (list : List Datum) (n o : ℕ) → datum_from start list n ≡ Some o → (d : Datum) × (slice_get list n ≡ Some d)
+pub datum_listed : (start : ℕ) (list : List Datum) (n o : ℕ) → datum_from start list n ≡ Some o → (d : Datum) × (slice_get list n ≡ Some d)
 datum_listed start [] n o p = absurd cc
 datum_listed start (x ∷ list) zero o p = (x, refl)
 datum_listed start (x ∷ list) (suc n) o p = datum_listed (start + even x.size) list n o p
@@ -67,12 +67,12 @@ vmt_apart start (x ∷ list) zero (suc n) a b c d h p q r s =
 vmt_apart start (x ∷ list) (suc m) zero a b c d h p q r s = absurd (omega (arith, h))
 vmt_apart start (x ∷ list) (suc m) (suc n) a b c d h p q r s = vmt_apart (start + vmt_size x) list m n a b c d (omega (arith, h)) p q r s
 
-vmt_there : (start : ℕ) (list : List Vmt) (n : ℕ) (d : Vmt) → slice_get list n ≡ Some d → (o : ℕ) × (vmt_from start list n ≡ Some o)
+pub vmt_there : (start : ℕ) (list : List Vmt) (n : ℕ) (d : Vmt) → slice_get list n ≡ Some d → (o : ℕ) × (vmt_from start list n ≡ Some o)
 vmt_there start [] n d q = absurd cc
 vmt_there start (x ∷ list) zero d q = (start, refl)
 vmt_there start (x ∷ list) (suc n) d q = vmt_there (start + vmt_size x) list n d q
 
-vmt_listed : (start : ℕ) (list : List Vmt) (n o : ℕ) → vmt_from start list n ≡ Some o → (d : Vmt) × (slice_get list n ≡ Some d)
+pub vmt_listed : (start : ℕ) (list : List Vmt) (n o : ℕ) → vmt_from start list n ≡ Some o → (d : Vmt) × (slice_get list n ≡ Some d)
 vmt_listed start [] n o p = absurd cc
 vmt_listed start (x ∷ list) zero o p = (x, refl)
 vmt_listed start (x ∷ list) (suc n) o p = vmt_listed (start + vmt_size x) list n o p
@@ -89,27 +89,27 @@ abbrev pub place_of : ℕ → ℕ → List UnitCode → Name → Option Found
 place_of at start [] name = None
 place_of at start (unit ∷ units) name = if same_bytes (name_at at unit) name then Some (record { unit = unit; start = start; at = at }) else place_of (at + 1) (start + unit_size unit) units name
 
-with_first : {A B : Type 0} (b : Bool) (x : A) (rest : Option A) (g : A → Option B) (other : Option B) → other ≡ option_and_then g rest → (if b then g x else other) ≡ option_and_then g (if b then Some x else rest)
+pub with_first : {A B : Type 0} (b : Bool) (x : A) (rest : Option A) (g : A → Option B) (other : Option B) → other ≡ option_and_then g rest → (if b then g x else other) ≡ option_and_then g (if b then Some x else rest)
 with_first true x rest g other e = refl
 with_first false x rest g other e = e
 
-datum-placed : (at start : ℕ) (units : List UnitCode) (name : Name) (n : ℕ) → datum_of at start units name n ≡ option_and_then (λ (u : Found). datum_from u.start u.unit.globals n) (place_of at start units name)
+pub datum-placed : (at start : ℕ) (units : List UnitCode) (name : Name) (n : ℕ) → datum_of at start units name n ≡ option_and_then (λ (u : Found). datum_from u.start u.unit.globals n) (place_of at start units name)
 datum-placed at start [] name n = refl
 datum-placed at start (x ∷ units) name n =
     with_first (same_bytes (name_at at x) name) (record { unit = x; start = start; at = at }) (place_of (at + 1) (start + unit_size x) units name) (λ (u : Found). datum_from u.start u.unit.globals n) (datum_of (at + 1) (start + unit_size x) units name n) (datum-placed (at + 1) (start + unit_size x) units name n)
 
-vmt-placed : (at start : ℕ) (units : List UnitCode) (name : Name) (n : ℕ) → vmt_of at start units name n ≡ option_and_then (λ (u : Found). vmt_from (u.start + data_size u.unit.globals) u.unit.vmts n) (place_of at start units name)
+pub vmt-placed : (at start : ℕ) (units : List UnitCode) (name : Name) (n : ℕ) → vmt_of at start units name n ≡ option_and_then (λ (u : Found). vmt_from (u.start + data_size u.unit.globals) u.unit.vmts n) (place_of at start units name)
 vmt-placed at start [] name n = refl
 vmt-placed at start (x ∷ units) name n =
     with_first (same_bytes (name_at at x) name) (record { unit = x; start = start; at = at }) (place_of (at + 1) (start + unit_size x) units name) (λ (u : Found). vmt_from (u.start + data_size u.unit.globals) u.unit.vmts n) (vmt_of (at + 1) (start + unit_size x) units name n) (vmt-placed (at + 1) (start + unit_size x) units name n)
 
-unit-placed : (at start : ℕ) (units : List UnitCode) (name : Name) → unit_from at units name ≡ option_and_then (λ (u : Found). Some u.unit) (place_of at start units name)
+pub unit-placed : (at start : ℕ) (units : List UnitCode) (name : Name) → unit_from at units name ≡ option_and_then (λ (u : Found). Some u.unit) (place_of at start units name)
 unit-placed at start [] name = refl
 unit-placed at start (x ∷ units) name =
     with_first (same_bytes (name_at at x) name) (record { unit = x; start = start; at = at }) (place_of (at + 1) (start + unit_size x) units name) (λ (u : Found). Some u.unit) (unit_from (at + 1) units name) (unit-placed (at + 1) (start + unit_size x) units name)
 
 -- a found unit lies among the units' bytes
-within-units : (at start : ℕ) (units : List UnitCode) (name : Name) (u : Found) → place_of at start units name ≡ Some u → (start ≤ u.start) × (u.start + unit_size u.unit ≤ start + units_size units)
+pub within-units : (at start : ℕ) (units : List UnitCode) (name : Name) (u : Found) → place_of at start units name ≡ Some u → (start ≤ u.start) × (u.start + unit_size u.unit ≤ start + units_size units)
 within-units at start [] name u e = absurd cc
 within-units at start (x ∷ units) name u e = by (same_bytes (name_at at x) name) x start at (place_of (at + 1) (start + unit_size x) units name) (units_size units) u e (within-units (at + 1) (start + unit_size x) units name u)
   where
@@ -154,11 +154,11 @@ units-apart at start (x ∷ units) m n u v ne e f =
 
 -- ---- what has a place
 
-and_then-some : {A B : Type 0} (g : A → Option B) (o : Option A) (b : B) → option_and_then g o ≡ Some b → (a : A) × (o ≡ Some a) × (g a ≡ Some b)
+pub and_then-some : {A B : Type 0} (g : A → Option B) (o : Option A) (b : B) → option_and_then g o ≡ Some b → (a : A) × (o ≡ Some a) × (g a ≡ Some b)
 and_then-some g None b e = absurd cc
 and_then-some g (Some a) b e = (a, refl, e)
 
-unit_found : (units : List UnitCode) (name : Name) (unit : UnitCode) → unit_from 0 units name ≡ Some unit → (u : Found) × (place_of 0 0 units name ≡ Some u) × (u.unit ≡ unit)
+pub unit_found : (units : List UnitCode) (name : Name) (unit : UnitCode) → unit_from 0 units name ≡ Some unit → (u : Found) × (place_of 0 0 units name ≡ Some u) × (u.unit ≡ unit)
 unit_found units name unit e =
     let found = and_then-some (λ (u : Found). Some u.unit) (place_of 0 0 units name) unit (sym (unit-placed 0 0 units name) ∙ e) in
     (found.0, found.1, some_is found.0.unit unit found.2)
@@ -183,7 +183,7 @@ pub record VmtLies (units : List UnitCode) (name : Name) (number offset size : �
   pub is : slice_get of.unit.vmts number ≡ Some vmt
   pub size_is : size ≡ vmt_size vmt
 
-same_unit : (units : List UnitCode) (name : Name) (unit : UnitCode) (u : Found) → unit_from 0 units name ≡ Some unit → place_of 0 0 units name ≡ Some u → u.unit ≡ unit
+pub same_unit : (units : List UnitCode) (name : Name) (unit : UnitCode) (u : Found) → unit_from 0 units name ≡ Some unit → place_of 0 0 units name ≡ Some u → u.unit ≡ unit
 same_unit units name unit u e p =
     let f = unit_found units name unit e in
     let same : f.0 ≡ u = some_is f.0 u (sym f.1 ∙ p) in
@@ -192,13 +192,13 @@ same_unit units name unit u e p =
     some_is : (x y : Found) → Some x ≡ Some y → x ≡ y
     some_is x y e = cc
 
-datum_lies : (units : List UnitCode) (name : Name) (number offset size : ℕ) (unit : UnitCode) (datum : Datum) → unit_from 0 units name ≡ Some unit → slice_get unit.globals number ≡ Some datum → datum_of 0 0 units name number ≡ Some offset → size ≡ datum.size → DatumLies units name number offset size
+pub datum_lies : (units : List UnitCode) (name : Name) (number offset size : ℕ) (unit : UnitCode) (datum : Datum) → unit_from 0 units name ≡ Some unit → slice_get unit.globals number ≡ Some datum → datum_of 0 0 units name number ≡ Some offset → size ≡ datum.size → DatumLies units name number offset size
 datum_lies units name number offset size unit datum e q p z =
     let f = and_then-some (λ (u : Found). datum_from u.start u.unit.globals number) (place_of 0 0 units name) offset (sym (datum-placed 0 0 units name number) ∙ p) in
     let same = same_unit units name unit f.0 e f.1 in
     record { of = f.0; datum = datum; found = f.1; from = f.2; is = ap (λ (u : UnitCode). slice_get u.globals number) same ∙ q; size_is = z }
 
-vmt_lies : (units : List UnitCode) (name : Name) (number offset size : ℕ) (unit : UnitCode) (vmt : Vmt) → unit_from 0 units name ≡ Some unit → slice_get unit.vmts number ≡ Some vmt → vmt_of 0 0 units name number ≡ Some offset → size ≡ vmt_size vmt → VmtLies units name number offset size
+pub vmt_lies : (units : List UnitCode) (name : Name) (number offset size : ℕ) (unit : UnitCode) (vmt : Vmt) → unit_from 0 units name ≡ Some unit → slice_get unit.vmts number ≡ Some vmt → vmt_of 0 0 units name number ≡ Some offset → size ≡ vmt_size vmt → VmtLies units name number offset size
 vmt_lies units name number offset size unit vmt e q p z =
     let f = and_then-some (λ (u : Found). vmt_from (u.start + data_size u.unit.globals) u.unit.vmts number) (place_of 0 0 units name) offset (sym (vmt-placed 0 0 units name number) ∙ p) in
     let same = same_unit units name unit f.0 e f.1 in
@@ -234,55 +234,55 @@ names_tell m n = by m n (same_bytes m n) refl
     by m n true e = inl (same_text m n e)
     by m n false e = inr (other_text m n e)
 
-datum_in : (units : List UnitCode) (name : Name) (number offset size : ℕ) → (d : DatumLies units name number offset size) → (d.of.start ≤ offset) × (offset + size ≤ d.of.start + unit_size d.of.unit)
+pub datum_in : (units : List UnitCode) (name : Name) (number offset size : ℕ) → (d : DatumLies units name number offset size) → (d.of.start ≤ offset) × (offset + size ≤ d.of.start + unit_size d.of.unit)
 datum_in units name number offset size d = let b = datum_bounds units name number offset size d in (b.0, omega (arith, b.1))
 
-vmt_in : (units : List UnitCode) (name : Name) (number offset size : ℕ) → (d : VmtLies units name number offset size) → (d.of.start ≤ offset) × (offset + size ≤ d.of.start + unit_size d.of.unit)
+pub vmt_in : (units : List UnitCode) (name : Name) (number offset size : ℕ) → (d : VmtLies units name number offset size) → (d.of.start ≤ offset) × (offset + size ≤ d.of.start + unit_size d.of.unit)
 vmt_in units name number offset size d = let b = vmt_bounds units name number offset size d in (omega (arith, b.0), b.1)
 
-data_apart : (units : List UnitCode) (m n : Name) (i j a b p q : ℕ) → ((m ≡ n) × (i ≡ j) → ⊥) → DatumLies units m i a p → DatumLies units n j b q → IsApart a p b q
+pub data_apart : (units : List UnitCode) (m n : Name) (i j a b p q : ℕ) → ((m ≡ n) × (i ≡ j) → ⊥) → DatumLies units m i a p → DatumLies units n j b q → IsApart a p b q
 data_apart units m n i j a b p q ne c d =
     elim (names_tell m n) [
-      inl e ↦
-        let same = same_found units m n c.of d.of e c.found d.found in
-        let from : datum_from c.of.start c.of.unit.globals j ≡ Some b = ap (λ (u : Found). datum_from u.start u.unit.globals j) same ∙ d.from in
-        let is : slice_get c.of.unit.globals j ≡ Some d.datum = ap (λ (u : Found). slice_get u.unit.globals j) same ∙ d.is in
-        elim (cases_order i j) [
-          inl z ↦ absurd (ne (e, z))
-        | inr o ↦ elim o [
-            inl h ↦ let r = datum_apart c.of.start c.of.unit.globals i j a b c.datum d.datum h c.from c.is from is in inl (omega (arith, r, c.size_is))
-          | inr h ↦ let r = datum_apart c.of.start c.of.unit.globals j i b a d.datum c.datum h from is c.from c.is in inr (omega (arith, r, d.size_is))
+      | inl e ↦
+          let same = same_found units m n c.of d.of e c.found d.found in
+          let from : datum_from c.of.start c.of.unit.globals j ≡ Some b = ap (λ (u : Found). datum_from u.start u.unit.globals j) same ∙ d.from in
+          let is : slice_get c.of.unit.globals j ≡ Some d.datum = ap (λ (u : Found). slice_get u.unit.globals j) same ∙ d.is in
+          elim (cases_order i j) [
+            | inl z ↦ absurd (ne (e, z))
+            | inr o ↦ elim o [
+              | inl h ↦ let r = datum_apart c.of.start c.of.unit.globals i j a b c.datum d.datum h c.from c.is from is in inl (omega (arith, r, c.size_is))
+              | inr h ↦ let r = datum_apart c.of.start c.of.unit.globals j i b a d.datum c.datum h from is c.from c.is in inr (omega (arith, r, d.size_is))
+            ]
           ]
-        ]
-    | inr e ↦ nested c.of.start (unit_size c.of.unit) d.of.start (unit_size d.of.unit) a p b q (units-apart 0 0 units m n c.of d.of e c.found d.found) (datum_in units m i a p c) (datum_in units n j b q d)
+      | inr e ↦ nested c.of.start (unit_size c.of.unit) d.of.start (unit_size d.of.unit) a p b q (units-apart 0 0 units m n c.of d.of e c.found d.found) (datum_in units m i a p c) (datum_in units n j b q d)
     ]
 
-vmts_apart : (units : List UnitCode) (m n : Name) (i j a b p q : ℕ) → ((m ≡ n) × (i ≡ j) → ⊥) → VmtLies units m i a p → VmtLies units n j b q → IsApart a p b q
+pub vmts_apart : (units : List UnitCode) (m n : Name) (i j a b p q : ℕ) → ((m ≡ n) × (i ≡ j) → ⊥) → VmtLies units m i a p → VmtLies units n j b q → IsApart a p b q
 vmts_apart units m n i j a b p q ne c d =
     elim (names_tell m n) [
-      inl e ↦
-        let same = same_found units m n c.of d.of e c.found d.found in
-        let from : vmt_from (c.of.start + data_size c.of.unit.globals) c.of.unit.vmts j ≡ Some b = ap (λ (u : Found). vmt_from (u.start + data_size u.unit.globals) u.unit.vmts j) same ∙ d.from in
-        let is : slice_get c.of.unit.vmts j ≡ Some d.vmt = ap (λ (u : Found). slice_get u.unit.vmts j) same ∙ d.is in
-        let start = c.of.start + data_size c.of.unit.globals in
-        elim (cases_order i j) [
-          inl z ↦ absurd (ne (e, z))
-        | inr o ↦ elim o [
-            inl h ↦ let r = vmt_apart start c.of.unit.vmts i j a b c.vmt d.vmt h c.from c.is from is in inl (omega (arith, r, c.size_is))
-          | inr h ↦ let r = vmt_apart start c.of.unit.vmts j i b a d.vmt c.vmt h from is c.from c.is in inr (omega (arith, r, d.size_is))
+      | inl e ↦
+          let same = same_found units m n c.of d.of e c.found d.found in
+          let from : vmt_from (c.of.start + data_size c.of.unit.globals) c.of.unit.vmts j ≡ Some b = ap (λ (u : Found). vmt_from (u.start + data_size u.unit.globals) u.unit.vmts j) same ∙ d.from in
+          let is : slice_get c.of.unit.vmts j ≡ Some d.vmt = ap (λ (u : Found). slice_get u.unit.vmts j) same ∙ d.is in
+          let start = c.of.start + data_size c.of.unit.globals in
+          elim (cases_order i j) [
+            | inl z ↦ absurd (ne (e, z))
+            | inr o ↦ elim o [
+              | inl h ↦ let r = vmt_apart start c.of.unit.vmts i j a b c.vmt d.vmt h c.from c.is from is in inl (omega (arith, r, c.size_is))
+              | inr h ↦ let r = vmt_apart start c.of.unit.vmts j i b a d.vmt c.vmt h from is c.from c.is in inr (omega (arith, r, d.size_is))
+            ]
           ]
-        ]
-    | inr e ↦ nested c.of.start (unit_size c.of.unit) d.of.start (unit_size d.of.unit) a p b q (units-apart 0 0 units m n c.of d.of e c.found d.found) (vmt_in units m i a p c) (vmt_in units n j b q d)
+      | inr e ↦ nested c.of.start (unit_size c.of.unit) d.of.start (unit_size d.of.unit) a p b q (units-apart 0 0 units m n c.of d.of e c.found d.found) (vmt_in units m i a p c) (vmt_in units n j b q d)
     ]
 
-datum-vmt-apart : (units : List UnitCode) (m n : Name) (i j a b p q : ℕ) → DatumLies units m i a p → VmtLies units n j b q → IsApart a p b q
+pub datum-vmt-apart : (units : List UnitCode) (m n : Name) (i j a b p q : ℕ) → DatumLies units m i a p → VmtLies units n j b q → IsApart a p b q
 datum-vmt-apart units m n i j a b p q c d =
     elim (names_tell m n) [
-      inl e ↦
-        let same = same_found units m n c.of d.of e c.found d.found in
-        let begins = ap (λ (u : Found). u.start + data_size u.unit.globals) same in
-        let x = datum_bounds units m i a p c in
-        let y = vmt_bounds units n j b q d in
-        inl (omega (arith, x.1, y.0, begins))
-    | inr e ↦ nested c.of.start (unit_size c.of.unit) d.of.start (unit_size d.of.unit) a p b q (units-apart 0 0 units m n c.of d.of e c.found d.found) (datum_in units m i a p c) (vmt_in units n j b q d)
+      | inl e ↦
+          let same = same_found units m n c.of d.of e c.found d.found in
+          let begins = ap (λ (u : Found). u.start + data_size u.unit.globals) same in
+          let x = datum_bounds units m i a p c in
+          let y = vmt_bounds units n j b q d in
+          inl (omega (arith, x.1, y.0, begins))
+      | inr e ↦ nested c.of.start (unit_size c.of.unit) d.of.start (unit_size d.of.unit) a p b q (units-apart 0 0 units m n c.of d.of e c.found d.found) (datum_in units m i a p c) (vmt_in units n j b q d)
     ]
