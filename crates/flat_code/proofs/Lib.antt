@@ -14,3 +14,7 @@ pub mod Sizes
 pub mod Rows
 pub mod Steps
 pub mod Given
+pub mod Bodies
+pub mod PlainChoice
+pub mod PlainFar
+pub mod PlainLegal

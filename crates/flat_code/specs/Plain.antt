@@ -1,5 +1,5 @@
 -- The program that a list of units makes, and the choice that the interpreter takes.
-use Rattle.std.specs.Prelude.{ℕ, zero, suc, ◌+◌, ◌-◌, ◌*◌, ◌%◌, ◌&&◌, Bool, nat_le, nat_lt, if◌then◌else◌, List, [], ◌∷◌, ◌++◌, map, length, Option, Some, None, slice_get, codes}
+use Rattle.std.specs.Prelude.{◌≡◌, ◌≤◌, ℕ, zero, suc, ◌+◌, ◌-◌, ◌*◌, ◌%◌, ◌&&◌, Bool, nat_le, nat_lt, if◌then◌else◌, List, [], ◌∷◌, ◌++◌, map, length, Option, Some, None, slice_get, codes}
 use Rattle.std.specs.Option.{option_and_then}
 use Rattle.std.specs.List.{list_any}
 use Rattle.type_layout.specs.Words.{same_bytes}
@@ -153,6 +153,18 @@ choice_of units = record {
 
 abbrev pub view_callee : Callee → Key
 view_callee callee = record { unit = callee.name.now; number = callee.number }
+
+-- no later unit has the name of an earlier one
+abbrev pub IsDifferent : ℕ → List UnitCode → Type 0
+IsDifferent at [] = Unit {0}
+IsDifferent at (unit ∷ units) = (unit_from (at + 1) units (name_at at unit) ≡ None) × IsDifferent (at + 1) units
+
+-- units for which the choice has room: few enough, with different names, data that fit a segment, and numbers of routines that fit an offset
+pub record HasPlaces (units : List UnitCode) : Type 0 where
+  pub few : length units ≤ 4096
+  pub different : IsDifferent 0 units
+  pub small : units_size units ≤ 65520
+  pub numbered : (name : Name) (unit : UnitCode) → unit_from 0 units name ≡ Some unit → length unit.routines ≤ 65536
 
 -- ---- frames
 

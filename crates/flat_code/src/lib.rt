@@ -1,12 +1,14 @@
 //! Flat code: structured code over bytes, what it means, and its interpreter.
 #![tactic(auto)]
 
-ghost use Rattle.std.specs.Prelude.{ℕ, List};
+ghost use Rattle.std.specs.Prelude.{ℕ, ◌≤◌, List};
 ghost use Rattle.behaviour.specs.Seen.{IsRun};
 ghost use Rattle.flat_code.specs.Tree.{Code};
-ghost use Rattle.flat_code.specs.Program.{FlatProgram, Choice};
+ghost use Rattle.flat_code.specs.Program.{FlatProgram, Choice, Name, UnitCode};
 ghost use Rattle.flat_code.specs.Meaning.{Frame, State, run, flat_run};
 ghost use Rattle.flat_code.specs.Laws.{NodeLaws, StaysShut};
+ghost use Rattle.flat_code.specs.Legal.{IsLegal, IsThere};
+ghost use Rattle.flat_code.specs.Plain.{HasPlaces, program_of, choice_of};
 
 mod activations;
 mod calls;
@@ -37,9 +39,11 @@ pub use value::{Activation, place_of, routine_pointer, value_of};
 
 /// The laws of flat code: greater numbers of turns change nothing of a run that is over and only
 /// add to what was written; the meaning of each node is that of its parts; and what can't be reached
-/// as statements begin can't be reached after them. It does nothing.
+/// as statements begin can't be reached after them. The choice of the interpreter is a legal one, where
+/// all that the program has counts as reached. It does nothing.
 pub fn flat_laws()
     ensures runs { (program : FlatProgram) (choice : Choice) (input : List ℕ) → IsRun (λ turns. (flat_run program choice input turns).seen) }
     ensures nodes { (program : FlatProgram) (choice : Choice) → NodeLaws program choice }
     ensures shut { (program : FlatProgram) (choice : Choice) (code : Code) (f : Frame) (s : State) → StaysShut s (run program choice code f s) }
+    ensures plain { (units : List UnitCode) (overlaid : List Name) (stack heap : ℕ) → HasPlaces units → stack ≤ 65520 → heap ≤ 196608 → let program = program_of units overlaid stack heap in IsLegal program (choice_of units) (IsThere program) }
 {}

@@ -39,8 +39,6 @@ fn copies_run_forwards_and_keep_unset_bytes(rt: HostRuntime) -> Result<(), Fail>
     Ok(())
 }
 
-// ---- programs
-
 fn op(alloc: Global, op: FlatOp, a: FlatExpr, b: FlatExpr) -> Result<FlatExpr, Fail> {
     Ok(FlatExpr::Op {
         op,
@@ -92,13 +90,13 @@ fn call(number: u32, args: FlatExprs, wanted: Option<FlatResult>) -> FlatStmt {
     }
 }
 
-fn routine(arguments: u32, locals: u32, body: FlatList) -> Result<FlatRoutine, Fail> {
+fn routine(arguments: u16, locals: u16, body: FlatList) -> Result<FlatRoutine, Fail> {
     Ok(FlatRoutine {
         name: Name::new(b"R").ok_or("a name")?,
         far: false,
-        arguments,
-        locals,
-        frame: arguments + 4 + locals,
+        arguments: u32::from(arguments),
+        locals: u32::from(locals),
+        frame: u32::from(arguments) + 4 + u32::from(locals),
         result: None,
         body,
     })
@@ -137,7 +135,7 @@ fn mean(
 fn end(
     rt: &impl Abort,
     alloc: Global,
-    locals: u32,
+    locals: u16,
     body: FlatList,
     turns: u64,
 ) -> Result<MeanEnd, Fail> {

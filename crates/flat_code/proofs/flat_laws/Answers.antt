@@ -1,6 +1,7 @@
 use Rattle.flat_code.proofs.Whole.{flat_run-IsRun}
 use Rattle.flat_code.proofs.Nodes.{node_laws}
 use Rattle.flat_code.proofs.Shut.{run-shut}
+use Rattle.flat_code.proofs.PlainLegal.{plain_legal}
 use Rattle.flat_code.proofs.flat_laws.Goals as goal
 
 pub returns-clause-runs : goal.returns-clause-runs
@@ -11,3 +12,6 @@ returns-clause-nodes c = node_laws
 
 pub returns-clause-shut : goal.returns-clause-shut
 returns-clause-shut c = run-shut
+
+pub returns-clause-plain : goal.returns-clause-plain
+returns-clause-plain c = plain_legal
