@@ -1,7 +1,8 @@
 -- The rows of blocks count a history, and what their sum is.
-use Rattle.std.proofs.Common.{◌≡◌, ◌≢◌, ℕ, zero, suc, ◌+◌, ◌-◌, ◌*◌, ◌<◌, ◌≤◌, max, Bool, true, false, not, cond, List, [], ◌∷◌, ◌++◌, length, get_or, set, Option, Some, None, refl, sym, ap, ◌∙◌, subst, arith, ltb, eqb}
+use Rattle.std.proofs.Common.{◌≡◌, ◌≢◌, ℕ, zero, suc, ◌+◌, ◌-◌, ◌*◌, ◌^◌, ◌<◌, ◌≤◌, max, Bool, true, false, not, cond, List, [], ◌∷◌, ◌++◌, length, get_or, set, Some, None, refl, sym, ap, ◌∙◌, arith, ltb, eqb}
 use Rattle.std.specs.List.{AllByRecursion, position, position_or_len}
-use Rattle.std.proofs.lemmas.Bool.{eqb-true, eqb-false, ne_eqb, ltb-true, ltb-false, lt-ltb, eq-eqb}
+use Rattle.std.proofs.lemmas.Bool.{eqb-true, eqb-false, ne_eqb, ltb-true, ltb-false, lt-ltb, le-ltb, eq-eqb}
+use Rattle.std.proofs.lemmas.Nat.{mul-le}
 use Rattle.std.proofs.lemmas.List.Quantifiers.{position-Some}
 use Rattle.std.proofs.lemmas.List.Sums.{sum_by-cons}
 use Rattle.values.specs.declared.blocks.Row.{Row}
@@ -204,8 +205,40 @@ again size rows h some =
     let sum = grows size (without_block size rows) (counted_without size rows h) in
     omega arith
 
+most_bytes_by : (size : ℕ) (row : Row) (rows : List Row) (v : Bool) → eqb row.size size ≡ v → size * most_of size rows ≤ block_sum rows → size * cond v row.most (most_of size rows) ≤ row_bytes row + block_sum rows
+most_bytes_by size row rows true e ih = let is : row.size * row.most ≡ size * row.most = ap (λ n. n * row.most) (eqb-true row.size size e) in omega arith
+most_bytes_by size row rows false e ih = omega arith
+
+-- the blocks of one size take no more than all
+pub most_bytes : (size : ℕ) (rows : List Row) → size * most_of size rows ≤ block_sum rows
+most_bytes size [] = omega arith
+most_bytes size (row ∷ rows) =
+    let all = sum_by-cons row_bytes row rows in
+    let part = most_bytes_by size row rows (eqb row.size size) refl (most_bytes size rows) in
+    omega arith
+
+-- where all take so much, few of a rounded size live
+pub few_live : (size : ℕ) (rows : List Row) → 8 ≤ size → IsCounted rows → block_sum rows < 2 ^ 32 → live_of size rows + 1 < 2 ^ 32
+few_live size rows h counted small =
+    let most = most_bytes size rows in
+    let live = live-le_most size rows counted in
+    let bytes = mul-le 8 (most_of size rows) size (most_of size rows) h (omega arith) in
+    omega arith
+
 pub sum_laws : SumLaws
 sum_laws = record { grows = grows; stays = stays; again = again }
+
+pub sum_same : (size : ℕ) (rows : List Row) → IsCounted rows → live_of size rows < most_of size rows → block_sum (with_block size rows) ≡ block_sum rows
+sum_same size rows h l =
+    let g = grows size rows h in
+    let test : cond (ltb (live_of size rows) (most_of size rows)) 0 size ≡ 0 = rw (lt-ltb (live_of size rows) (most_of size rows) l) refl in
+    omega arith
+
+pub sum_more : (size : ℕ) (rows : List Row) → IsCounted rows → most_of size rows ≤ live_of size rows → block_sum (with_block size rows) ≡ block_sum rows + size
+sum_more size rows h l =
+    let g = grows size rows h in
+    let test : cond (ltb (live_of size rows) (most_of size rows)) 0 size ≡ size = rw (le-ltb (live_of size rows) (most_of size rows) l) refl in
+    omega arith
 
 -- ---- the row of a size
 

@@ -1,11 +1,11 @@
 -- What reading takes.
-use Rattle.std.proofs.Common.{◌≡◌, ◌≢◌, ℕ, zero, suc, ◌+◌, ◌<◌, ◌≤◌, min, Bool, true, false, not, cond, ◌||◌, ◌⊎◌, List, [], ◌∷◌, ◌++◌, length, take, drop, refl, sym, ap, ◌∙◌, subst, arith, inl, inr, eqb}
-use Rattle.std.specs.List.{AllByRecursion, prefix_len}
+use Rattle.std.proofs.Common.{◌≡◌, ℕ, suc, ◌+◌, min, Bool, true, false, not, cond, ◌||◌, ◌⊎◌, List, [], ◌∷◌, ◌++◌, length, take, drop, refl, sym, ap, ◌∙◌, arith, inl, inr, eqb}
+use Rattle.std.specs.List.{prefix_len}
 use Rattle.std.proofs.lemmas.Bool.{eqb-true, eqb-false, cases_lt}
 use Rattle.std.proofs.lemmas.List.{length-take, take-append-drop}
 use Rattle.values.proofs.Fronts.{Stops, front_passes, rest_stops, prefix-within}
-use Rattle.values.specs.Input.{eof_byte, ends_line, is_eof, is_eoln, is_text_byte, is_separator, is_word_byte, char_read, string_length, string_read, after_separators, word_length, number_of, number_read, after_13, after_line}
-use Rattle.values.specs.InputLaws.{TakesChar, TakesString, EndsWord, TakesNumber, NoLineFeed, EndsLine, both, lone_13, lone_10, at_eof, TakesLine, TakingLaws}
+use Rattle.values.specs.Input.{eof_byte, ends_line, is_eof, is_eoln, is_text_byte, is_separator, is_word_byte, char_read, string_length, string_read, after_separators, word_length, number_read, after_13, after_line}
+use Rattle.values.specs.InputLaws.{TakesChar, TakesString, EndsWord, TakesNumber, both, lone_13, lone_10, at_eof, TakesLine, TakingLaws}
 
 -- ---- a Char
 
@@ -35,8 +35,8 @@ string_ends size p input e =
     let within = prefix-within is_text_byte input in
     let taken = length-take (min size p) input in
     elim (cases_lt p size) [
-      inl l ↦ let m : min size p ≡ prefix_len is_text_byte input = omega arith in inr (rw m (eoln _ (rest_stops is_text_byte input)))
-    | inr g ↦ inl (omega arith)
+      | inl l ↦ let m : min size p ≡ prefix_len is_text_byte input = omega arith in inr (rw m (eoln _ (rest_stops is_text_byte input)))
+      | inr g ↦ inl (omega arith)
     ]
 
 string : (size : ℕ) (input : List ℕ) → TakesString size input (string_read size input).0 (string_read size input).1

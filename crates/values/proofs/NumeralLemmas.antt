@@ -1,5 +1,5 @@
 -- Reading byte by byte takes numerals, and nothing else.
-use Rattle.std.proofs.Common.{◌≡◌, ◌≢◌, ℕ, zero, suc, ◌+◌, ◌-◌, ◌*◌, ◌<◌, ◌≤◌, Bool, true, false, cond, ◌&&◌, List, [], ◌∷◌, ◌++◌, length, take, drop, append_assoc, append-nil, Option, Some, None, Result, Ok, Err, refl, sym, ap, ◌∙◌, subst, arith, eqb, ltb, leb, lit<, lit≤}
+use Rattle.std.proofs.Common.{◌≡◌, ℕ, zero, suc, ◌+◌, ◌-◌, ◌*◌, ◌<◌, ◌≤◌, Bool, true, false, cond, ◌&&◌, List, [], ◌∷◌, ◌++◌, length, take, append_assoc, append-nil, Option, Some, None, Result, Ok, Err, refl, sym, ap, ◌∙◌, subst, arith, eqb, ltb, leb, lit<, lit≤}
 use Rattle.std.proofs.Math.IntN.{ℤ, pos, negsuc, neg_ℤ}
 use Rattle.std.specs.Prelude.{MatchResult}
 use Rattle.std.specs.Char.{digit_value}
@@ -8,14 +8,14 @@ use Rattle.std.specs.Int.{w32}
 use Rattle.std.specs.Int.RustNames.{FitsSigned}
 use Rattle.std.specs.Option.{ok_or, option_map_or}
 use Rattle.std.specs.Str.Parse.{digits_value, digits_value_after, AllDigits}
-use Rattle.std.proofs.lemmas.Bool.{eqb-true, eqb-false, ltb-true, leb-true, lt-ltb, le-leb, ne_eqb, and_parts, and_from}
+use Rattle.std.proofs.lemmas.Bool.{eqb-true, ltb-true, leb-true, lt-ltb, le-leb, ne_eqb, and_parts}
 use Rattle.std.proofs.lemmas.Nat.{mul-le}
 use Rattle.std.proofs.lemmas.Fmt.{decimal_is_IsNumeral}
 use Rattle.std.proofs.lemmas.Int.Digits.{digits_value_push, digits_push}
-use Rattle.std.proofs.lemmas.List.{length-append, take_all}
+use Rattle.std.proofs.lemmas.List.{length-append}
 use Rattle.values.specs.declared.numerals.Stage.{Stage}
 use Rattle.values.specs.declared.numerals.Stage.TheVariants as stages
-use Rattle.values.specs.Numerals.{Sign, none, plus, minus, Numeral, sign_bytes, is_minus, dollar_bytes, radix_of, spelling, signed, value_of, IsNumeral, IsFront, greatest_magnitude, with_digit, after_sign, next_stage, value_at, IsBounded, numeral_from, numeral_of}
+use Rattle.values.specs.Numerals.{Sign, none, plus, minus, sign_bytes, is_minus, dollar_bytes, radix_of, signed, IsNumeral, IsFront, greatest_magnitude, with_digit, after_sign, next_stage, value_at, IsBounded, numeral_from, numeral_of}
 use Rattle.values.specs.NumeralLaws.{IsFault, ReadingLaws}
 
 -- the stage behind a text

@@ -1,5 +1,5 @@
 -- What the integer types store, shift and leave.
-use Rattle.std.proofs.Common.{◌≡◌, ◌≢◌, ℕ, zero, suc, ◌+◌, ◌-◌, ◌*◌, ◌/◌, ◌%◌, ◌^◌, ◌<◌, ◌≤◌, refl, sym, ap, subst, ◌∙◌, arith, lit<}
+use Rattle.std.proofs.Common.{◌≡◌, ℕ, zero, suc, ◌+◌, ◌*◌, ◌/◌, ◌%◌, ◌^◌, ◌<◌, ◌≤◌, refl, sym, ap, subst, ◌∙◌, arith, lit<}
 use Rattle.std.proofs.Math.IntN.{ℤ, pos, negsuc, neg_ℤ, ◌+ℤ◌, ◌-ℤ◌, ◌*ℤ◌}
 use Rattle.std.specs.Prelude.{◌≤ℤ◌}
 use Rattle.std.specs.Int.{int_wrap, w64}
@@ -9,11 +9,11 @@ use Rattle.std.proofs.lemmas.Int.{ints, quot-rem, quot_is, to_z-of_z, to_z_pos, 
 use Rattle.std.proofs.lemmas.Nat.{mul-mod_second, mul-le, one_shl}
 use Rattle.std.specs.Int.Signed.{mag, mag_rem}
 use mir.Val.{to_z, of_z}
-use Rattle.integers.specs.Words.{Width, w8, w16, w32, bits, IsWord, wrap, word_of, cast_signed, cast_unsigned}
+use Rattle.integers.specs.Words.{Width, w8, w16, w32, bits, IsWord, word_of, cast_signed, cast_unsigned}
 use Rattle.integers.proofs.WordLaws.{word_of-word, word_of-signed, signed-fits, signed_laws, signed-word_of, word_of-int_wrap, word_of-add, word_of-mul, shifted_left-out, shifted_right-out}
 use Rattle.values.specs.declared.ordinals.IntegerType.{IntegerType}
 use Rattle.values.specs.declared.ordinals.IntegerType.TheVariants.{ShortInt, Byte, Integer, Word, LongInt}
-use Rattle.values.specs.Ordinals.{width_of, lowest, greatest, IsValueOf, meant_by, kept, quotient, remainder, shift_count, left_shift, right_shift}
+use Rattle.values.specs.Ordinals.{width_of, IsValueOf, meant_by, kept, quotient, remainder, shift_count, left_shift, right_shift}
 use Rattle.values.specs.OrdinalLaws.{StorageLaws, OperatorLaws}
 
 -- ---- a word of the type

@@ -1,14 +1,14 @@
 -- Which elements a set has, and which bits its bytes.
-use Rattle.std.proofs.Common.{◌≡◌, ℕ, zero, suc, ◌+◌, ◌-◌, ◌*◌, ◌/◌, ◌%◌, ◌^◌, ◌<◌, ◌≤◌, Bool, true, false, not, cond, ◌&&◌, ◌||◌, List, [], ◌∷◌, ◌++◌, length, map, get_or, refl, sym, ap, ◌∙◌, subst, arith, add-one, inl, inr, leb, ltb, eqb}
-use Rattle.std.specs.Prelude.{filter, nat_le}
-use Rattle.std.specs.List.{list_all, range_with_len}
+use Rattle.std.proofs.Common.{◌≡◌, ℕ, zero, suc, ◌+◌, ◌-◌, ◌*◌, ◌/◌, ◌%◌, ◌^◌, ◌<◌, ◌≤◌, Bool, true, false, not, cond, ◌&&◌, ◌||◌, List, [], ◌∷◌, ◌++◌, map, get_or, refl, sym, ap, ◌∙◌, subst, arith, add-one, inl, inr, leb, ltb, eqb}
+use Rattle.std.specs.Prelude.{filter}
+use Rattle.std.specs.List.{range_with_len}
 use Rattle.std.proofs.lemmas.Bool.{eqb-true, eq-eqb, le-leb, and_parts, and_from, cases_eq}
 use Rattle.std.proofs.lemmas.Bool.Decides.{nat_tests}
 use Rattle.std.proofs.lemmas.Nat.{pow_pos, pow-add, shr_high, shr_split, mul-le}
 use Rattle.std.proofs.lemmas.Grind.{pow_more}
 use Rattle.std.proofs.lemmas.List.{map-append}
 use Rattle.std.proofs.Math.Nat.{pow-le-pow_right}
-use Rattle.values.specs.Sets.{contains, union, difference, intersection, is_subset, is_same, ordinals_between, byte_of, bit_of, set_size, has_byte, assigned, weight_if, low_bits, set_byte, set_bytes}
+use Rattle.values.specs.Sets.{contains, union, is_subset, is_same, byte_of, bit_of, set_size, has_byte, assigned, weight_if, low_bits, set_byte, set_bytes}
 use Rattle.values.specs.SetLaws.{SameElements, ElementLaws, SubsetLaws, ByteLaws}
 
 -- ---- elements
@@ -175,10 +175,10 @@ bit-of : (set : List ℕ) (byte n i : ℕ) → i < n → low_bits set byte n / 2
 bit-of set byte zero i h = absurd (omega arith)
 bit-of set byte (suc n) i h =
     elim (cases_eq i n) [
-      inl e ↦ subst (λ (k : ℕ). low_bits set byte (suc n) / 2 ^ k % 2 ≡ cond (contains set (8 * byte + k)) 1 0) (sym e) (top_bit set byte n)
-    | inr d ↦
-      let below : i < n = omega arith in
-      rw (bits-step set byte n) (lower_bit (cond (contains set (8 * byte + n)) 1 0) n (n - i - 1) i (low_bits set byte n) (omega arith) ∙ bit-of set byte n i below)
+      | inl e ↦ subst (λ (k : ℕ). low_bits set byte (suc n) / 2 ^ k % 2 ≡ cond (contains set (8 * byte + k)) 1 0) (sym e) (top_bit set byte n)
+      | inr d ↦
+          let below : i < n = omega arith in
+          rw (bits-step set byte n) (lower_bit (cond (contains set (8 * byte + n)) 1 0) n (n - i - 1) i (low_bits set byte n) (omega arith) ∙ bit-of set byte n i below)
     ]
 
 element_bit : (set : List ℕ) (e : ℕ) → set_byte set (byte_of e) / 2 ^ bit_of e % 2 ≡ cond (contains set e) 1 0
@@ -217,8 +217,8 @@ assigned_bytes : (low high : ℕ) (set : List ℕ) → low ≤ high → set_byte
 assigned_bytes low high set o =
     let bounds : low / 8 ≤ high / 8 = omega arith in
     map_range-agree (set_byte (assigned low high set)) (set_byte set) (byte_of low) (set_size low high) (λ k l m. bits-agree (assigned low high set) set k 8 (λ i s.
-        contains-filter (λ x. has_byte low high x) set (8 * k + i)
-        ∙ and-true (contains set (8 * k + i)) (has_byte low high (8 * k + i)) (kept_byte low high k i l (omega arith) s)))
+    contains-filter (λ x. has_byte low high x) set (8 * k + i)
+    ∙ and-true (contains set (8 * k + i)) (has_byte low high (8 * k + i)) (kept_byte low high k i l (omega arith) s)))
 
 pub byte_laws : ByteLaws
 byte_laws = record {

@@ -1,16 +1,15 @@
 -- Pieces of strings, and where a part stands.
-use Rattle.std.proofs.Common.{◌≡◌, ◌≢◌, ℕ, zero, suc, ◌+◌, ◌-◌, ◌<◌, ◌≤◌, min, Bool, true, false, cond, ℤ, pos, List, [], ◌∷◌, ◌++◌, length, take, drop, append_assoc, refl, sym, ap, ◌∙◌, subst, arith}
+use Rattle.std.proofs.Common.{◌≡◌, ◌≢◌, ℕ, zero, suc, ◌+◌, ◌-◌, ◌<◌, ◌≤◌, Bool, true, false, cond, ℤ, List, [], ◌∷◌, ◌++◌, length, take, drop, append_assoc, refl, sym, ap, ◌∙◌, subst, arith}
 use Rattle.std.specs.Prelude.{nat_eq}
 use Rattle.std.specs.List.{starts_with}
 use Rattle.std.specs.declared.cmp.Ordering.{Ordering}
 use Rattle.std.specs.declared.cmp.Ordering.TheVariants.{Less, Equal, Greater}
 use Rattle.std.specs.Ordering.{nat_cmp, ordering_then}
-use Rattle.std.specs.Cmp.Lexicographic.{slice_cmp}
 use Rattle.std.proofs.lemmas.Bool.Decides.{Decides-eqb, nat_tests}
 use Rattle.std.proofs.lemmas.Cmp.{nat_list_cmp_total, nat_cmp_total, tied_itself}
 use Rattle.std.proofs.lemmas.List.{length-take, length-drop, length-append, length-take-le, take-append-drop, take_all, take_at, drop_at, take-take}
 use Rattle.std.proofs.lemmas.Slice.Eq.{starts_is}
-use Rattle.values.specs.Strings.{longest, cut, bytes_before, copied, deleted, inserted, joined, place_from, position_of, compared}
+use Rattle.values.specs.Strings.{longest, bytes_before, place_from, position_of, compared}
 use Rattle.values.specs.StringLaws.{LeavesOut, PieceLaws, StandsBehind, PositionLaws, JoinLaws, OrderLaws}
 
 -- ---- pieces
@@ -57,8 +56,8 @@ piece_laws = record {
   deletes = deletes;
   room = λ part text place room. cut_twice longest room (take (bytes_before place) text ++ part ++ drop (bytes_before place) text);
   undone = λ part text n room h fits small.
-    subst (λ (l : List ℕ). take (n + 1 - 1) (take room (take longest l)) ++ drop (length part) (drop (n + 1 - 1) (take room (take longest l))) ≡ text)
-        (sym (append_assoc (take (n + 1 - 1) text) part (drop (n + 1 - 1) text))) (undone longest part text n (n + 1 - 1) room (omega arith) h fits small);
+      subst (λ (l : List ℕ). take (n + 1 - 1) (take room (take longest l)) ++ drop (length part) (drop (n + 1 - 1) (take room (take longest l))) ≡ text)
+      (sym (append_assoc (take (n + 1 - 1) text) part (drop (n + 1 - 1) text))) (undone longest part text n (n + 1 - 1) room (omega arith) h fits small);
 }
 
 -- ---- where a part stands

@@ -1,14 +1,14 @@
 -- Val takes a numeral behind blanks and tabs.
-use Rattle.std.proofs.Common.{◌≡◌, ℕ, zero, suc, ◌+◌, ◌-◌, ◌<◌, ◌≤◌, Bool, true, false, List, [], ◌∷◌, ◌++◌, length, take, drop, append_assoc, Result, Ok, Err, refl, sym, ap, ◌∙◌, subst, arith, eqb, lit<}
-use Rattle.std.proofs.Math.IntN.{ℤ, pos}
+use Rattle.std.proofs.Common.{◌≡◌, ℕ, zero, suc, ◌+◌, ◌-◌, ◌<◌, ◌≤◌, Bool, true, false, List, [], ◌∷◌, ◌++◌, length, take, drop, append_assoc, Result, Ok, Err, refl, sym, ap, ◌∙◌, subst, arith, eqb}
+use Rattle.std.proofs.Math.IntN.{ℤ}
 use Rattle.std.proofs.Math.Seq.{take-add}
 use Rattle.std.specs.Char.{digit_value}
 use Rattle.std.specs.Str.Parse.{AllDigits}
 use Rattle.std.proofs.lemmas.Bool.{ne_eqb}
 use Rattle.std.proofs.lemmas.List.{length-drop, take-append-drop}
 use Rattle.values.specs.Numerals.{Sign, none, plus, minus, sign_bytes, dollar_bytes, radix_of, IsNumeral, IsFront, numeral_of, is_gap_byte, gap_length, val_by, val_of, AllGap, IsValText, IsValFront}
-use Rattle.values.specs.NumeralLaws.{IsFault, ReadingLaws, ValLaws}
-use Rattle.values.proofs.Fronts.{Stops, front_passes, rest_stops, prefix-within, drop-run, prefix_len-run, same_rest}
+use Rattle.values.specs.NumeralLaws.{IsFault, ValLaws}
+use Rattle.values.proofs.Fronts.{Stops, front_passes, rest_stops, prefix-within, drop-run, same_rest}
 use Rattle.values.proofs.NumeralLemmas.{reading_laws}
 
 -- ---- a numeral has no blank first
@@ -82,10 +82,10 @@ fault_by text g p e f =
         };
       };
       stops = λ h v.
-        let w = v.whole in
-        let there : take (g + p) text ++ v.rest ≡ take g text ++ (take p (drop g text) ++ v.rest) = rw (take-add g p text) (append_assoc (take g text) (take p (drop g text)) v.rest) in
-        let same = same_rest is_gap_byte w.gap w.rest (take g text) (take p (drop g text) ++ v.rest) (sym w.parts ∙ there) w.blank (numeral_stops w.rest v.value w.numeral) passes (stops_front (drop g text) v.rest p positive (omega arith) stops) in
-        f.stops (omega arith) (record { rest = v.rest; value = v.value; whole = subst (λ (l : List ℕ). IsNumeral l v.value) same w.numeral });
+          let w = v.whole in
+          let there : take (g + p) text ++ v.rest ≡ take g text ++ (take p (drop g text) ++ v.rest) = rw (take-add g p text) (append_assoc (take g text) (take p (drop g text)) v.rest) in
+          let same = same_rest is_gap_byte w.gap w.rest (take g text) (take p (drop g text) ++ v.rest) (sym w.parts ∙ there) w.blank (numeral_stops w.rest v.value w.numeral) passes (stops_front (drop g text) v.rest p positive (omega arith) stops) in
+          f.stops (omega arith) (record { rest = v.rest; value = v.value; whole = subst (λ (l : List ℕ). IsNumeral l v.value) same w.numeral });
     }
 
 fault_of : (text : List ℕ) (r : Result ℤ ℕ) → numeral_of (drop (gap_length text) text) ≡ r → 0 < (val_by (gap_length text) r).1 → IsFault IsValFront text (val_by (gap_length text) r).1

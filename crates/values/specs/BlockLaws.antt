@@ -1,5 +1,5 @@
 -- What holds of the sum of blocks, and that its rows count what a history of blocks says.
-use Rattle.std.specs.Prelude.{◌≡◌, ℕ, ◌+◌, ◌-◌, ◌*◌, ◌%◌, ◌<◌, ◌≤◌, ◌==◌, ◌≢◌, max, cond, nat_lt, List, [], ◌∷◌}
+use Rattle.std.specs.Prelude.{◌≡◌, ℕ, ◌+◌, ◌-◌, ◌%◌, ◌<◌, ◌≤◌, ◌==◌, ◌≢◌, max, cond, nat_lt, List, [], ◌∷◌}
 use Rattle.std.specs.List.{AllByRecursion}
 use Rattle.values.specs.declared.blocks.Row.{Row}
 use Rattle.values.specs.Blocks.{rounded, block_sum, with_block, without_block, live_of, most_of}

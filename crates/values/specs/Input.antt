@@ -1,5 +1,5 @@
 -- Reading. Input is the list of the bytes that no item and no ReadLn has taken yet. Byte 26 or the end of the list is Eof; nothing takes it, so Eof stays.
-use Rattle.std.specs.Prelude.{ℕ, ◌+◌, min, ◌==◌, Bool, true, cond, not, ◌||◌, ℤ, pos, List, [], ◌∷◌, take, drop, Option, Some}
+use Rattle.std.specs.Prelude.{ℕ, min, ◌==◌, Bool, true, cond, not, ◌||◌, ℤ, pos, List, [], ◌∷◌, take, drop, Option, Some}
 use Rattle.std.specs.List.{prefix_len}
 use Rattle.std.specs.Result.{result_ok}
 use Rattle.values.specs.Numerals.{is_gap_byte, numeral_of}

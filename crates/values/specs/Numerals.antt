@@ -1,6 +1,5 @@
 -- Numerals: an optional sign, and then decimal digits, or `$` and hexadecimal digits.
 use Rattle.std.specs.Prelude.{◌≡◌, ℕ, ◌+◌, ◌*◌, ◌<◌, ◌≤◌, ◌==◌, nat_lt, nat_le, Bool, true, false, cond, ◌&&◌, ◌||◌, ℤ, pos, neg_ℤ, List, [], ◌∷◌, ◌++◌, length, drop, Option, Some, None, Result, Ok, Err}
-
 use Rattle.std.specs.Char.{digit_value}
 use Rattle.std.specs.Int.{w32}
 use Rattle.std.specs.Int.RustNames.{FitsSigned}
@@ -75,7 +74,7 @@ greatest_magnitude false = 2147483647
 abbrev pub with_digit : Bool → Bool → ℕ → ℕ → Option Stage
 with_digit is_negative is_hexadecimal magnitude byte =
     cond (nat_lt (digit_value byte) (radix_of is_hexadecimal) && nat_le (magnitude * radix_of is_hexadecimal + digit_value byte) (greatest_magnitude is_negative))
-        (Some (stages.Digits is_negative is_hexadecimal (magnitude * radix_of is_hexadecimal + digit_value byte))) None
+    (Some (stages.Digits is_negative is_hexadecimal (magnitude * radix_of is_hexadecimal + digit_value byte))) None
 
 abbrev pub after_sign : Bool → ℕ → Option Stage
 after_sign is_negative byte = cond (byte == 36) (Some (stages.Dollar is_negative)) (with_digit is_negative false 0 byte)

@@ -1,5 +1,5 @@
 -- What holds of the integer types.
-use Rattle.std.specs.Prelude.{◌≡◌, ◌≢◌, ℕ, ◌<◌, ◌≤◌, ℤ, pos, ◌+ℤ◌, ◌*ℤ◌}
+use Rattle.std.specs.Prelude.{◌≡◌, ◌≢◌, ◌≤◌, ℤ, pos, ◌+ℤ◌, ◌*ℤ◌}
 use Rattle.std.specs.Int.RustNames.{int_rem}
 use Rattle.integers.specs.Words.{bits, word_of}
 use Rattle.values.specs.declared.ordinals.IntegerType.{IntegerType}

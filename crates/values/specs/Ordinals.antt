@@ -1,5 +1,5 @@
 -- The predefined integer types: what they store of a number, and the operators that need more than one step on a word.
-use Rattle.std.specs.Prelude.{ℕ, ◌^◌, ◌*◌, ℤ, pos, negsuc, ◌*ℤ◌, ◌-ℤ◌, ◌≤ℤ◌}
+use Rattle.std.specs.Prelude.{ℕ, ◌^◌, ℤ, pos, negsuc, ◌*ℤ◌, ◌-ℤ◌, ◌≤ℤ◌}
 use Rattle.std.specs.Int.RustNames.{int_div}
 use Rattle.integers.specs.Words.{Width, w8, w16, w32, word_of, cast_signed, shifted_right}
 use Rattle.values.specs.declared.ordinals.IntegerType.{IntegerType}

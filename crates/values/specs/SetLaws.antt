@@ -1,6 +1,6 @@
 -- What holds of sets, told by their elements.
-use Rattle.std.specs.Prelude.{◌≡◌, ◌≢◌, ℕ, ◌-◌, ◌/◌, ◌%◌, ◌^◌, ◌<◌, ◌≤◌, nat_le, true, not, cond, ◌&&◌, ◌||◌, List, [], slice_index}
-use Rattle.values.specs.Sets.{contains, union, difference, intersection, is_subset, is_same, ordinals_between, byte_of, bit_of, set_size, has_byte, assigned, set_byte, set_bytes}
+use Rattle.std.specs.Prelude.{◌≡◌, ℕ, ◌-◌, ◌/◌, ◌%◌, ◌^◌, ◌<◌, ◌≤◌, nat_le, true, not, cond, ◌&&◌, ◌||◌, List, [], slice_index}
+use Rattle.values.specs.Sets.{contains, union, difference, intersection, is_subset, is_same, ordinals_between, byte_of, bit_of, has_byte, assigned, set_byte, set_bytes}
 
 -- two sets have the same elements
 abbrev pub SameElements : List ℕ → List ℕ → Type 0

@@ -1,7 +1,7 @@
 -- What holds of written text.
-use Rattle.std.specs.Prelude.{◌≡◌, ℕ, ◌≤◌, max, ℤ, List, ◌++◌, length, replicate}
+use Rattle.std.specs.Prelude.{◌≡◌, ℕ, ◌≤◌, max, ℤ, List, length}
 use Rattle.values.specs.Strings.{byte_count}
-use Rattle.values.specs.Written.{blank, padded, str_text}
+use Rattle.values.specs.Written.{padded, str_text}
 
 pub record FieldLaws : Type 0 where
   pub len : (width : ℤ) (text : List ℕ) → length (padded width text) ≡ max (byte_count width) (length text)

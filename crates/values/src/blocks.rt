@@ -1,6 +1,6 @@
 //! How much of the heap is taken: of each rounded size, as many blocks as ever lived at once.
 
-ghost use Rattle.std.specs.Prelude.{◌≡◌, ◌<◌, ◌+◌, ◌^◌, IfOk, OnOk, OnErr, List, position, ◌==◌, length, IfSome};
+ghost use Rattle.std.specs.Prelude.{◌≡◌, ◌<◌, ◌≤◌, ◌+◌, ◌^◌, ◌==◌, [], IfSome, OnOk, OnErr, List, position, length, Err};
 ghost use Rattle.values.specs.Blocks.{
   rounded as rounded_of,
   block_sum as sum_of,
@@ -8,12 +8,32 @@ ghost use Rattle.values.specs.Blocks.{
   without_block,
   live_of as living_of,
   most_of as peak_of,
-  with_one_more,
-  with_one_less,
 };
-ghost use Rattle.values.specs.BlockLaws.{SizeLaws, HistoryLaws, SumLaws, Event, IsCounted};
+ghost use Rattle.values.specs.BlockLaws.{SizeLaws, HistoryLaws, SumLaws, Event};
+ghost use Rattle.values.specs.declared.blocks.AddError.TheVariants.{HeapFull};
 
-use std::alloc::AllocError;
+use std::alloc::{AllocError, Global};
+use std::marker::Model;
+
+/// Why no block was made.
+#[derive(Clone, Copy, Debug, PartialEq, Eq)]
+pub enum AddError {
+    /// Error 203 of the program: the sum with the new block passes the heap.
+    HeapFull,
+    /// Memory ran out here.
+    NoMemory,
+}
+
+impl From<AllocError> for AddError {
+    ghost use Rattle.std.specs.Prelude.{◌≡◌};
+    ghost use Rattle.values.specs.declared.blocks.AddError.TheVariants.{NoMemory};
+
+    ghost from_gives = { λ _ error. error ≡ NoMemory };
+
+    fn from(_error: AllocError) -> AddError {
+        AddError::NoMemory
+    }
+}
 
 /// The blocks of one rounded size: how many live, and how many ever lived at once.
 #[derive(Clone, Copy, Debug)]
@@ -31,13 +51,21 @@ impl Row {
         ensures { result ≡ grown self }
     {
         let live = self.live + 1;
-        Row { size: self.size, live, most: self.most.max(live) }
+        Row {
+            size: self.size,
+            live,
+            most: self.most.max(live),
+        }
     }
 
     fn with_one_less(self) -> Row
         ensures { result ≡ shrunk self }
     {
-        Row { size: self.size, live: self.live.saturating_sub(1), most: self.most }
+        Row {
+            size: self.size,
+            live: self.live.saturating_sub(1),
+            most: self.most,
+        }
     }
 }
 
@@ -56,20 +84,8 @@ fn place_of(rows: &[Row], size: u32) -> Option<usize>
     rows.iter().position(|row| row.size == size)
 }
 
-/// The sum over the sizes of size times the greatest number ever live.
-pub fn block_sum(rows: &[Row]) -> u64
-    requires { sum_of rows.now < 2 ^ 64 }
-    ensures { result ≡ sum_of rows.now }
-{
-    let mut sum = 0;
-    for row in rows {
-        sum += u64::from(row.size) * u64::from(row.most);
-    }
-    sum
-}
-
 /// How many blocks of a size live.
-pub fn live_of(rows: &[Row], size: u32) -> u32
+fn live_of(rows: &[Row], size: u32) -> u32
     ensures { result ≡ living_of size rows.now }
 {
     match place_of(rows, size) {
@@ -79,7 +95,7 @@ pub fn live_of(rows: &[Row], size: u32) -> u32
 }
 
 /// How many blocks of a size ever lived at once.
-pub fn most_of(rows: &[Row], size: u32) -> u32
+fn most_of(rows: &[Row], size: u32) -> u32
     ensures { result ≡ peak_of size rows.now }
 {
     match place_of(rows, size) {
@@ -88,36 +104,105 @@ pub fn most_of(rows: &[Row], size: u32) -> u32
     }
 }
 
-/// The sum once a block of a rounded size more is made. Error 203 comes where it passes the heap.
-pub fn sum_with_block(rows: &[Row], size: u32) -> u64
-    requires counted { IsCounted rows.now }
-    requires small { sum_of (with_block size rows.now) < 2 ^ 64 }
-    ensures { result ≡ sum_of (with_block size rows.now) }
-{
-    let sum = block_sum(rows);
-    if live_of(rows, size) < most_of(rows, size) { sum } else { sum + u64::from(size) }
-}
-
-/// New: one block of a rounded size more. Fails only without memory, and then the rows stay.
-pub fn add_block(rows: &mut Vec<Row>, size: u32) -> Result<(), AllocError>
+/// One block of a rounded size more. Fails only without memory, and then the rows stay.
+fn add_block(rows: &mut Vec<Row>, size: u32) -> Result<(), AllocError>
     requires { living_of size rows.old.items + 1 < 2 ^ 32 }
     ensures ok { OnOk result (rows.new.items ≡ with_block size rows.old.items) }
     ensures err { OnErr result (rows.new.items ≡ rows.old.items) }
 {
     match place_of(rows.as_slice(), size) {
         Some(place) => rows[place] = rows[place].with_one_more(),
-        None => rows.push(Row { size, live: 1, most: 1 })?,
+        None => rows.push(Row {
+            size,
+            live: 1,
+            most: 1,
+        })?,
     }
     Ok(())
 }
 
-/// Dispose: one block of a rounded size less.
-pub fn remove_block(rows: &mut Vec<Row>, size: u32)
+/// One block of a rounded size less.
+fn remove_block(rows: &mut Vec<Row>, size: u32)
     ensures { rows.new.items ≡ without_block size rows.old.items }
 {
     match place_of(rows.as_slice(), size) {
         Some(place) => rows[place] = rows[place].with_one_less(),
         None => {}
+    }
+}
+
+/// The blocks of a heap, as one row for each rounded size.
+#[derive(Drop)]
+pub struct Blocks {
+    rows: Vec<Row>,
+    sum: u32,
+}
+
+impl Model for Blocks {
+    ghost use Rattle.std.specs.Prelude.{◌≡◌, List};
+    ghost use Rattle.values.specs.declared.blocks.Row.{Row};
+    ghost use Rattle.values.specs.Blocks.{block_sum};
+    ghost use Rattle.values.specs.BlockLaws.{IsCounted};
+
+    ghost Value = { List Row };
+
+    ghost view = { λ b. b.rows.items };
+
+    ghost invariant = { λ b. IsCounted b.rows.items × (b.sum ≡ block_sum b.rows.items) };
+}
+
+impl Blocks {
+    /// A heap in which no block was made.
+    pub fn new(alloc: Global) -> Blocks
+        ensures { result ≡ [] }
+    {
+        Blocks {
+            rows: Vec::new(alloc),
+            sum: 0,
+        }
+    }
+
+    /// The sum over the sizes of size times the greatest number ever live.
+    pub fn sum(&self) -> u32
+        ensures { result ≡ sum_of self.now }
+    {
+        self.sum
+    }
+
+    /// The sum once a block of a rounded size more is made.
+    fn sum_with(&self, size: u32) -> u64
+        ensures { result ≡ sum_of (with_block size self.now) }
+    {
+        let sum = u64::from(self.sum);
+        if live_of(&self.rows, size) < most_of(&self.rows, size) {
+            sum
+        } else {
+            sum + u64::from(size)
+        }
+    }
+
+    /// New: one block more of a size. An error leaves the blocks as they were.
+    pub fn add(&mut self, size: u16, heap: u32) -> Result<(), AddError>
+        ensures ok { OnOk result (self.new ≡ with_block (rounded_of size) self.old) }
+        ensures fits { OnOk result (sum_of self.new ≤ heap) }
+        ensures full { result ≡ Err HeapFull → heap < sum_of (with_block (rounded_of size) self.old) }
+        ensures err { OnErr result (self.new ≡ self.old) }
+    {
+        let size = rounded(size);
+        let sum = self.sum_with(size);
+        if sum > u64::from(heap) {
+            return Err(AddError::HeapFull);
+        }
+        add_block(&mut self.rows, size)?;
+        self.sum = sum as u32;
+        Ok(())
+    }
+
+    /// Dispose: one block less of a size.
+    pub fn remove(&mut self, size: u16)
+        ensures { self.new ≡ without_block (rounded_of size) self.old }
+    {
+        remove_block(&mut self.rows, rounded(size));
     }
 }
 

@@ -9,7 +9,6 @@ pub mod numerals;
 pub mod ordinals;
 pub mod sets;
 pub mod strings;
-pub mod written;
-
 #[cfg(test)]
 mod tests;
+pub mod written;

@@ -31,7 +31,11 @@ pub enum Stage {
 fn greatest_magnitude(is_negative: bool) -> u64
     ensures { result ≡ limit_of is_negative }
 {
-    if is_negative { 2_147_483_648 } else { 2_147_483_647 }
+    if is_negative {
+        2_147_483_648
+    } else {
+        2_147_483_647
+    }
 }
 
 fn with_digit(is_negative: bool, is_hexadecimal: bool, magnitude: u32, byte: u8) -> Option<Stage>

@@ -118,7 +118,11 @@ pub fn left_shift(kind: IntegerType, value: i32, count: i32) -> i32
     ensures { result ≡ shifted_left kind value count }
 {
     let places = shift_count(count);
-    if places < bits(kind) { kept(kind, with_zeros(value, places)) } else { 0 }
+    if places < bits(kind) {
+        kept(kind, with_zeros(value, places))
+    } else {
+        0
+    }
 }
 
 /// The word that stores a value.
@@ -138,7 +142,11 @@ pub fn right_shift(kind: IntegerType, value: i32, count: i32) -> i32
     ensures { result ≡ shifted_right kind value count }
 {
     let places = shift_count(count);
-    if places < bits(kind) { kept(kind, i64::from(word_of(kind, value) >> places)) } else { 0 }
+    if places < bits(kind) {
+        kept(kind, i64::from(word_of(kind, value) >> places))
+    } else {
+        0
+    }
 }
 
 /// The laws of the integer types; it does nothing.

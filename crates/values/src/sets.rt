@@ -40,7 +40,11 @@ pub fn union(alloc: Global, left: &[u8], right: &[u8]) -> Result<Vec<u8>, AllocE
     ensures { IfOk result (λ v. v.items ≡ union_of left.now right.now) }
 {
     let mut set = Vec::from_slice(alloc, left)?;
-    let others: Vec<u8> = right.iter().copied().filter(|e| !contains(left, *e)).collect(alloc)?;
+    let others: Vec<u8> = right
+        .iter()
+        .copied()
+        .filter(|e| !contains(left, *e))
+        .collect(alloc)?;
     set.extend_from_slice(others.as_slice())?;
     Ok(set)
 }
@@ -49,14 +53,20 @@ pub fn union(alloc: Global, left: &[u8], right: &[u8]) -> Result<Vec<u8>, AllocE
 pub fn difference(alloc: Global, left: &[u8], right: &[u8]) -> Result<Vec<u8>, AllocError>
     ensures { IfOk result (λ v. v.items ≡ difference_of left.now right.now) }
 {
-    left.iter().copied().filter(|e| !contains(right, *e)).collect(alloc)
+    left.iter()
+        .copied()
+        .filter(|e| !contains(right, *e))
+        .collect(alloc)
 }
 
 /// The elements that both sets have. Fails only without memory.
 pub fn intersection(alloc: Global, left: &[u8], right: &[u8]) -> Result<Vec<u8>, AllocError>
     ensures { IfOk result (λ v. v.items ≡ intersection_of left.now right.now) }
 {
-    left.iter().copied().filter(|e| contains(right, *e)).collect(alloc)
+    left.iter()
+        .copied()
+        .filter(|e| contains(right, *e))
+        .collect(alloc)
 }
 
 /// Whether the right set has each element of the left one.
@@ -108,7 +118,10 @@ pub fn set_size(low: u8, high: u8) -> u8
 pub fn assigned(alloc: Global, low: u8, high: u8, set: &[u8]) -> Result<Vec<u8>, AllocError>
     ensures { IfOk result (λ v. v.items ≡ kept_of low high set.now) }
 {
-    set.iter().copied().filter(|e| low / 8 <= *e / 8 && *e / 8 <= high / 8).collect(alloc)
+    set.iter()
+        .copied()
+        .filter(|e| low / 8 <= *e / 8 && *e / 8 <= high / 8)
+        .collect(alloc)
 }
 
 fn weight_if(there: bool, bit: u8) -> u8

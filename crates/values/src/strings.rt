@@ -33,14 +33,22 @@ pub(crate) fn front(text: &[u8], count: usize) -> &[u8]
     ensures value { result.now ≡ take count text.now }
     ensures len { length result.now ≤ count }
 {
-    if count < text.len() { &text[..count] } else { text }
+    if count < text.len() {
+        &text[..count]
+    } else {
+        text
+    }
 }
 
 /// What is left without the first `count` bytes.
 pub(crate) fn behind(text: &[u8], count: usize) -> &[u8]
     ensures { result.now ≡ drop count text.now }
 {
-    if count < text.len() { &text[count..] } else { &[] }
+    if count < text.len() {
+        &text[count..]
+    } else {
+        &[]
+    }
 }
 
 /// A number of bytes; a negative one counts as none.

@@ -91,7 +91,14 @@ fn strings_compare_by_bytes(rt: HostRuntime) {
 
 #[test]
 fn only_letters_have_an_upper_case(rt: HostRuntime) {
-    let rows: [(u8, u8); 6] = [(97, 65), (122, 90), (96, 96), (123, 123), (65, 65), (228, 228)];
+    let rows: [(u8, u8); 6] = [
+        (97, 65),
+        (122, 90),
+        (96, 96),
+        (123, 123),
+        (65, 65),
+        (228, 228),
+    ];
     for (byte, letter) in rows {
         assert_eq!(rt; upper(byte), letter);
     }

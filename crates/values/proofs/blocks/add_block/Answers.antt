@@ -1,8 +1,8 @@
-use Rattle.std.proofs.Common.{◌≡◌, ◌+◌, ◌∷◌, [], List, Some, None, sym, ap, ◌∙◌, eqb, set, subst, arith}
+use Rattle.std.proofs.Common.{◌≡◌, List, Some, None, sym, ap, ◌∙◌, eqb, set, arith}
 use Rattle.std.specs.List.{position}
 use Rattle.values.specs.declared.blocks.Row.{Row}
-use Rattle.values.specs.Blocks.{live_of, with_one_more, first_block}
-use Rattle.values.proofs.BlockLemmas.{IsAtPlace, placed, nowhere}
+use Rattle.values.specs.Blocks.{live_of, with_one_more}
+use Rattle.values.proofs.BlockLemmas.{placed, nowhere}
 use Rattle.values.proofs.blocks.add_block.Goals as goal
 
 pub with_one_more-requires : goal.with_one_more-requires

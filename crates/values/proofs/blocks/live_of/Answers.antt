@@ -1,5 +1,4 @@
-use Rattle.std.proofs.Common.{◌≡◌, Some, None, sym, ◌∙◌, eqb}
-use Rattle.std.specs.List.{position}
+use Rattle.std.proofs.Common.{sym, ◌∙◌}
 use Rattle.values.proofs.BlockLemmas.{placed, nowhere}
 use Rattle.values.proofs.blocks.live_of.Goals as goal
 

@@ -2,7 +2,7 @@ use Rattle.std.proofs.Common.{◌≡◌, List, Some, None, sym, ap, ◌∙◌, e
 use Rattle.std.specs.List.{position}
 use Rattle.values.specs.declared.blocks.Row.{Row}
 use Rattle.values.specs.Blocks.{with_one_less}
-use Rattle.values.proofs.BlockLemmas.{IsAtPlace, placed, nowhere}
+use Rattle.values.proofs.BlockLemmas.{placed, nowhere}
 use Rattle.values.proofs.blocks.remove_block.Goals as goal
 
 pub returns-in-Some : goal.returns-in-Some

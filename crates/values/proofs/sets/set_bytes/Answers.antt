@@ -1,4 +1,4 @@
-use Rattle.std.proofs.Common.{◌≡◌, ◌+◌, ◌/◌, List, [], ◌∷◌, ◌++◌, map, ◌∙◌}
+use Rattle.std.proofs.Common.{◌≡◌, ◌+◌, ◌/◌, [], ◌∷◌, ◌++◌, map, ◌∙◌}
 use Rattle.std.specs.List.{range_with_len}
 use Rattle.values.specs.Sets.{set_byte}
 use Rattle.values.proofs.SetLemmas.{map_range_next}
