@@ -33,40 +33,48 @@ fn unit(
     })
 }
 
-// The order of the units of this list for its first one, as letters, or the unit that is told to lie on a circle.
-fn ordered(alloc: Global, list: &[(&[u8], &[u8], &[u8])]) -> Result<String, OrderError> {
-    let mut units = Vec::new(alloc);
-    for (letter, interface, implementation) in list {
-        let one = unit(alloc, letter, interface, implementation)?;
-        if units.push(one).is_err() {
-            return Err(OrderError::NoMemory);
-        }
+fn push_name(text: &mut String, name: &Name) -> Result<(), AllocError> {
+    for byte in name.as_bytes() {
+        text.push(char::from(*byte))?;
     }
+    Ok(())
+}
+
+// The order of these units for the first one, as letters, or `!` and the unit that is told to lie on a circle.
+fn told(alloc: Global, units: &[UsesOf]) -> Result<String, AllocError> {
     let mut text = String::new(alloc);
     if units.is_empty() {
         return Ok(text);
     }
-    for place in initial_order(alloc, units.as_slice(), 0)?.as_slice() {
-        if let Some(unit) = units.get(*place as usize)
-            && let Some(letter) = unit.name.as_bytes().first()
-        {
-            text.push(char::from(*letter))?;
+    match initial_order(alloc, units, 0) {
+        Ok(order) => {
+            for place in order.as_slice() {
+                if let Some(unit) = units.get(*place as usize) {
+                    push_name(&mut text, &unit.name)?;
+                }
+            }
         }
+        Err(OrderError::Circular { name }) => {
+            text.push('!')?;
+            push_name(&mut text, &name)?;
+        }
+        Err(OrderError::NoMemory) => return Err(AllocError),
     }
     Ok(text)
+}
+
+fn ordered(alloc: Global, list: &[(&[u8], &[u8], &[u8])]) -> Result<String, AllocError> {
+    let mut units = Vec::new(alloc);
+    for (letter, interface, implementation) in list {
+        units.push(unit(alloc, letter, interface, implementation)?)?;
+    }
+    told(alloc, units.as_slice())
 }
 
 fn is_order(alloc: Global, list: &[(&[u8], &[u8], &[u8])], wanted: &str) -> bool {
     match ordered(alloc, list) {
         Ok(order) => order.as_str() == wanted,
         Err(_) => false,
-    }
-}
-
-fn is_circle(alloc: Global, list: &[(&[u8], &[u8], &[u8])], wanted: &[u8]) -> bool {
-    match ordered(alloc, list) {
-        Err(OrderError::Circular { name }) => name.as_bytes() == wanted,
-        _ => false,
     }
 }
 
@@ -138,15 +146,15 @@ fn a_unit_that_is_not_finished_is_passed_over(rt: HostRuntime) {
 fn a_circle_of_interface_uses_is_told(rt: HostRuntime) {
     let alloc = rt.alloc();
     assert!(rt;
-        is_circle(
+        is_order(
             alloc,
             &[(b"P", b"A", b""), (b"A", b"B", b""), (b"B", b"A", b"")],
-            b"A"
+            "!A"
         )
     );
-    assert!(rt; is_circle(alloc, &[(b"P", b"A", b""), (b"A", b"A", b"")], b"A"));
+    assert!(rt; is_order(alloc, &[(b"P", b"A", b""), (b"A", b"A", b"")], "!A"));
     assert!(rt;
-        is_circle(
+        is_order(
             alloc,
             &[
                 (b"P", b"A", b""),
@@ -155,7 +163,7 @@ fn a_circle_of_interface_uses_is_told(rt: HostRuntime) {
                 (b"C", b"D", b""),
                 (b"D", b"B", b"")
             ],
-            b"B"
+            "!B"
         )
     );
 }
