@@ -1,0 +1,11 @@
+pub mod Parts
+pub mod Asked
+pub mod Operators
+pub mod Lexemes
+pub mod Productions
+pub mod Rules
+pub mod Choices
+pub mod Starts
+pub mod Follows
+pub mod Omissions
+pub mod Laws

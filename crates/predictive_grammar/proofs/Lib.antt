@@ -1,0 +1,5 @@
+pub mod Meeting
+pub mod Predicting
+pub mod Checking
+pub mod Unique
+pub mod Whole
