@@ -38,28 +38,28 @@ productions =
     p.absolute ∷ p.no_address ∷ p.next_variable ∷ p.no_variables ∷ p.type_name ∷ p.caret_type ∷
     p.string_type ∷ p.enumeration_type ∷ p.procedural_type ∷ p.functional_type ∷ p.object_type ∷
     p.packed_type ∷ p.structured_type ∷ p.file_type ∷ p.signed_range ∷ p.closed_range ∷ p.selected_range ∷
-    p.called_range ∷ p.multiplied_range ∷ p.added_range ∷ p.named_range ∷ p.only_name ∷ p.long_target ∷
-    p.letter_target ∷ p.multiplied_control ∷ p.added_control ∷ p.control_range ∷ p.only_letter ∷ p.sized ∷
-    p.unsized ∷ p.packed_structured ∷ p.packed_file ∷ p.array_type ∷ p.record_type ∷ p.set_type ∷
-    p.index_types ∷ p.next_index_type ∷ p.no_index_types ∷ p.fields ∷ p.variants ∷ p.no_fields ∷
-    p.next_fields ∷ p.last_fields ∷ p.ancestor ∷ p.no_ancestor ∷ p.object_fields ∷ p.object_methods ∷
-    p.next_object_part ∷ p.object_end ∷ p.method ∷ p.no_methods ∷ p.virtual ∷ p.not_virtual ∷
-    p.method_procedure ∷ p.method_function ∷ p.method_constructor ∷ p.method_destructor ∷ p.parameters ∷
-    p.no_parameters ∷ p.variable_group ∷ p.value_group ∷ p.typed_group ∷ p.untyped_before_group ∷
-    p.untyped_last ∷ p.next_group ∷ p.no_groups ∷ p.parameter_type_name ∷ p.parameter_string ∷
-    p.parameter_file ∷ p.result_type_name ∷ p.result_string ∷ p.result ∷ p.no_result ∷ p.procedure_header ∷
-    p.function_header ∷ p.procedure ∷ p.function ∷ p.constructor ∷ p.destructor ∷ p.procedure_method ∷
-    p.plain_procedure ∷ p.function_method ∷ p.plain_function ∷ p.forward ∷ p.external ∷ p.interrupt ∷
-    p.inline_body ∷ p.own_block ∷ p.block ∷ p.compound ∷ p.statements ∷ p.next_statement ∷ p.no_statements ∷
-    p.named_statement ∷ p.compound_statement ∷ p.if_statement ∷ p.case_statement ∷ p.while_statement ∷
-    p.repeat_statement ∷ p.for_statement ∷ p.with_statement ∷ p.goto_statement ∷ p.inline_statement ∷
-    p.empty_statement ∷ p.assignment ∷ p.called ∷ p.no_arguments ∷ p.assigned_cast ∷ p.dereferenced_cast ∷
-    p.selected_cast ∷ p.indexed_cast ∷ p.no_cast ∷ p.with_else ∷ p.without_else ∷ p.case_else ∷
-    p.no_case_else ∷ p.arm ∷ p.semicolon_arms ∷ p.no_semicolon ∷ p.next_arm ∷ p.no_arms ∷ p.label ∷
-    p.label_range ∷ p.single_label ∷ p.next_label ∷ p.no_labels ∷ p.designator ∷ p.next_designator ∷
-    p.with_body ∷ p.with_cast ∷ p.expression ∷ p.relation ∷ p.no_relation ∷ p.signed ∷ p.unsigned ∷
-    p.more_terms ∷ p.no_terms ∷ p.added ∷ p.sign ∷ p.no_sign ∷ p.term ∷ p.more_factors ∷ p.divided ∷
-    p.no_factors ∷ p.multiplied ∷ p.group_factor ∷ p.bare_factor ∷ p.named_factor ∷ p.control ∷
+    p.called_range ∷ p.multiplied_range ∷ p.divided_range ∷ p.added_range ∷ p.named_range ∷ p.only_name ∷
+    p.long_target ∷ p.letter_target ∷ p.multiplied_control ∷ p.divided_control ∷ p.added_control ∷
+    p.control_range ∷ p.only_letter ∷ p.sized ∷ p.unsized ∷ p.packed_structured ∷ p.packed_file ∷
+    p.array_type ∷ p.record_type ∷ p.set_type ∷ p.index_types ∷ p.next_index_type ∷ p.no_index_types ∷
+    p.fields ∷ p.variants ∷ p.no_fields ∷ p.next_fields ∷ p.last_fields ∷ p.ancestor ∷ p.no_ancestor ∷
+    p.object_fields ∷ p.object_methods ∷ p.next_object_part ∷ p.object_end ∷ p.method ∷ p.no_methods ∷
+    p.virtual ∷ p.not_virtual ∷ p.method_procedure ∷ p.method_function ∷ p.method_constructor ∷
+    p.method_destructor ∷ p.parameters ∷ p.no_parameters ∷ p.variable_group ∷ p.value_group ∷ p.typed_group ∷
+    p.untyped_before_group ∷ p.untyped_last ∷ p.next_group ∷ p.no_groups ∷ p.parameter_type_name ∷
+    p.parameter_string ∷ p.parameter_file ∷ p.result_type_name ∷ p.result_string ∷ p.result ∷ p.no_result ∷
+    p.procedure_header ∷ p.function_header ∷ p.procedure ∷ p.function ∷ p.constructor ∷ p.destructor ∷
+    p.procedure_method ∷ p.plain_procedure ∷ p.function_method ∷ p.plain_function ∷ p.forward ∷ p.external ∷
+    p.interrupt ∷ p.inline_body ∷ p.own_block ∷ p.block ∷ p.compound ∷ p.statements ∷ p.next_statement ∷
+    p.no_statements ∷ p.named_statement ∷ p.compound_statement ∷ p.if_statement ∷ p.case_statement ∷
+    p.while_statement ∷ p.repeat_statement ∷ p.for_statement ∷ p.with_statement ∷ p.goto_statement ∷
+    p.inline_statement ∷ p.empty_statement ∷ p.assignment ∷ p.called ∷ p.no_arguments ∷ p.assigned_cast ∷
+    p.dereferenced_cast ∷ p.selected_cast ∷ p.indexed_cast ∷ p.no_cast ∷ p.with_else ∷ p.without_else ∷
+    p.case_else ∷ p.no_case_else ∷ p.arm ∷ p.semicolon_arms ∷ p.no_semicolon ∷ p.next_arm ∷ p.no_arms ∷
+    p.label ∷ p.label_range ∷ p.single_label ∷ p.next_label ∷ p.no_labels ∷ p.designator ∷
+    p.next_designator ∷ p.with_body ∷ p.with_cast ∷ p.expression ∷ p.relation ∷ p.no_relation ∷ p.signed ∷
+    p.unsigned ∷ p.more_terms ∷ p.no_terms ∷ p.added ∷ p.sign ∷ p.no_sign ∷ p.term ∷ p.more_factors ∷
+    p.divided ∷ p.no_factors ∷ p.multiplied ∷ p.group_factor ∷ p.bare_factor ∷ p.named_factor ∷ p.control ∷
     p.closed_factor ∷ p.number ∷ p.text ∷ p.nil ∷ p.negation ∷ p.set_constructor ∷ p.real ∷ p.address ∷
     p.elements ∷ p.no_elements ∷ p.next_element ∷ p.no_more_elements ∷ p.element ∷ p.element_range ∷
     p.single_element ∷ p.call ∷ p.no_call ∷ p.arguments ∷ p.caret_cast ∷ p.dot_cast ∷ p.bracket_cast ∷
@@ -138,170 +138,172 @@ number p.closed_range = 67
 number p.selected_range = 68
 number p.called_range = 69
 number p.multiplied_range = 70
-number p.added_range = 71
-number p.named_range = 72
-number p.only_name = 73
-number p.long_target = 74
-number p.letter_target = 75
-number p.multiplied_control = 76
-number p.added_control = 77
-number p.control_range = 78
-number p.only_letter = 79
-number p.sized = 80
-number p.unsized = 81
-number p.packed_structured = 82
-number p.packed_file = 83
-number p.array_type = 84
-number p.record_type = 85
-number p.set_type = 86
-number p.index_types = 87
-number p.next_index_type = 88
-number p.no_index_types = 89
-number p.fields = 90
-number p.variants = 91
-number p.no_fields = 92
-number p.next_fields = 93
-number p.last_fields = 94
-number p.ancestor = 95
-number p.no_ancestor = 96
-number p.object_fields = 97
-number p.object_methods = 98
-number p.next_object_part = 99
-number p.object_end = 100
-number p.method = 101
-number p.no_methods = 102
-number p.virtual = 103
-number p.not_virtual = 104
-number p.method_procedure = 105
-number p.method_function = 106
-number p.method_constructor = 107
-number p.method_destructor = 108
-number p.parameters = 109
-number p.no_parameters = 110
-number p.variable_group = 111
-number p.value_group = 112
-number p.typed_group = 113
-number p.untyped_before_group = 114
-number p.untyped_last = 115
-number p.next_group = 116
-number p.no_groups = 117
-number p.parameter_type_name = 118
-number p.parameter_string = 119
-number p.parameter_file = 120
-number p.result_type_name = 121
-number p.result_string = 122
-number p.result = 123
-number p.no_result = 124
-number p.procedure_header = 125
-number p.function_header = 126
-number p.procedure = 127
-number p.function = 128
-number p.constructor = 129
-number p.destructor = 130
-number p.procedure_method = 131
-number p.plain_procedure = 132
-number p.function_method = 133
-number p.plain_function = 134
-number p.forward = 135
-number p.external = 136
-number p.interrupt = 137
-number p.inline_body = 138
-number p.own_block = 139
-number p.block = 140
-number p.compound = 141
-number p.statements = 142
-number p.next_statement = 143
-number p.no_statements = 144
-number p.named_statement = 145
-number p.compound_statement = 146
-number p.if_statement = 147
-number p.case_statement = 148
-number p.while_statement = 149
-number p.repeat_statement = 150
-number p.for_statement = 151
-number p.with_statement = 152
-number p.goto_statement = 153
-number p.inline_statement = 154
-number p.empty_statement = 155
-number p.assignment = 156
-number p.called = 157
-number p.no_arguments = 158
-number p.assigned_cast = 159
-number p.dereferenced_cast = 160
-number p.selected_cast = 161
-number p.indexed_cast = 162
-number p.no_cast = 163
-number p.with_else = 164
-number p.without_else = 165
-number p.case_else = 166
-number p.no_case_else = 167
-number p.arm = 168
-number p.semicolon_arms = 169
-number p.no_semicolon = 170
-number p.next_arm = 171
-number p.no_arms = 172
-number p.label = 173
-number p.label_range = 174
-number p.single_label = 175
-number p.next_label = 176
-number p.no_labels = 177
-number p.designator = 178
-number p.next_designator = 179
-number p.with_body = 180
-number p.with_cast = 181
-number p.expression = 182
-number p.relation = 183
-number p.no_relation = 184
-number p.signed = 185
-number p.unsigned = 186
-number p.more_terms = 187
-number p.no_terms = 188
-number p.added = 189
-number p.sign = 190
-number p.no_sign = 191
-number p.term = 192
-number p.more_factors = 193
-number p.divided = 194
-number p.no_factors = 195
-number p.multiplied = 196
-number p.group_factor = 197
-number p.bare_factor = 198
-number p.named_factor = 199
-number p.control = 200
-number p.closed_factor = 201
-number p.number = 202
-number p.text = 203
-number p.nil = 204
-number p.negation = 205
-number p.set_constructor = 206
-number p.real = 207
-number p.address = 208
-number p.elements = 209
-number p.no_elements = 210
-number p.next_element = 211
-number p.no_more_elements = 212
-number p.element = 213
-number p.element_range = 214
-number p.single_element = 215
-number p.call = 216
-number p.no_call = 217
-number p.arguments = 218
-number p.caret_cast = 219
-number p.dot_cast = 220
-number p.bracket_cast = 221
-number p.argument_end = 222
-number p.argument = 223
-number p.width = 224
-number p.no_width = 225
-number p.next_argument = 226
-number p.no_more_arguments = 227
-number p.more_selectors = 228
-number p.no_selectors = 229
-number p.field = 230
-number p.index = 231
-number p.dereference = 232
-number p.next_index = 233
-number p.last_index = 234
+number p.divided_range = 71
+number p.added_range = 72
+number p.named_range = 73
+number p.only_name = 74
+number p.long_target = 75
+number p.letter_target = 76
+number p.multiplied_control = 77
+number p.divided_control = 78
+number p.added_control = 79
+number p.control_range = 80
+number p.only_letter = 81
+number p.sized = 82
+number p.unsized = 83
+number p.packed_structured = 84
+number p.packed_file = 85
+number p.array_type = 86
+number p.record_type = 87
+number p.set_type = 88
+number p.index_types = 89
+number p.next_index_type = 90
+number p.no_index_types = 91
+number p.fields = 92
+number p.variants = 93
+number p.no_fields = 94
+number p.next_fields = 95
+number p.last_fields = 96
+number p.ancestor = 97
+number p.no_ancestor = 98
+number p.object_fields = 99
+number p.object_methods = 100
+number p.next_object_part = 101
+number p.object_end = 102
+number p.method = 103
+number p.no_methods = 104
+number p.virtual = 105
+number p.not_virtual = 106
+number p.method_procedure = 107
+number p.method_function = 108
+number p.method_constructor = 109
+number p.method_destructor = 110
+number p.parameters = 111
+number p.no_parameters = 112
+number p.variable_group = 113
+number p.value_group = 114
+number p.typed_group = 115
+number p.untyped_before_group = 116
+number p.untyped_last = 117
+number p.next_group = 118
+number p.no_groups = 119
+number p.parameter_type_name = 120
+number p.parameter_string = 121
+number p.parameter_file = 122
+number p.result_type_name = 123
+number p.result_string = 124
+number p.result = 125
+number p.no_result = 126
+number p.procedure_header = 127
+number p.function_header = 128
+number p.procedure = 129
+number p.function = 130
+number p.constructor = 131
+number p.destructor = 132
+number p.procedure_method = 133
+number p.plain_procedure = 134
+number p.function_method = 135
+number p.plain_function = 136
+number p.forward = 137
+number p.external = 138
+number p.interrupt = 139
+number p.inline_body = 140
+number p.own_block = 141
+number p.block = 142
+number p.compound = 143
+number p.statements = 144
+number p.next_statement = 145
+number p.no_statements = 146
+number p.named_statement = 147
+number p.compound_statement = 148
+number p.if_statement = 149
+number p.case_statement = 150
+number p.while_statement = 151
+number p.repeat_statement = 152
+number p.for_statement = 153
+number p.with_statement = 154
+number p.goto_statement = 155
+number p.inline_statement = 156
+number p.empty_statement = 157
+number p.assignment = 158
+number p.called = 159
+number p.no_arguments = 160
+number p.assigned_cast = 161
+number p.dereferenced_cast = 162
+number p.selected_cast = 163
+number p.indexed_cast = 164
+number p.no_cast = 165
+number p.with_else = 166
+number p.without_else = 167
+number p.case_else = 168
+number p.no_case_else = 169
+number p.arm = 170
+number p.semicolon_arms = 171
+number p.no_semicolon = 172
+number p.next_arm = 173
+number p.no_arms = 174
+number p.label = 175
+number p.label_range = 176
+number p.single_label = 177
+number p.next_label = 178
+number p.no_labels = 179
+number p.designator = 180
+number p.next_designator = 181
+number p.with_body = 182
+number p.with_cast = 183
+number p.expression = 184
+number p.relation = 185
+number p.no_relation = 186
+number p.signed = 187
+number p.unsigned = 188
+number p.more_terms = 189
+number p.no_terms = 190
+number p.added = 191
+number p.sign = 192
+number p.no_sign = 193
+number p.term = 194
+number p.more_factors = 195
+number p.divided = 196
+number p.no_factors = 197
+number p.multiplied = 198
+number p.group_factor = 199
+number p.bare_factor = 200
+number p.named_factor = 201
+number p.control = 202
+number p.closed_factor = 203
+number p.number = 204
+number p.text = 205
+number p.nil = 206
+number p.negation = 207
+number p.set_constructor = 208
+number p.real = 209
+number p.address = 210
+number p.elements = 211
+number p.no_elements = 212
+number p.next_element = 213
+number p.no_more_elements = 214
+number p.element = 215
+number p.element_range = 216
+number p.single_element = 217
+number p.call = 218
+number p.no_call = 219
+number p.arguments = 220
+number p.caret_cast = 221
+number p.dot_cast = 222
+number p.bracket_cast = 223
+number p.argument_end = 224
+number p.argument = 225
+number p.width = 226
+number p.no_width = 227
+number p.next_argument = 228
+number p.no_more_arguments = 229
+number p.more_selectors = 230
+number p.no_selectors = 231
+number p.field = 232
+number p.index = 233
+number p.dereference = 234
+number p.next_index = 235
+number p.last_index = 236
 
 abbrev pub same_production : Production → Production → Bool
 same_production p q = nat_eq (number p) (number q)

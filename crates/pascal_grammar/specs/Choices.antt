@@ -121,6 +121,7 @@ choose_after_type_name k.OpenBracket = Some p.selected_range
 choose_after_type_name k.Dot = Some p.selected_range
 choose_after_type_name k.Caret = Some p.selected_range
 choose_after_type_name k.Open = Some p.called_range
+choose_after_type_name k.Slash = Some p.divided_range
 choose_after_type_name k.Dots = Some p.named_range
 choose_after_type_name x = if is_adder x then Some p.added_range else if is_multiplier x then Some p.multiplied_range else Some p.only_name
 
@@ -129,6 +130,7 @@ choose_target k.Letter = Some p.letter_target
 choose_target x = Some p.long_target
 
 abbrev pub choose_after_letter : Kind → Option Production
+choose_after_letter k.Slash = Some p.divided_control
 choose_after_letter k.Dots = Some p.control_range
 choose_after_letter x = if is_adder x then Some p.added_control else if is_multiplier x then Some p.multiplied_control else Some p.only_letter
 

@@ -78,12 +78,14 @@ pub data Production : Type 0 where
   selected_range : Production
   called_range : Production
   multiplied_range : Production
+  divided_range : Production
   added_range : Production
   named_range : Production
   only_name : Production
   long_target : Production
   letter_target : Production
   multiplied_control : Production
+  divided_control : Production
   added_control : Production
   control_range : Production
   only_letter : Production
@@ -296,6 +298,8 @@ feature_of interface_interrupt = Some f.Interrupts
 feature_of interface_inline = Some f.Inline
 feature_of absolute = Some f.Absolute
 feature_of file_type = Some f.Files
+feature_of divided_range = Some f.Reals
+feature_of divided_control = Some f.Reals
 feature_of packed_file = Some f.Files
 feature_of variants = Some f.Variants
 feature_of untyped_before_group = Some f.UntypedParameters

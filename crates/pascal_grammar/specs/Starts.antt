@@ -128,6 +128,7 @@ starts_type k.Real = true
 starts_type x = is_name x || is_sign x
 
 abbrev starts_after_type_name : Kind → Bool
+starts_after_type_name k.Slash = true
 starts_after_type_name k.Open = true
 starts_after_type_name k.OpenBracket = true
 starts_after_type_name k.Dot = true
@@ -136,6 +137,7 @@ starts_after_type_name k.Caret = true
 starts_after_type_name x = is_multiplier x || is_adder x
 
 abbrev starts_after_letter : Kind → Bool
+starts_after_letter k.Slash = true
 starts_after_letter k.Dots = true
 starts_after_letter x = is_multiplier x || is_adder x
 

@@ -14,6 +14,8 @@ pub enum Omission {
     InterfaceInline,
     Absolute,
     FileType,
+    DividedRange,
+    DividedControl,
     PackedFile,
     Variants,
     UntypedBeforeGroup,
@@ -60,7 +62,10 @@ impl Omission {
             | Omission::CaretCast
             | Omission::DotCast
             | Omission::BracketCast => Feature::Casts,
-            Omission::Divided | Omission::Real => Feature::Reals,
+            Omission::DividedRange
+            | Omission::DividedControl
+            | Omission::Divided
+            | Omission::Real => Feature::Reals,
             Omission::Address => Feature::Addresses,
         }
     }
