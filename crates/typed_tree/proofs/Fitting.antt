@@ -23,7 +23,7 @@ mutual
   fits_expression types room below (SetOf ty elements) h = (omega arith, fit_elements types room (below + 32) elements (omega arith))
   fits_expression types room below (Call ty routine own args) h =
       (fits_receiver types room below own (omega arith), fit_arguments types room below (receiver_slot own) (below + receiver_slot own) (slot_of_result types ty) args refl (omega arith))
-  fits_expression types room below (CallVirtual ty own slot args) h =
+  fits_expression types room below (CallVirtual ty own slot checked args) h =
       (fits_place types room below 4 own (omega arith) (omega arith), fit_arguments types room below 4 (below + 4) (slot_of_result types ty) args refl (omega arith))
   fits_expression types room below (CallThrough ty through args) h =
       (fits_place types room below 4 through (omega arith) (omega arith), fit_arguments types room below 4 (below + 4) (slot_of_result types ty) args refl (omega arith))
@@ -97,7 +97,7 @@ mutual
     fit_arms types room (below + slot_of types selector) arms (omega arith),
     fits_statement types room (below + slot_of types selector) other (omega arith),
   )
-  fits_statement types room below (For variable ty from to down body) h = (
+  fits_statement types room below (For variable ty from to down checked body) h = (
     fits_expression types room below from (omega arith),
     fits_expression types room (below + slot_of_type types ty) to (omega arith),
     fits_statement types room (below + slot_of_type types ty) body (omega arith),

@@ -1,5 +1,5 @@
 -- Trees round a list that lies in a vector.
-use Rattle.std.proofs.Common.{◌≡◌, ℕ, Option, Some, None, refl, ap, ◌∙◌, Vec, Box, Global}
+use Rattle.std.proofs.Common.{◌≡◌, ℕ, Bool, Option, Some, None, refl, ap, ◌∙◌, Vec, Box, Global}
 use Rattle.type_layout.specs.declared.definitions.TypeId.{TypeId}
 use Rattle.type_layout.specs.declared.definitions.RoutineId.{RoutineId}
 use Rattle.typed_tree.specs.declared.expressions.Expr.{Expr, Row_of-Arg, end_of-Arg, more_of-Arg, Row_of-SetElement, end_of-SetElement, more_of-SetElement, items-the_row-Arg, items_hidden-the_row-Arg-1, items-the_row-SetElement, items_hidden-the_row-SetElement-0}
@@ -19,7 +19,7 @@ element_row n (more_of-SetElement one rest) = ap (λ (z : Elements). view_elemen
 
 abbrev args_of : Expr → (n : _) × Row_of-Arg n
 args_of (expr.Call' ty routine own shape args) = (_, args)
-args_of (expr.CallVirtual' ty p own slot shape args) = (_, args)
+args_of (expr.CallVirtual' ty p own slot checked shape args) = (_, args)
 args_of (expr.CallThrough' ty p through shape args) = (_, args)
 args_of (expr.Std' ty number shape args) = (_, args)
 args_of (expr.Make' ty routine shape args) = (_, args)
@@ -43,11 +43,11 @@ view_call ty routine (Some own) args =
     let row = args_of (expr.Call ty routine (Some own) args) in
     ap (λ (z : Arguments). Call ty routine (view_receiver (Some own)) z) (arg_row row.0 row.1 ∙ ap view_args (items_hidden-the_row-Arg-1 args))
 
-pub view_call_virtual : (ty : Option TypeId) (own : Box PlaceExpr Global) (slot : ℕ) (args : Vec Arg Global)
-    → view_expr (expr.CallVirtual ty own slot args) ≡ CallVirtual ty (view_place own.value) slot (view_args args.items)
-view_call_virtual ty own slot args =
-    let row = args_of (expr.CallVirtual ty own slot args) in
-    ap (λ (z : Arguments). CallVirtual ty (view_place own.value) slot z) (arg_row row.0 row.1 ∙ ap view_args (items_hidden-the_row-Arg-1 args))
+pub view_call_virtual : (ty : Option TypeId) (own : Box PlaceExpr Global) (slot : ℕ) (checked : Bool) (args : Vec Arg Global)
+    → view_expr (expr.CallVirtual ty own slot checked args) ≡ CallVirtual ty (view_place own.value) slot checked (view_args args.items)
+view_call_virtual ty own slot checked args =
+    let row = args_of (expr.CallVirtual ty own slot checked args) in
+    ap (λ (z : Arguments). CallVirtual ty (view_place own.value) slot checked z) (arg_row row.0 row.1 ∙ ap view_args (items_hidden-the_row-Arg-1 args))
 
 pub view_call_through : (ty : Option TypeId) (through : Box PlaceExpr Global) (args : Vec Arg Global)
     → view_expr (expr.CallThrough ty through args) ≡ CallThrough ty (view_place through.value) (view_args args.items)

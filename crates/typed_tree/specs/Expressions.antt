@@ -27,7 +27,7 @@ mutual
     Range : TypeId → Expression → ℤ → ℤ → Expression
     SetOf : TypeId → Elements → Expression
     Call : Option TypeId → RoutineId → Receiver → Arguments → Expression
-    CallVirtual : Option TypeId → Place → ℕ → Arguments → Expression
+    CallVirtual : Option TypeId → Place → ℕ → Bool → Arguments → Expression
     CallThrough : Option TypeId → Place → Arguments → Expression
     Std : Option TypeId → ℕ → Arguments → Expression
     Make : TypeId → RoutineId → Arguments → Expression
@@ -66,7 +66,7 @@ abbrev mutual
   view_expr (expr.Range' ty p operand low high) = Range ty (view_expr operand) low high
   view_expr (expr.SetOf' ty shape elements) = SetOf ty (view_element_row elements)
   view_expr (expr.Call' ty routine own shape args) = Call ty routine (view_own own) (view_arg_row args)
-  view_expr (expr.CallVirtual' ty p own slot shape args) = CallVirtual ty (view_place own) slot (view_arg_row args)
+  view_expr (expr.CallVirtual' ty p own slot checked shape args) = CallVirtual ty (view_place own) slot checked (view_arg_row args)
   view_expr (expr.CallThrough' ty p through shape args) = CallThrough ty (view_place through) (view_arg_row args)
   view_expr (expr.Std' ty number shape args) = Std ty number (view_arg_row args)
   view_expr (expr.Make' ty routine shape args) = Make ty routine (view_arg_row args)
@@ -118,7 +118,7 @@ type_of (Convert ty operand) = Some ty
 type_of (Range ty operand low high) = Some ty
 type_of (SetOf ty listed) = Some ty
 type_of (Call ty routine own args) = ty
-type_of (CallVirtual ty own slot args) = ty
+type_of (CallVirtual ty own slot checked args) = ty
 type_of (CallThrough ty through args) = ty
 type_of (Std ty number args) = ty
 type_of (Make ty routine args) = Some ty

@@ -23,7 +23,7 @@ abbrev mutual
   need types (SetOf ty elements) = 32 + elements_need types elements
   need types (Call ty routine own args) =
       max (receiver_need types own) (arguments_need types (receiver_slot own) (slot_of_result types ty) args)
-  need types (CallVirtual ty own slot args) = max (place_need types own) (arguments_need types 4 (slot_of_result types ty) args)
+  need types (CallVirtual ty own slot checked args) = max (place_need types own) (arguments_need types 4 (slot_of_result types ty) args)
   need types (CallThrough ty through args) = max (place_need types through) (arguments_need types 4 (slot_of_result types ty) args)
   need types (Std ty number args) = arguments_need types 0 (slot_of_result types ty) args
   need types (Make ty routine args) = arguments_need types 4 0 args
@@ -84,7 +84,7 @@ abbrev mutual
   statement_need types (Block statements) = statements_need types statements
   statement_need types (Case selector arms other) =
       max (need types selector) (slot_of types selector + max (arms_need types arms) (statement_need types other))
-  statement_need types (For variable ty from to down body) =
+  statement_need types (For variable ty from to down checked body) =
       max (need types from) (slot_of_type types ty + max (need types to) (statement_need types body))
   statement_need types (With at body) = max (place_need types at) (4 + statement_need types body)
   statement_need types (WriteItems items line) = written_need types items

@@ -20,7 +20,7 @@ abbrev mutual
   FitsExpression types room below (SetOf ty elements) = (below + 32 ≤ room) × FitElements types room (below + 32) elements
   FitsExpression types room below (Call ty routine own args) =
       FitsReceiver types room below own × FitArguments types room (below + receiver_slot own) (slot_of_result types ty) args
-  FitsExpression types room below (CallVirtual ty own slot args) =
+  FitsExpression types room below (CallVirtual ty own slot checked args) =
       FitsPlace types room below 4 own × FitArguments types room (below + 4) (slot_of_result types ty) args
   FitsExpression types room below (CallThrough ty through args) =
       FitsPlace types room below 4 through × FitArguments types room (below + 4) (slot_of_result types ty) args
@@ -84,7 +84,7 @@ abbrev mutual
   FitsStatement types room below (Case selector arms other) =
       FitsExpression types room below selector × FitArms types room (below + slot_of types selector) arms
       × FitsStatement types room (below + slot_of types selector) other
-  FitsStatement types room below (For variable ty from to down body) =
+  FitsStatement types room below (For variable ty from to down checked body) =
       FitsExpression types room below from × FitsExpression types room (below + slot_of_type types ty) to
       × FitsStatement types room (below + slot_of_type types ty) body
   FitsStatement types room below (With at body) = FitsPlace types room below 4 at × FitsStatement types room (below + 4) body

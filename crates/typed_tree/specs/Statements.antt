@@ -17,10 +17,11 @@ pub record Written : Type 0 where
   pub value : Expression
   pub width : Option Expression
 
--- a place that is read, and its type
+-- a place that is read, its type, and whether a number is tested against the bounds of the type
 pub record Taken : Type 0 where
   pub at : Place
   pub ty : TypeId
+  pub checked : Bool
 
 mutual
   pub data Statement : Type 0 where
@@ -32,7 +33,7 @@ mutual
     Repeat : Statement → Expression → Statement
     Block : Statements → Statement
     Case : Expression → Arms → Statement → Statement
-    For : Variable → TypeId → Expression → Expression → Bool → Statement → Statement
+    For : Variable → TypeId → Expression → Expression → Bool → Bool → Statement → Statement
     With : Place → Statement → Statement
     WriteItems : List Written → Bool → Statement
     ReadItems : List Taken → Bool → Statement
@@ -52,7 +53,7 @@ abbrev pub view_written : WriteItem → Written
 view_written item = record { value = view_expr item.value; width = option_map view_expr item.width }
 
 abbrev pub view_taken : ReadItem → Taken
-view_taken item = record { at = view_place item.place; ty = item.ty }
+view_taken item = record { at = view_place item.place; ty = item.ty; checked = item.checked }
 
 abbrev mutual
   pub view_stmt : Stmt → Statement
@@ -64,7 +65,7 @@ abbrev mutual
   view_stmt (stmt.Repeat' p body condition) = Repeat (view_stmt body) (view_expr condition)
   view_stmt (stmt.Block' shape statements) = Block (view_stmt_row statements)
   view_stmt (stmt.Case' selector shape arms p other) = Case (view_expr selector) (view_arm_row arms) (view_stmt other)
-  view_stmt (stmt.For' variable ty from to down p body) = For variable ty (view_expr from) (view_expr to) down (view_stmt body)
+  view_stmt (stmt.For' variable ty from to down checked p body) = For variable ty (view_expr from) (view_expr to) down checked (view_stmt body)
   view_stmt (stmt.With' place p body) = With (view_place place) (view_stmt body)
   view_stmt (stmt.WriteItems items line) = WriteItems (map view_written items.items) line
   view_stmt (stmt.ReadItems items line) = ReadItems (map view_taken items.items) line

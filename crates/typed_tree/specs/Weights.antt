@@ -28,7 +28,7 @@ abbrev mutual
   weight (Range ty operand low high) = 64 + weight operand
   weight (SetOf ty elements) = 64 + elements_weight elements
   weight (Call ty routine own args) = 96 + (receiver_weight own + arguments_weight args)
-  weight (CallVirtual ty own slot args) = 96 + (32 + place_weight own + arguments_weight args)
+  weight (CallVirtual ty own slot checked args) = 96 + (32 + place_weight own + arguments_weight args)
   weight (CallThrough ty through args) = 96 + (32 + place_weight through + arguments_weight args)
   weight (Std ty number args) = 96 + arguments_weight args
   weight (Make ty routine args) = 192 + arguments_weight args
@@ -81,7 +81,7 @@ abbrev mutual
   statement_weight (Block statements) = 64 + statements_weight statements
   statement_weight (Case selector arms other) =
       64 + (weight selector + (arms_weight arms + statement_weight other))
-  statement_weight (For variable ty from to down body) =
+  statement_weight (For variable ty from to down checked body) =
       192 + (weight from + (weight to + statement_weight body))
   statement_weight (With at body) = 48 + (place_weight at + statement_weight body)
   statement_weight (WriteItems items line) = 32 + written_weight items

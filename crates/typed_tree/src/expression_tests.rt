@@ -162,6 +162,7 @@ fn other_calls(alloc: Global) -> Result<Vec<(u64, u64, u64)>, AllocError> {
             ty: Some(LONG),
             own: boxed(alloc, variable(1))?,
             slot: 2,
+            checked: true,
             args: args_of(alloc, number(INTEGER, 1))?,
         },
     )?)?;

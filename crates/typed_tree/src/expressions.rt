@@ -2,7 +2,7 @@
 
 use type_layout::{Bytes, RoutineId, TypeId};
 
-/// A constant's value: the number of an ordinal, the bytes of a string, nil, or the bytes of a set.
+/// A constant's value: the number of an ordinal, the bytes of a string, nil, or the elements of a set, rising.
 #[derive(Debug, Drop)]
 pub enum Value {
     Number(i32),
@@ -106,10 +106,12 @@ pub enum Expr {
         own: Option<Box<PlaceExpr>>,
         args: Vec<Arg>,
     },
+    /// A call of the method in a slot of the instance's class. With `checked`, an instance without a class is error 210.
     CallVirtual {
         ty: Option<TypeId>,
         own: Box<PlaceExpr>,
         slot: u32,
+        checked: bool,
         args: Vec<Arg>,
     },
     /// A call of the routine that a procedural variable holds.

@@ -50,6 +50,7 @@ fn counted(alloc: Global) -> Result<Stmt, AllocError> {
         from: number(INTEGER, 1),
         to: product(alloc)?,
         down: false,
+        checked: true,
         body: body(alloc, Stmt::Exit)?,
     })
 }
@@ -72,10 +73,12 @@ fn taken(alloc: Global) -> Result<Vec<ReadItem>, AllocError> {
     items.push(ReadItem {
         place: variable(1),
         ty: INTEGER,
+        checked: true,
     })?;
     items.push(ReadItem {
         place: element(alloc)?,
         ty: INTEGER,
+        checked: false,
     })?;
     Ok(items)
 }

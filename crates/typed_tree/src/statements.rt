@@ -10,11 +10,12 @@ pub struct LabelRange {
     pub high: i32,
 }
 
-/// The destructor that `Dispose` calls: a routine, or the one in a slot of the instance's class.
+/// The destructor that `Dispose` calls: a routine, or the one in a slot of the instance's class. With `checked`, an instance
+/// without a class is error 210.
 #[derive(Clone, Copy, Debug, PartialEq, Eq)]
 pub enum Destructor {
     Routine(RoutineId),
-    Slot(u32),
+    Slot { slot: u32, checked: bool },
 }
 
 /// A value that is written, and its width.
@@ -24,11 +25,12 @@ pub struct WriteItem {
     pub width: Option<Expr>,
 }
 
-/// A place that is read, and its type.
+/// A place that is read, and its type. With `checked`, a number outside the bounds of the type is error 201.
 #[derive(Debug, Drop)]
 pub struct ReadItem {
     pub place: PlaceExpr,
     pub ty: TypeId,
+    pub checked: bool,
 }
 
 /// A statement. One that is missing is a `Block` of none.
@@ -68,13 +70,14 @@ pub enum Stmt {
         arms: Vec<Arm>,
         other: Box<Stmt>,
     },
-    /// The type is the variable's.
+    /// The type is the variable's. With `checked`, a bound outside the bounds of the type is error 201 where the loop turns.
     For {
         variable: Variable,
         ty: TypeId,
         from: Expr,
         to: Expr,
         down: bool,
+        checked: bool,
         body: Box<Stmt>,
     },
     With {

@@ -160,7 +160,7 @@ abbrev mutual
   IsTyped s (Call ty routine own args) = HasResult s ty
       × CallFits s routine.unit routine.number ty (λ owner. IsOwn s owner own) (λ params. TakeEach s params args)
       (IsTypedReceiver s own × AreTypedArguments s args)
-  IsTyped s (CallVirtual ty own slot args) =
+  IsTyped s (CallVirtual ty own slot checked args) =
       HasResult s ty × ((class : TypeId) × IsObject (definition s.types class) × HasPlace s own class) × AreTypedArguments s args
   IsTyped s (CallThrough ty through args) =
       HasResult s ty

@@ -33,7 +33,7 @@ IsCount s e = IsTyped s e × IsInteger (sort_of s.types e)
 
 abbrev pub IsCall : Expression → Type 0
 IsCall (Call ty routine own args) = Unit {0}
-IsCall (CallVirtual ty own slot args) = Unit {0}
+IsCall (CallVirtual ty own slot checked args) = Unit {0}
 IsCall (CallThrough ty through args) = Unit {0}
 IsCall (Std ty number args) = Unit {0}
 IsCall _ = ⊥
@@ -94,7 +94,7 @@ IsDestructorAt s class (suc unit) number args = (suc unit < s.units) × AreTyped
 -- a destructor of the type or of an ancestor, or one in a slot of the class
 abbrev pub IsDestructor : Scope → TypeId → Destructor → Arguments → Type 0
 IsDestructor s class (destructor.Routine routine) args = IsDestructorAt s class routine.unit routine.number args
-IsDestructor s class (destructor.Slot slot) args = AreTypedArguments s args
+IsDestructor s class (destructor.Slot slot checked) args = AreTypedArguments s args
 
 pub record IsUnmade (s : Scope) (pointer : Expression) (with : Destructor) (args : Arguments) : Type 0 where
   pub class : TypeId
@@ -118,7 +118,7 @@ abbrev mutual
   IsStatement s (Block statements) = AreStatements s statements
   IsStatement s (Case selector arms other) =
       IsTyped s selector × IsSome (family_of (sort_of s.types selector)) × AreArms s arms × IsStatement s other
-  IsStatement s (For variable ty from to down body) = IsCounted s variable ty from to × IsStatement s body
+  IsStatement s (For variable ty from to down checked body) = IsCounted s variable ty from to × IsStatement s body
   IsStatement s (With at body) =
       (ty : TypeId) × HasPlace s at ty × (IsRecord (definition s.types ty) ⊎ IsObject (definition s.types ty)) × IsStatement (within s ty) body
   IsStatement s (WriteItems items line) = All (IsWritten s) items

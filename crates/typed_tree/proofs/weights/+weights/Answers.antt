@@ -19,8 +19,8 @@ weight_of_expr-returns-in-Call t c =
 
 pub weight_of_expr-returns-in-CallVirtual : goal.weight_of_expr-returns-in-CallVirtual
 weight_of_expr-returns-in-CallVirtual t c =
-    let e : view_expr c.args.expr.now ≡ CallVirtual c.in-CallVirtual.ty (view_place c.in-CallVirtual.own.value) c.in-CallVirtual.slot (view_args c.in-CallVirtual.args.items) =
-    ap view_expr c.in-CallVirtual.is ∙ view_call_virtual c.in-CallVirtual.ty c.in-CallVirtual.own c.in-CallVirtual.slot c.in-CallVirtual.args in
+    let e : view_expr c.args.expr.now ≡ CallVirtual c.in-CallVirtual.ty (view_place c.in-CallVirtual.own.value) c.in-CallVirtual.slot c.in-CallVirtual.checked (view_args c.in-CallVirtual.args.items) =
+    ap view_expr c.in-CallVirtual.is ∙ view_call_virtual c.in-CallVirtual.ty c.in-CallVirtual.own c.in-CallVirtual.slot c.in-CallVirtual.checked c.in-CallVirtual.args in
     let p = rw c.deref-in-CallVirtual.ensures at c.weight_of_place-in-CallVirtual.ensures in
     let n = rw c.as_slice-in-CallVirtual.ensures.value at c.weight_of_args-args-in-CallVirtual.ensures in
     rw e (omega arith)
