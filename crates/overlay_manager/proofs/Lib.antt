@@ -1,2 +1,9 @@
+pub mod CarriedLaws
+pub mod KeptLaws
+pub mod LoadLaws
 pub mod PartLaws
+pub mod ServiceLaws
+pub mod StubLaws
 pub mod TableLaws
+pub mod WholeLaws
+pub mod WithinLaws
