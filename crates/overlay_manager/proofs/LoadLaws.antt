@@ -3,7 +3,7 @@ use Rattle.std.proofs.Common.{◌≡◌, ◌≢◌, ℕ, zero, suc, ◌+◌, ◌
 use Rattle.std.specs.Prelude.{slice_get, slice_index, slice_index_or, IsTrue, ◌==◌, ◌&&◌, not, unwrap_or}
 use Rattle.std.specs.Option.{option_map_or}
 use Rattle.std.proofs.Math.Seq.{drop-cons}
-use Rattle.std.proofs.lemmas.Option.{slice_get_read, slice_get_within}
+use Rattle.std.proofs.lemmas.Option.{slice_get_read, slice_get_within, get_or_from_slice_get}
 use Rattle.std.proofs.lemmas.Bool.{eqb-true}
 use Rattle.std.proofs.lemmas.Bool.Decides.{nat_tests}
 use Rattle.cpu_8086.specs.State.{State}
@@ -73,7 +73,7 @@ whole-next (Some held) now_known name entries old new k entry was now same there
     by v false here below moved = before v (omega (arith, ne v k here)) moved
 
 -- the entry of a table that seats make
-overlay-at : (room : ℕ) (seats : List Seat) (u : ℕ) (stubs : List ℕ) (v : ℕ) → v < length stubs → (overlay_at (table_from room seats u stubs) v).load ≡ load_segment room seats (u + v)
+pub overlay-at : (room : ℕ) (seats : List Seat) (u : ℕ) (stubs : List ℕ) (v : ℕ) → v < length stubs → (overlay_at (table_from room seats u stubs) v).load ≡ load_segment room seats (u + v)
 overlay-at room seats u [] v there = absurd (omega arith)
 overlay-at room seats u (stub ∷ stubs) zero there = let same : u ≡ u + 0 = omega arith in ap (load_segment room seats) same
 overlay-at room seats u (stub ∷ stubs) (suc v) there =
@@ -81,7 +81,7 @@ overlay-at room seats u (stub ∷ stubs) (suc v) there =
     overlay-at room seats (u + 1) stubs v (omega arith) ∙ ap (load_segment room seats) same
 
 -- a seat lies inside the buffer
-seat-inside : (sizes : List ℕ) (room v : ℕ) (seats : List Seat) (at : ℕ) → IsTable sizes room (table_of seats) → place_of v seats ≡ Some at → at + slice_index sizes v ≤ room
+pub seat-inside : (sizes : List ℕ) (room v : ℕ) (seats : List Seat) (at : ℕ) → IsTable sizes room (table_of seats) → place_of v seats ≡ Some at → at + slice_index sizes v ≤ room
 seat-inside sizes room v [] at sound there = absurd cc
 seat-inside sizes room v (s ∷ seats) at sound there = by (s.overlay == v) refl (seat-inside sizes room v seats at sound.2)
   where
@@ -105,17 +105,17 @@ outside_table (overlay ∷ table) zero past = absurd (omega arith)
 outside_table (overlay ∷ table) (suc v) past = outside_table table v (omega arith)
 
 -- the segment of an overlay, by its place
-segment-of : (room : ℕ) (seats : List Seat) (v : ℕ) (at : Option ℕ) → place_of v seats ≡ at → load_segment room seats v ≡ option_map_or (λ at. (buffer_segment room + at) % 65536) at 0
+pub segment-of : (room : ℕ) (seats : List Seat) (v : ℕ) (at : Option ℕ) → place_of v seats ≡ at → load_segment room seats v ≡ option_map_or (λ at. (buffer_segment room + at) % 65536) at 0
 segment-of room seats v at there = ap (λ place. option_map_or (λ at. (buffer_segment room + at) % 65536) place 0) there
 
-moved_some : (was now : Loaded) → IsTrue (is_moved was now) → now.load ≢ 0
+pub moved_some : (was now : Loaded) → IsTrue (is_moved was now) → now.load ≢ 0
 moved_some was now moved none =
     let parts = both_of (not (now.load == 0)) (not (now.load == was.load)) moved in
     let here : (now.load == 0) ≡ true = eq-eqb now.load 0 none in
     let never : not true ≡ true = ap not (sym here) ∙ parts.0 in
     absurd cc
 
-size_of_entry : (entries : List OvrEntry) (v : ℕ) (entry : OvrEntry) → slice_get entries v ≡ Some entry → slice_index (map paragraphs_of entries) v ≡ paragraphs_of entry
+pub size_of_entry : (entries : List OvrEntry) (v : ℕ) (entry : OvrEntry) → slice_get entries v ≡ Some entry → slice_index (map paragraphs_of entries) v ≡ paragraphs_of entry
 size_of_entry [] v entry found = absurd cc
 size_of_entry (first ∷ entries) zero entry found = let is : first ≡ entry = cc in ap paragraphs_of is
 size_of_entry (first ∷ entries) (suc v) entry found = size_of_entry entries v entry found
@@ -148,3 +148,16 @@ lie-within room entries stubs seats old small same sound v moved = by (slice_get
               below = omega (arith, load, inside, size);
               inside = omega arith;
             }
+
+-- an overlay that was read from a table
+pub read-at : (table : List Loaded) (k : ℕ) (overlay : Loaded) → k < length table → overlay ≡ get_or table k overlay → overlay ≡ overlay_at table k
+read-at table k overlay there is = sym (get_or_from_slice_get table k overlay no_overlay (slice_get_read table (length table) k overlay refl there is))
+
+-- where one overlay is loaded, of those that lie within
+pub lies-at : (low high : ℕ) (entries : List OvrEntry) (old new : List Loaded) (k : ℕ) (entry : OvrEntry) (was now : Loaded) → k < length entries → entry ≡ get_or entries k entry → was ≡ overlay_at old k → now ≡ overlay_at new k → LieWithin low high entries old new
+    → IsTrue (is_moved was now) → LiesWithin low high now.load entry.size
+lies-at low high entries old new k entry was now there entry_is was_is now_is lies moved =
+    let found : slice_get entries k ≡ Some entry = slice_get_read entries (length entries) k entry refl there entry_is in
+    let moved_here : IsTrue (is_moved (overlay_at old k) (overlay_at new k)) = sym (ap₂ is_moved was_is now_is) ∙ moved in
+    let it = subst (λ (entry : Option OvrEntry). IfSome entry (λ entry. LiesWithin low high (overlay_at new k).load entry.size)) found (lies k moved_here) in
+    subst (λ (now : Loaded). LiesWithin low high now.load entry.size) (sym now_is) it

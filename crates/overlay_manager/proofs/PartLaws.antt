@@ -55,7 +55,7 @@ loaded-next (Some held) now name filled first before after segment place done co
     put ∙ ap (λ (s : State). let t : State = record s { memory = with_bytes s.memory segment done filled } in t) so_far ∙ ap (λ memory. let t : State = record first { memory = memory } in t) (sym whole)
 
 -- a part that was read whole lies inside the file
-inside_file : (bytes filled : List ℕ) (place count : ℕ) → 0 < count → length filled ≡ count → filled ≡ part_of bytes place count → place + count ≤ length bytes
+pub inside_file : (bytes filled : List ℕ) (place count : ℕ) → 0 < count → length filled ≡ count → filled ≡ part_of bytes place count → place + count ≤ length bytes
 inside_file bytes filled place count some size is_part = omega (arith, ap length is_part, length-take count (drop place bytes), length-drop place bytes)
 
 pub loaded-whole : (known now : Option Folder) (name filled : List ℕ) (place done count : ℕ) → now ≡ known → 0 < count → length filled ≡ count → IfSome now (λ held. filled ≡ part_of (bytes_of held name) (place + done) count)

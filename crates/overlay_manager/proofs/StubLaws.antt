@@ -24,11 +24,11 @@ word-elsewhere memory segment offset v at low high =
     ∙ byte-elsewhere memory segment offset (low_byte v) at low
 
 -- bytes of a segment from one offset on and below another
-abbrev IsOff : ℕ → ℕ → ℕ → ℕ → Type 0
+abbrev pub IsOff : ℕ → ℕ → ℕ → ℕ → Type 0
 IsOff stub low high at = (k : ℕ) → low ≤ k → k < high → at ≢ address stub k
 
 -- an offset in that range, however it is written
-off : (stub low high at offset k : ℕ) → IsOff stub low high at → offset ≡ k → low ≤ k → k < high → at ≢ address stub offset
+pub off : (stub low high at offset k : ℕ) → IsOff stub low high at → offset ≡ k → low ≤ k → k < high → at ≢ address stub offset
 off stub low high at offset k is_off same above below is_it = is_off k above below (is_it ∙ ap (address stub) same)
 
 trap-elsewhere : (memory : List ℕ) (stub at routine x : ℕ) → at + 5 ≤ 65536 → IsOff stub at (at + 5) x → slice_index (with_trap memory stub at routine) x ≡ slice_index memory x
@@ -47,7 +47,7 @@ jump-elsewhere memory stub at routine load x fits is_off =
     ∙ word-elsewhere first stub ((at + 1) % 65536) routine x (off stub at (at + 5) x _ (at + 1) is_off (omega arith) (omega arith) (omega arith)) (off stub at (at + 5) x _ (at + 2) is_off (omega arith) (omega arith) (omega arith))
     ∙ byte-elsewhere memory stub at 0xEA x (off stub at (at + 5) x _ at is_off refl (omega arith) (omega arith))
 
-entry-elsewhere : (was now stub : ℕ) (memory : List ℕ) (at x : ℕ) → at + 5 ≤ 65536 → IsOff stub at (at + 5) x → slice_index (with_entry was now stub memory at) x ≡ slice_index memory x
+pub entry-elsewhere : (was now stub : ℕ) (memory : List ℕ) (at x : ℕ) → at + 5 ≤ 65536 → IsOff stub at (at + 5) x → slice_index (with_entry was now stub memory at) x ≡ slice_index memory x
 unfolding with_entry
 entry-elsewhere was now stub memory at x fits is_off = by (now == 0)
   where

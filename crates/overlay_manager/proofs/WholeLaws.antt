@@ -27,14 +27,14 @@ pairs-off-each memory ss places (stub ∷ stubs) off_it = (
       (λ place bytes. each-then (IsOffStubs memory (stub ∷ stubs)) (IsOffStubs memory stubs) (pair_bytes ss place) (λ byte is_off. is_off.1) bytes) off_it),
 )
 
-abbrev followed_of : Manager → State → Bool → List Seat → List ℕ → List ℕ
+abbrev pub followed_of : Manager → State → Bool → List Seat → List ℕ → List ℕ
 followed_of m s pending seats loaded = followed (loaded_of s loaded) pending (table_by m m.ring.seats) (table_by m seats)
 
 abbrev pub written_of : Manager → State → Bool → List Seat → List ℕ → List ℕ
 written_of m s pending seats loaded = with_stubs m.stubs seats 0 (table_by m m.ring.seats) (table_by m seats) (followed_of m s pending seats loaded)
 
 -- what holds of each stub holds of the stubs of a table
-abbrev tabled : (P : ℕ → Type 0) (m : Manager) (seats : List Seat) → AllByRecursion P m.stubs → AllByRecursion P (stubs_of (table_by m seats))
+abbrev pub tabled : (P : ℕ → Type 0) (m : Manager) (seats : List Seat) → AllByRecursion P m.stubs → AllByRecursion P (stubs_of (table_by m seats))
 tabled P m seats all = subst (λ stubs. AllByRecursion P stubs) (sym (stubs-of_table m.ring.room seats 0 m.stubs)) all
 
 -- the stubs have as many entries once live pairs followed

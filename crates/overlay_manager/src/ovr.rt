@@ -7,7 +7,7 @@ ghost use Rattle.tp_outside.specs.Faults.{HasRisen};
 ghost use Rattle.tp_outside.specs.Folder.{bytes_of};
 ghost use Rattle.overlay_manager.specs.Manager.{Manager, paragraphs_of, loaded_far, with_seats, emptied, sent_out, cleared, cleared_manager};
 ghost use Rattle.overlay_manager.specs.Orderly.{IsOrderlyFor};
-ghost use Rattle.overlay_manager.specs.Serves.{Serves};
+ghost use Rattle.overlay_manager.specs.Serves.{Serves, CodeStands, IsStanding, table_after};
 ghost use Rattle.overlay_manager.specs.Service.{served, served_manager, serviced, serviced_manager};
 ghost use Rattle.overlay_manager.specs.Stops.{Stops, StopsServing, StopsShort, FileHas};
 ghost use Rattle.overlay_manager.specs.Traps.{trap_of, is_refused};
@@ -174,6 +174,9 @@ impl Ovr {
             (FileHas self.old (bytes_of held self.old.name) trap machine.old)) }
         ensures serves { IfSome (F.folder files.old) (λ held. OnOk result (IsOrderlyFor self.old machine.old trap.call
             → Serves self.old (bytes_of held self.old.name) trap machine.old machine.new)) }
+        ensures code { IfSome (F.folder files.old) (λ held. OnOk result (IsOrderlyFor self.old machine.old trap.call
+            → IsStanding self.old (bytes_of held self.old.name) machine.old.memory
+            → CodeStands (bytes_of held self.old.name) self.old.entries (table_after self.old trap machine.old) machine.new.memory)) }
         ensures sound { OnOk result (IsOk (chain_of machine.old)) }
         ensures stop { IfErr result (StopsServing self.old trap machine.old machine.new self.new) }
         ensures short { IfSome (F.folder files.old) (λ held. IfErr result
@@ -188,7 +191,7 @@ impl Ovr {
         live(machine, trap.call, &self.tables.old, &mut self.tables.live)?;
         self.ring.wanted_retry(trap.overlay, &self.tables.live, self.retry);
         set_table(self.room, self.ring.list(), stubs, &mut self.tables.new);
-        let changed = bring(
+        match bring(
             machine,
             files,
             &self.program,
@@ -196,10 +199,16 @@ impl Ovr {
             trap.call,
             &self.tables,
             &mut self.block,
-        )?;
-        resume(machine, load_segment(self.room, self.ring.list(), trap.overlay), saved, trap);
-        self.tally.add(load_count(&self.tables.old, &self.tables.new), changed);
-        Ok(())
+        ) {
+            Err(stop) => Err(stop),
+            Ok(changed) => {
+                let load = load_segment(self.room, self.ring.list(), trap.overlay);
+                resume(machine, load, saved, trap);
+                self.tally
+                    .add(load_count(&self.tables.old, &self.tables.new), changed);
+                Ok(())
+            }
+        }
     }
 }
 
@@ -220,6 +229,12 @@ pub fn service<F: Files>(
     ensures serves { IfSome (F.folder files.old) (λ held. OnOk result (IfSome (trap_of ovr.old.stubs machine.old)
         (λ trap. is_refused ovr.old.installed machine.old trap ≡ false → IsOrderlyFor ovr.old machine.old trap.call
         → Serves ovr.old (bytes_of held ovr.old.name) trap machine.old machine.new))) }
+
+    // And the code of each overlay that is loaded then stands, where that of those that were loaded stood.
+    ensures code { IfSome (F.folder files.old) (λ held. OnOk result (IfSome (trap_of ovr.old.stubs machine.old)
+        (λ trap. is_refused ovr.old.installed machine.old trap ≡ false → IsOrderlyFor ovr.old machine.old trap.call
+        → IsStanding ovr.old (bytes_of held ovr.old.name) machine.old.memory
+        → CodeStands (bytes_of held ovr.old.name) ovr.old.entries (table_after ovr.old trap machine.old) machine.new.memory))) }
 
     // Each answer other than Ok has its cause.
     ensures stop { IfErr result (Stops ovr.old machine.old machine.new ovr.new) }

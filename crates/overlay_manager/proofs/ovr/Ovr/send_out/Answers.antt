@@ -22,5 +22,5 @@ set_stubs-requires-clause-same c =
 pub set_stubs-requires-clause-few : goal.set_stubs-requires-clause-few
 set_stubs-requires-clause-few c =
     let old = ap length (c.deref-3.ensures.value ∙ c.set_table.ensures.table) ∙ length-table_from _ _ 0 _ in
-    let all = ap length c.as_slice-stubs.ensures in
+    let all = ap length c.as_slice-stubs.ensures.value in
     omega (arith, old, all, c.self.invariant.4)
