@@ -1,4 +1,5 @@
-use Rattle.std.proofs.Common.{◌≡◌, ◌+◌, ◌<◌, ◌≤◌, ℕ, List, [], length, map, IfSome, refl, sym, ap, ap₂, subst, ◌∙◌, arith}
+use Rattle.std.proofs.Common.{◌≡◌, ◌+◌, ◌<◌, ◌≤◌, ℕ, List, [], length, drop, map, IfSome, refl, sym, ap, ap₂, subst, ◌∙◌, arith}
+use Rattle.std.proofs.lemmas.List.{take_at}
 use Rattle.tp_outside.specs.Folder.{bytes_of}
 use Rattle.return_repair.specs.declared.table.Loaded.{Loaded}
 use Rattle.overlay_manager.specs.declared.tally.Tally.{Tally}
@@ -43,13 +44,13 @@ bring-requires-clause-new g c =
 
 pub load_count-requires-clause-same : goal.load_count-requires-clause-same
 load_count-requires-clause-same g c =
-    let old = ap length (c.deref-3.ensures.value ∙ c.set_table.ensures.table) ∙ length-table_from _ _ 0 _ in
-    let new = ap length (c.deref-4.ensures.value ∙ c.set_table-2.ensures.table) ∙ length-table_from _ _ 0 _ in
+    let old = ap length (c.deref-in-Ok.ensures.value ∙ c.set_table.ensures.table) ∙ length-table_from _ _ 0 _ in
+    let new = ap length (c.deref-in-Ok-2.ensures.value ∙ c.set_table-2.ensures.table) ∙ length-table_from _ _ 0 _ in
     old ∙ sym new
 
 pub load_count-requires-clause-few : goal.load_count-requires-clause-few
 load_count-requires-clause-few g c =
-    let old = ap length (c.deref-3.ensures.value ∙ c.set_table.ensures.table) ∙ length-table_from _ _ 0 _ in
+    let old = ap length (c.deref-in-Ok.ensures.value ∙ c.set_table.ensures.table) ∙ length-table_from _ _ 0 _ in
     let all = ap length c.as_slice-stubs.ensures.value in
     omega (arith, old, all, c.self.invariant.4)
 
@@ -82,7 +83,7 @@ returns-in-Err-clause-stop g c =
       old_seen_is = c.deref.ensures.value;
       long = c.live.auto.into ∙ ap length c.deref_mut.ensures.value ∙ sym c.self.invariant.7;
       live_is = c.in_ok-live.ensures.live;
-      live_seen_is = c.deref-2.ensures.value;
+      live_seen_is = c.deref-2.ensures.value ∙ take_at c.live.new.into (drop (length c.live.new.into) c.self.inside.tables.live.items) c.self.inside.tables.live.len (c.live.auto.into ∙ c.deref_mut.ensures.len);
       ring_is = c.wanted_retry.ensures.ring;
       seats_new_is = c.list-2.ensures.seats;
       new_is = c.set_table-2.ensures.table;
@@ -121,7 +122,7 @@ returns-in-Err-clause-short g c =
       old_seen_is = c.deref.ensures.value;
       long = c.live.auto.into ∙ ap length c.deref_mut.ensures.value ∙ sym c.self.invariant.7;
       live_is = c.in_ok-live.ensures.live;
-      live_seen_is = c.deref-2.ensures.value;
+      live_seen_is = c.deref-2.ensures.value ∙ take_at c.live.new.into (drop (length c.live.new.into) c.self.inside.tables.live.items) c.self.inside.tables.live.len (c.live.auto.into ∙ c.deref_mut.ensures.len);
       ring_is = c.wanted_retry.ensures.ring;
       seats_new_is = c.list-2.ensures.seats;
       new_is = c.set_table-2.ensures.table;
@@ -159,17 +160,17 @@ returns-in-Ok-clause-machine g c =
       old_seen_is = c.deref.ensures.value;
       long = c.live.auto.into ∙ ap length c.deref_mut.ensures.value ∙ sym c.self.invariant.7;
       live_is = c.in_ok-live.ensures.live;
-      live_seen_is = c.deref-2.ensures.value;
+      live_seen_is = c.deref-2.ensures.value ∙ take_at c.live.new.into (drop (length c.live.new.into) c.self.inside.tables.live.items) c.self.inside.tables.live.len (c.live.auto.into ∙ c.deref_mut.ensures.len);
       ring_is = c.wanted_retry.ensures.ring;
       seats_new_is = c.list-2.ensures.seats;
       new_is = c.set_table-2.ensures.table;
       legal = c.wanted_retry.ensures.legal.sound;
     }) in
     let u = c.resume.new.machine in
-    let told = machine-joined known m trap s c.bring.new.machine u c.self.inside.room old new ring c.list-3.result.now c.list-4.result.now c.reg.result c.load_segment-load.result c.load_word-saved.result it (record {
+    let told = machine-joined known m trap s c.bring.new.machine u c.self.inside.room old new ring c.list-3.result.now c.list-in-Ok.result.now c.reg.result c.load_segment-load.result c.load_word-saved.result it (record {
       seats_brought_is = c.list-3.ensures.seats;
       told = c.in-Ok.ensures.told;
-      seats_resumed_is = c.list-4.ensures.seats;
+      seats_resumed_is = c.list-in-Ok.ensures.seats;
       cs_is = c.reg.ensures;
       saved_is = c.load_word-saved.ensures;
       load_is = c.load_segment-load.ensures;
@@ -207,14 +208,14 @@ returns-in-Ok-clause-manager g c =
       old_seen_is = c.deref.ensures.value;
       long = c.live.auto.into ∙ ap length c.deref_mut.ensures.value ∙ sym c.self.invariant.7;
       live_is = c.in_ok-live.ensures.live;
-      live_seen_is = c.deref-2.ensures.value;
+      live_seen_is = c.deref-2.ensures.value ∙ take_at c.live.new.into (drop (length c.live.new.into) c.self.inside.tables.live.items) c.self.inside.tables.live.len (c.live.auto.into ∙ c.deref_mut.ensures.len);
       ring_is = c.wanted_retry.ensures.ring;
       seats_new_is = c.list-2.ensures.seats;
       new_is = c.set_table-2.ensures.table;
       legal = c.wanted_retry.ensures.legal.sound;
     }) in
     let later : Manager = record m { ring = ring; tally = c.add.new.self } in
-    let loads : c.load_count.result ≡ load_count old new = c.load_count.ensures ∙ ap₂ load_count c.deref-3.ensures.value c.deref-4.ensures.value in
+    let loads : c.load_count.result ≡ load_count old new = c.load_count.ensures ∙ ap₂ load_count c.deref-in-Ok.ensures.value c.deref-in-Ok-2.ensures.value in
     let later_is = ap (λ (tally : Tally). let later : Manager = record m { ring = ring; tally = tally } in later) c.add.ensures in
     subst (λ (n : Manager). IfSome known (λ held. later ≡ served_manager n (bytes_of held n.name) trap s)) c.self.view_is
     (manager-joined known m trap s old new ring c.load_count.result c.in-Ok.changed later it loads c.in-Ok.ensures.changed later_is)
@@ -248,7 +249,7 @@ returns-in-Ok-clause-whole g c =
       old_seen_is = c.deref.ensures.value;
       long = c.live.auto.into ∙ ap length c.deref_mut.ensures.value ∙ sym c.self.invariant.7;
       live_is = c.in_ok-live.ensures.live;
-      live_seen_is = c.deref-2.ensures.value;
+      live_seen_is = c.deref-2.ensures.value ∙ take_at c.live.new.into (drop (length c.live.new.into) c.self.inside.tables.live.items) c.self.inside.tables.live.len (c.live.auto.into ∙ c.deref_mut.ensures.len);
       ring_is = c.wanted_retry.ensures.ring;
       seats_new_is = c.list-2.ensures.seats;
       new_is = c.set_table-2.ensures.table;
@@ -286,17 +287,17 @@ returns-in-Ok-clause-serves g c =
       old_seen_is = c.deref.ensures.value;
       long = c.live.auto.into ∙ ap length c.deref_mut.ensures.value ∙ sym c.self.invariant.7;
       live_is = c.in_ok-live.ensures.live;
-      live_seen_is = c.deref-2.ensures.value;
+      live_seen_is = c.deref-2.ensures.value ∙ take_at c.live.new.into (drop (length c.live.new.into) c.self.inside.tables.live.items) c.self.inside.tables.live.len (c.live.auto.into ∙ c.deref_mut.ensures.len);
       ring_is = c.wanted_retry.ensures.ring;
       seats_new_is = c.list-2.ensures.seats;
       new_is = c.set_table-2.ensures.table;
       legal = c.wanted_retry.ensures.legal.sound;
     }) in
     let u = c.resume.new.machine in
-    let told = machine-joined known m trap s c.bring.new.machine u c.self.inside.room old new ring c.list-3.result.now c.list-4.result.now c.reg.result c.load_segment-load.result c.load_word-saved.result it (record {
+    let told = machine-joined known m trap s c.bring.new.machine u c.self.inside.room old new ring c.list-3.result.now c.list-in-Ok.result.now c.reg.result c.load_segment-load.result c.load_word-saved.result it (record {
       seats_brought_is = c.list-3.ensures.seats;
       told = c.in-Ok.ensures.told;
-      seats_resumed_is = c.list-4.ensures.seats;
+      seats_resumed_is = c.list-in-Ok.ensures.seats;
       cs_is = c.reg.ensures;
       saved_is = c.load_word-saved.ensures;
       load_is = c.load_segment-load.ensures;
@@ -336,17 +337,17 @@ returns-in-Ok-clause-code g c =
       old_seen_is = c.deref.ensures.value;
       long = c.live.auto.into ∙ ap length c.deref_mut.ensures.value ∙ sym c.self.invariant.7;
       live_is = c.in_ok-live.ensures.live;
-      live_seen_is = c.deref-2.ensures.value;
+      live_seen_is = c.deref-2.ensures.value ∙ take_at c.live.new.into (drop (length c.live.new.into) c.self.inside.tables.live.items) c.self.inside.tables.live.len (c.live.auto.into ∙ c.deref_mut.ensures.len);
       ring_is = c.wanted_retry.ensures.ring;
       seats_new_is = c.list-2.ensures.seats;
       new_is = c.set_table-2.ensures.table;
       legal = c.wanted_retry.ensures.legal.sound;
     }) in
     let u = c.resume.new.machine in
-    let told = machine-joined known m trap s c.bring.new.machine u c.self.inside.room old new ring c.list-3.result.now c.list-4.result.now c.reg.result c.load_segment-load.result c.load_word-saved.result it (record {
+    let told = machine-joined known m trap s c.bring.new.machine u c.self.inside.room old new ring c.list-3.result.now c.list-in-Ok.result.now c.reg.result c.load_segment-load.result c.load_word-saved.result it (record {
       seats_brought_is = c.list-3.ensures.seats;
       told = c.in-Ok.ensures.told;
-      seats_resumed_is = c.list-4.ensures.seats;
+      seats_resumed_is = c.list-in-Ok.ensures.seats;
       cs_is = c.reg.ensures;
       saved_is = c.load_word-saved.ensures;
       load_is = c.load_segment-load.ensures;
