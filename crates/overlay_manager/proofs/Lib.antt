@@ -1,2 +1,13 @@
+pub mod CarriedLaws
+pub mod CodeLaws
+pub mod JoinLaws
+pub mod KeptLaws
+pub mod LoadLaws
 pub mod PartLaws
+pub mod ServeLaws
+pub mod ServiceLaws
+pub mod StandLaws
+pub mod StubLaws
 pub mod TableLaws
+pub mod WholeLaws
+pub mod WithinLaws

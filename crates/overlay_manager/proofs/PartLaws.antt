@@ -54,6 +54,26 @@ loaded-next (Some held) now name filled first before after segment place done co
     ∙ ap₂ (λ (at : ℕ) (xs : List ℕ). with_bytes (with_bytes first.memory segment 0 front) segment at xs) offset (sym is_part) in
     put ∙ ap (λ (s : State). let t : State = record s { memory = with_bytes s.memory segment done filled } in t) so_far ∙ ap (λ memory. let t : State = record first { memory = memory } in t) (sym whole)
 
+-- a part that was read whole lies inside the file
+pub inside_file : (bytes filled : List ℕ) (place count : ℕ) → 0 < count → length filled ≡ count → filled ≡ part_of bytes place count → place + count ≤ length bytes
+inside_file bytes filled place count some size is_part = omega (arith, ap length is_part, length-take count (drop place bytes), length-drop place bytes)
+
+pub loaded-whole : (known now : Option Folder) (name filled : List ℕ) (place done count : ℕ) → now ≡ known → 0 < count → length filled ≡ count → IfSome now (λ held. filled ≡ part_of (bytes_of held name) (place + done) count)
+    → IfSome known (λ held. 0 < done + count → place + (done + count) ≤ length (bytes_of held name))
+loaded-whole None now name filled place done count same some size told = tt
+loaded-whole (Some held) now name filled place done count same some size told = λ begun.
+    let P : Option Folder → Type 0 = λ known. IfSome known (λ held. filled ≡ part_of (bytes_of held name) (place + done) count) in
+    let inside = inside_file (bytes_of held name) filled (place + done) count some size (subst P same told) in
+    omega arith
+
+pub fixed-whole : (known now : Option Folder) (name filled : List ℕ) (place done count : ℕ) → now ≡ known → 0 < count → length filled ≡ 2 * count → IfSome now (λ held. filled ≡ part_of (bytes_of held name) (place + 2 * done) (2 * count))
+    → IfSome known (λ held. 0 < done + count → place + 2 * (done + count) ≤ length (bytes_of held name))
+fixed-whole None now name filled place done count same some size told = tt
+fixed-whole (Some held) now name filled place done count same some size told = λ begun.
+    let P : Option Folder → Type 0 = λ known. IfSome known (λ held. filled ≡ part_of (bytes_of held name) (place + 2 * done) (2 * count)) in
+    let inside = inside_file (bytes_of held name) filled (place + 2 * done) (2 * count) (omega arith) size (subst P same told) in
+    omega arith
+
 -- the words that are left, one by one
 pub words_at-step : (bytes : List ℕ) (k count : ℕ) → k < count → words_at bytes (2 * k) (count - k) ≡ word_at bytes (2 * k) ∷ words_at bytes (2 * (k + 1)) (count - (k + 1))
 words_at-step bytes k count below =

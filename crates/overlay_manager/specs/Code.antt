@@ -2,7 +2,7 @@
 use Rattle.std.specs.Prelude.{◌≡◌, ℕ, zero, suc, ◌+◌, ◌*◌, ◌<◌, ◌≤◌, nat_le, if◌then◌else◌, List, [], ◌∷◌, ◌++◌, length, take, drop, slice_index}
 use Rattle.cpu_8086.specs.Memory.{load_word, store_word, load_byte}
 use Rattle.cpu_8086.specs.Process.{with_bytes}
-use Rattle.mz_file.specs.Load.{loaded_segment}
+use Rattle.mz_file.specs.Load.{loaded_segment, with_loaded_segment}
 use Rattle.mz_file.specs.Words.{words_at}
 use Rattle.overlay_file.specs.declared.overlay.OvrEntry.{OvrEntry}
 
@@ -28,3 +28,18 @@ fixups_at entry = entry.place + entry.size
 abbrev pub with_code : List ℕ → ℕ → OvrEntry → List ℕ → List ℕ
 with_code memory segment entry bytes =
     with_fixups entry.size segment (with_bytes memory segment 0 (part_of bytes entry.place entry.size)) (words_at bytes (fixups_at entry) entry.fixups)
+
+-- The code of an overlay as a list: its bytes, in which each fixup is made that lies inside them.
+abbrev pub with_fixup_made : List ℕ → ℕ → List ℕ
+with_fixup_made code fixup = if nat_le (fixup + 2) (length code) then with_loaded_segment code fixup else code
+
+abbrev pub with_fixups_made : List ℕ → List ℕ → List ℕ
+with_fixups_made code [] = code
+with_fixups_made code (fixup ∷ fixups) = with_fixups_made (with_fixup_made code fixup) fixups
+
+abbrev pub code_of : List ℕ → OvrEntry → List ℕ
+code_of bytes entry = with_fixups_made (part_of bytes entry.place entry.size) (words_at bytes (fixups_at entry) entry.fixups)
+
+-- these bytes stand at a segment's begin
+abbrev pub Stands : List ℕ → ℕ → List ℕ → Type 0
+Stands memory segment code = (k : ℕ) → k < length code → load_byte memory segment k ≡ slice_index code k

@@ -1,3 +1,10 @@
 pub mod Code
+pub mod Kept
+pub mod Loading
 pub mod Manager
+pub mod Orderly
+pub mod Serves
+pub mod Service
+pub mod Stops
 pub mod Stubbing
+pub mod Traps

@@ -1,5 +1,5 @@
 -- What the manager knows of a program's overlays, and the tables that its ring makes.
-use Rattle.std.specs.Prelude.{ℕ, ◌+◌, ◌-◌, ◌/◌, ◌%◌, ◌==◌, if◌then◌else◌, true, List, [], ◌∷◌, length, slice_index}
+use Rattle.std.specs.Prelude.{ℕ, ◌+◌, ◌-◌, ◌/◌, ◌%◌, ◌^◌, ◌==◌, min, if◌then◌else◌, true, List, [], ◌∷◌, length, slice_index}
 use Rattle.std.specs.Option.{option_map_or}
 use Rattle.cpu_8086.specs.State.{State}
 use Rattle.cpu_8086.specs.declared.registers.Far.{Far}
@@ -8,13 +8,14 @@ use Rattle.overlay_ring.specs.declared.seat.Seat.{Seat}
 use Rattle.overlay_ring.specs.Ring.{Buffer}
 use Rattle.overlay_ring.specs.Seats.{place_of}
 use Rattle.return_repair.specs.Chain.{chain_of, links_of}
-use Rattle.return_repair.specs.Repair.{repaired_memory}
+use Rattle.return_repair.specs.Repair.{repaired_memory, repaired_count}
 use Rattle.return_repair.specs.declared.table.Loaded.{Loaded}
 use Rattle.mz_file.specs.Load.{loaded_segment}
 use Rattle.overlay_manager.specs.Stubbing.{with_stub}
+use Rattle.overlay_manager.specs.declared.tally.Tally.{Tally}
 
 -- The overlays by number: where the file has them, and their stubs; the places that the manager looks at; the buffer's
--- ring; and how many paragraphs a reprieve may keep.
+-- ring; how many paragraphs a reprieve may keep; and what was done so far.
 pub record Manager : Type 0 where
   pub name : List ℕ
   pub entries : List OvrEntry
@@ -23,6 +24,7 @@ pub record Manager : Type 0 where
   pub installed : Far
   pub ring : Buffer
   pub retry : ℕ
+  pub tally : Tally
 
 -- the size of an overlay in paragraphs
 abbrev pub paragraphs_of : OvrEntry → ℕ
@@ -77,6 +79,21 @@ abbrev pub sent_out : Manager → State → List ℕ
 sent_out m s =
     with_stubs m.stubs [] 0 (table_by m m.ring.seats) (table_by m [])
     (repaired_memory s true (table_by m m.ring.seats) (table_by m []) (links_of (chain_of s)))
+
+-- a tally with so many loads and changed returns more; at the greatest u64 it stays
+abbrev pub with_more : Tally → ℕ → ℕ → Tally
+with_more tally loads patched =
+    record { loads = min (tally.loads + loads) (2 ^ 64 - 1); patched = min (tally.patched + patched) (2 ^ 64 - 1) }
+
+-- the manager once all overlays are out
+abbrev pub emptied : Manager → State → Manager
+emptied m s = record (with_seats m []) {
+  tally = with_more m.tally 0 (repaired_count s true (table_by m m.ring.seats) (table_by m []) (links_of (chain_of s)));
+}
+
+-- Sending all out. Without stubs there is nothing to do.
+abbrev pub cleared_manager : Manager → State → Manager
+cleared_manager m s = if length m.stubs == 0 then with_seats m [] else emptied m s
 
 abbrev pub cleared : Manager → State → List ℕ
 cleared m s = if length m.stubs == 0 then s.memory else sent_out m s

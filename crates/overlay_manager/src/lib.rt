@@ -2,13 +2,23 @@
 #![tactic(auto)]
 
 mod filling;
+mod laws;
 mod loading;
 mod ovr;
+mod program;
+mod serving;
 mod stubbing;
 mod tables;
+mod tally;
+#[cfg(test)]
+mod run_tests;
 #[cfg(test)]
 mod tests;
+mod traps;
 
 pub use filling::LoadStop;
+pub use laws::return_law;
 pub use loading::load_overlay;
-pub use ovr::{Ovr, clear_buffer};
+pub use ovr::{Ovr, clear_buffer, service};
+pub use serving::ServiceStop;
+pub use tally::Tally;

@@ -1,11 +1,12 @@
 //! Loading the code of an overlay.
 
-ghost use Rattle.std.specs.Prelude.{◌≡◌, ◌+◌, ◌*◌, ◌^◌, ◌<◌, ◌≤◌, length, IfSome, OnOk, Err};
+ghost use Rattle.std.specs.Prelude.{◌≡◌, ℕ, ◌+◌, ◌*◌, ◌^◌, ◌<◌, ◌≤◌, length, IfSome, OnOk, Err};
 ghost use Rattle.cpu_8086.specs.Process.{with_bytes};
 ghost use Rattle.tp_outside.specs.Faults.{HasRisen};
 ghost use Rattle.tp_outside.specs.Folder.{bytes_of};
 ghost use Rattle.mz_file.specs.Words.{words_at};
 ghost use Rattle.overlay_manager.specs.Code.{part_of, fixups_at, with_fixup, with_fixups, with_code};
+ghost use Rattle.overlay_manager.specs.Loading.{IsWhole, IsShort, LiesWithin, OnlyWithin};
 
 use crate::filling::{LoadStop, fill};
 use cpu_8086::Machine;
@@ -63,8 +64,13 @@ fn load_code<F: Files>(
           memory =
               with_bytes machine.old.memory segment 0 (part_of (bytes_of held name.now) entry.now.place entry.now.size);
         })) }
+    ensures whole { IfSome (F.folder files.old) (λ held. OnOk result
+        (0 < entry.now.size → entry.now.place + entry.now.size ≤ length (bytes_of held name.now))) }
     ensures short { IfSome (F.folder files.old) (λ held. result ≡ Err LoadStop.Short
         → length (bytes_of held name.now) < entry.now.place + entry.now.size) }
+    ensures others { machine.new ≡ record machine.old { memory = machine.new.memory } }
+    ensures within { (low high : ℕ) → LiesWithin low high segment entry.now.size
+        → OnlyWithin low high machine.old.memory machine.new.memory }
     ensures unchanged { F.folder files.new ≡ F.folder files.old }
     ensures counted { F.faults files.old ≤ F.faults files.new }
     ensures failed { result ≡ Err LoadStop.Failed → HasRisen (F.faults files.old) (F.faults files.new) }
@@ -99,8 +105,13 @@ fn load_fixups<F: Files>(
           memory =
               with_fixups size segment machine.old.memory (words_at (bytes_of held name.now) place fixups);
         })) }
+    ensures whole { IfSome (F.folder files.old) (λ held. OnOk result
+        (0 < fixups → place + 2 * fixups ≤ length (bytes_of held name.now))) }
     ensures short { IfSome (F.folder files.old) (λ held. result ≡ Err LoadStop.Short
         → length (bytes_of held name.now) < place + 2 * fixups) }
+    ensures others { machine.new ≡ record machine.old { memory = machine.new.memory } }
+    ensures within { (low high : ℕ) → LiesWithin low high segment size
+        → OnlyWithin low high machine.old.memory machine.new.memory }
     ensures unchanged { F.folder files.new ≡ F.folder files.old }
     ensures counted { F.faults files.old ≤ F.faults files.new }
     ensures failed { result ≡ Err LoadStop.Failed → HasRisen (F.faults files.old) (F.faults files.new) }
@@ -133,8 +144,15 @@ pub fn load_overlay<F: Files>(
     requires block { length block.old ≡ 512 }
     ensures told { IfSome (F.folder files.old) (λ held. OnOk result
         (machine.new ≡ record machine.old { memory = with_code machine.old.memory segment entry.now (bytes_of held name.now) })) }
+    ensures whole { IfSome (F.folder files.old) (λ held. OnOk result
+        (0 < entry.now.size → IsWhole (bytes_of held name.now) entry.now)) }
     ensures short { IfSome (F.folder files.old) (λ held. result ≡ Err LoadStop.Short
-        → length (bytes_of held name.now) < fixups_at entry.now + 2 * entry.now.fixups) }
+        → IsShort (bytes_of held name.now) entry.now) }
+
+    // Whatever comes, only bytes of the segment differ where the code is to stand.
+    ensures others { machine.new ≡ record machine.old { memory = machine.new.memory } }
+    ensures within { (low high : ℕ) → LiesWithin low high segment entry.now.size
+        → OnlyWithin low high machine.old.memory machine.new.memory }
     ensures unchanged { F.folder files.new ≡ F.folder files.old }
     ensures counted { F.faults files.old ≤ F.faults files.new }
     ensures failed { result ≡ Err LoadStop.Failed → HasRisen (F.faults files.old) (F.faults files.new) }

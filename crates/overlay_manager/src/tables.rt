@@ -1,6 +1,6 @@
 //! Tables of overlays, as the seats of a ring make them.
 
-ghost use Rattle.std.specs.Prelude.{◌≡◌, ◌≤◌, length, vec_len, vec_capacity};
+ghost use Rattle.std.specs.Prelude.{◌≡◌, ◌≤◌, IfOk, length, vec_len, vec_capacity};
 ghost use Rattle.overlay_ring.specs.Seats.{place_of};
 ghost use Rattle.overlay_manager.specs.Manager.{load_segment, table_from, first_stub, next_stub, with_stubs};
 
@@ -8,6 +8,30 @@ use crate::stubbing::set_stub;
 use cpu_8086::Machine;
 use overlay_ring::Seat;
 use return_repair::Loaded;
+use std::alloc::{AllocError, Global};
+
+/// The overlays before and after a service, and whether live returns denote each.
+#[derive(Drop)]
+pub struct Tables {
+    pub old: Vec<Loaded>,
+    pub new: Vec<Loaded>,
+    pub live: Vec<bool>,
+}
+
+impl Tables {
+    /// Tables with room for so many overlays.
+    pub fn with_room(alloc: Global, overlays: usize) -> Result<Tables, AllocError>
+        ensures old { IfOk result (λ tables. overlays ≤ vec_capacity tables.old) }
+        ensures new { IfOk result (λ tables. overlays ≤ vec_capacity tables.new) }
+        ensures live { IfOk result (λ tables. length tables.live.items ≡ overlays) }
+    {
+        Ok(Tables {
+            old: Vec::with_capacity(alloc, overlays)?,
+            new: Vec::with_capacity(alloc, overlays)?,
+            live: vec![in alloc; false; overlays]?,
+        })
+    }
+}
 
 /// Where an overlay has its seat.
 fn place(seats: &[Seat], overlay: u16) -> Option<u16>
@@ -20,7 +44,7 @@ fn place(seats: &[Seat], overlay: u16) -> Option<u16>
 }
 
 /// The segment of an overlay's code, or 0 where it is out.
-fn load_segment(room: u16, seats: &[Seat], overlay: u16) -> u16
+pub fn load_segment(room: u16, seats: &[Seat], overlay: u16) -> u16
     requires { room ≤ 40848 }
     ensures { result ≡ load_segment room seats.now overlay }
 {

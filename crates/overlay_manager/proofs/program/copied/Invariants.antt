@@ -1,5 +1,5 @@
 use Rattle.std.proofs.Common.{◌≡◌, take}
-use Rattle.overlay_manager.proofs.ovr.copied.Given as goal
+use Rattle.overlay_manager.proofs.program.copied.Given as goal
 
 abbrev pub invariant-loop-entry : goal.invariant-loop-entry
 invariant-loop-entry l = l.copy ≡ take l.entry-index l.index
