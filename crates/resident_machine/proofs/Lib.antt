@@ -1,0 +1,6 @@
+pub mod CellLaws
+pub mod HoldLaws
+pub mod DosLaws
+pub mod TreeLaws
+pub mod NearLaws
+pub mod RunLaws

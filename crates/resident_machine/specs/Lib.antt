@@ -1,0 +1,9 @@
+pub mod Program
+pub mod Astray
+pub mod Cells
+pub mod State
+pub mod Dos
+pub mod Effect
+pub mod Framed
+pub mod Run
+pub mod Standing

@@ -1,0 +1,5 @@
+//! The resident machine.
+#![tactic(auto)]
+
+/// Nothing yet.
+pub fn resident_law() {}
