@@ -4,3 +4,5 @@ pub mod DosLaws
 pub mod TreeLaws
 pub mod NearLaws
 pub mod RunLaws
+pub mod StartLaws
+pub mod ExampleRun

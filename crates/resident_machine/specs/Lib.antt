@@ -7,3 +7,5 @@ pub mod Effect
 pub mod Framed
 pub mod Run
 pub mod Standing
+pub mod Start
+pub mod Example

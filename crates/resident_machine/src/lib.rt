@@ -1,5 +1,7 @@
-//! The resident machine.
+//! The resident machine: an 8086 in which all code is present, each segment a list of bytes of its own, and the laws
+//! that tie it to the machine with one memory.
 #![tactic(auto)]
 
-/// Nothing yet.
-pub fn resident_law() {}
+mod laws;
+
+pub use laws::{resident_law, run_law, start_law};
