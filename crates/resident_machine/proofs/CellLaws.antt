@@ -4,7 +4,7 @@ use Rattle.std.specs.Prelude.{IsTrue, if◌then◌else◌}
 use Rattle.cpu_8086.specs.Memory.{address, next_offset}
 use Rattle.cpu_8086.specs.declared.registers.Registers.{Registers}
 use Rattle.resident_machine.specs.Astray.{Astray, MovesStack, and_then}
-use Rattle.resident_machine.specs.Cells.{Cell, Known, Unknown, Kept, Paired, Cells, with_cell, with_word, is_free, known_then, free_then, moved_then, paired_then, is_below, lost, with_lost}
+use Rattle.resident_machine.specs.Cells.{Cell, Known, Unknown, Kept, Paired, Cells, with_cell, with_word, is_free, known_then, free_then, moved_then, paired_then, is_below, lost, lost_if, with_lost}
 use Rattle.resident_machine.specs.State.{ResidentState, Service}
 use Rattle.resident_machine.specs.Effect.{Outcome, stack_then}
 
@@ -95,15 +95,15 @@ lost-known Unknown v e = absurd (cc)
 lost-known Kept v e = absurd (cc)
 lost-known Paired v e = absurd (cc)
 
-by_kept : (b : Bool) (x : Cell) → x ≡ Kept → (if b then lost x else x) ≡ Kept
+by_kept : (b : Bool) (x : Cell) → x ≡ Kept → lost_if b x ≡ Kept
 by_kept true x e = lost-kept x e
 by_kept false x e = e
 
-by_paired : (b : Bool) (x : Cell) → x ≡ Paired → (if b then lost x else x) ≡ Paired
+by_paired : (b : Bool) (x : Cell) → x ≡ Paired → lost_if b x ≡ Paired
 by_paired true x e = lost-paired x e
 by_paired false x e = e
 
-by_known : (b : Bool) (x : Cell) (v : ℕ) → (if b then lost x else x) ≡ Known v → x ≡ Known v
+by_known : (b : Bool) (x : Cell) (v : ℕ) → lost_if b x ≡ Known v → x ≡ Known v
 by_known true x v e = lost-known x v e
 by_known false x v e = e
 

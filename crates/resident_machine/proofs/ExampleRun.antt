@@ -1,37 +1,283 @@
--- The example, step by step.
-use Rattle.std.proofs.Common.{◌≡◌, ◌≢◌, ℕ, zero, suc, ◌+◌, ◌-◌, ◌%◌, ◌<◌, ◌≤◌, ◌==◌, Bool, true, false, List, [], ◌∷◌, ◌++◌, Option, Some, Result, Ok, Err, refl, sym, ap, ◌∙◌, arith}
-use Rattle.std.specs.Prelude.{drop, slice_index, IsTrue}
+-- A run by computation: a list of instructions is followed from a state, and each step tested.
+use Rattle.std.proofs.Common.{◌≡◌, ◌≢◌, ℕ, zero, suc, ◌+◌, ◌-◌, ◌%◌, ◌<◌, ◌≤◌, ◌==◌, nat_eq, nat_lt, nat_le, ◌&&◌, not, Bool, true, false, List, [], ◌∷◌, ◌++◌, length, Option, Some, None, is_some, Result, Ok, Err, refl, sym, ap, ◌∙◌, subst, arith, eq-eqb, eqb-true}
+use Rattle.std.specs.Prelude.{drop, IsTrue, if◌then◌else◌, option_map}
+use Rattle.std.proofs.lemmas.Bool.{ltb-true, leb-true}
+use Rattle.std.specs.List.{AllByRecursion}
 use Rattle.x86_table.specs.declared.instr.Instr.{Instr}
 use Rattle.x86_table.specs.declared.instr.Instr.TheVariants as instr
 use Rattle.x86_table.specs.declared.instr.Pair.TheVariants as pair
 use Rattle.x86_table.specs.declared.operand.SegReg.TheVariants as seg
 use Rattle.x86_table.specs.declared.operand.WordOperand.TheVariants as word_rm
 use Rattle.x86_table.specs.declared.operand.WordReg.TheVariants as word
-use Rattle.x86_table.specs.Spelling.{word_bytes, memory_modrm, word_modrm, spelling}
-use Rattle.cpu_8086.specs.Access.{word_then, put_word}
+use Rattle.x86_table.specs.Spelling.{word_bytes, word_modrm, pair_form, pair_body, pair_override, spelling}
+use Rattle.cpu_8086.specs.Access.{word_then}
 use Rattle.cpu_8086.specs.Effect.{act}
-use Rattle.resident_machine.specs.Astray.{Astray}
-use Rattle.resident_machine.specs.Cells.{with_lost}
+use Rattle.cpu_8086.specs.Memory.{address, next_offset}
+use Rattle.resident_machine.specs.Program.{Segment, Image, Program, code_of}
+use Rattle.resident_machine.specs.Cells.{Cells, is_free, known_word, below, with_lost}
 use Rattle.resident_machine.specs.Effect.{Outcome, effect_of}
-use Rattle.resident_machine.specs.Example.{main_code, routine_code, overlay_code, example, example_start}
-use Rattle.resident_machine.specs.Run.{StandsAt, Goes}
-use Rattle.resident_machine.specs.State.{ResidentState, Ended, Running, Service, NoService, AtCall, AtReturn}
+use Rattle.resident_machine.specs.Example.{example, example_start}
+use Rattle.resident_machine.specs.Framed.{room_end, IsLink, AreLinks, live_places, places_of, MissesWord, IsSpare, IsFramed, FramedAfter}
+use Rattle.resident_machine.specs.Run.{StandsAt, Goes, RunsFramed}
+use Rattle.resident_machine.specs.State.{ResidentStatus, Running, Ended, Stopped, ResidentState, Service, NoService, AtCall, AtReturn, AtClear}
 
-abbrev after : ResidentState → Outcome → ResidentState
-after r (Ok w) = w.0
-after r (Err way) = r
+-- an instruction to try, and the links that BP leads to where a service may follow
+record Move : Type 0 where
+  instruction : Instr
+  links : List ℕ
 
-abbrev next : ResidentState → Instr → ResidentState
-next r i = after r (effect_of example r i)
+-- ## The instruction stands there
 
-push_bp : Instr
-push_bp = instr.Push word.Bp
+abbrev rest_after : List ℕ → List ℕ → Option (List ℕ)
+rest_after [] ys = Some ys
+rest_after (x ∷ xs) [] = None
+rest_after (x ∷ xs) (y ∷ ys) = if y == x then rest_after xs ys else None
 
-first : Goes example (example_start 1) (next (example_start 1) (instr.CallFar 32 256)) AtCall
-unfolding effect_of act with_lost word_bytes
-first = record {
-  running = refl;
-  instruction = instr.CallFar 32 256;
-  stands = record { code = main_code; named = refl; rest = drop 5 main_code; spelled = refl };
-  result = refl;
-}
+rest_is : (xs ys rest : List ℕ) → rest_after xs ys ≡ Some rest → ys ≡ xs ++ rest
+rest_is [] ys rest e = cc
+rest_is (x ∷ xs) [] rest e = absurd (cc)
+rest_is (x ∷ xs) (y ∷ ys) rest e = by (nat_eq y x) refl e (rest_is xs ys rest)
+  where
+    by : (b : Bool) → nat_eq y x ≡ b → (if b then rest_after xs ys else None) ≡ Some rest → (rest_after xs ys ≡ Some rest → ys ≡ xs ++ rest) → y ∷ ys ≡ x ∷ (xs ++ rest)
+    by true same e more = let head = eqb-true y x same in let tail = more e in cc
+    by false same e more = absurd (cc)
+
+abbrev stands_in : Option (List ℕ) → ℕ → Instr → Bool
+stands_in None ip i = false
+stands_in (Some code) ip i = is_some (rest_after (spelling i) (drop ip code))
+
+some_of : (o : Option (List ℕ)) → is_some o ≡ true → (rest : List ℕ) × (o ≡ Some rest)
+some_of None e = absurd (cc)
+some_of (Some rest) e = (rest, refl)
+
+stands_is : (p : Program) (r : ResidentState) (i : Instr) → stands_in (code_of p r.cs) r.registers.ip i ≡ true → StandsAt p r i
+stands_is p r i e = by (code_of p r.cs) refl e
+  where
+    by : (o : Option (List ℕ)) → code_of p r.cs ≡ o → stands_in o r.registers.ip i ≡ true → StandsAt p r i
+    by None named e = absurd (cc)
+    by (Some code) named e =
+        let found = some_of (rest_after (spelling i) (drop r.registers.ip code)) e in
+        record { code = code; named = named; rest = found.0; spelled = rest_is (spelling i) (drop r.registers.ip code) found.0 found.1 }
+
+-- ## The state is framed
+
+both_true : (a b : Bool) → (a && b) ≡ true → (a ≡ true) × (b ≡ true)
+both_true true b e = (refl, e)
+both_true false b e = absurd (cc)
+
+abbrev if_some : Option ℕ → (ℕ → Bool) → Bool
+if_some None f = false
+if_some (Some n) f = f n
+
+abbrev are_links : Cells → ℕ → ℕ → List ℕ → Bool
+are_links cells ss link [] = link == 0
+are_links cells ss link (here ∷ links) =
+    (link == here) && (nat_lt 0 here && (nat_le (here + 6) (room_end links) && if_some (known_word cells ss here) (λ next. are_links cells ss next links)))
+
+some_next : (o : Option ℕ) (f : ℕ → Bool) → if_some o f ≡ true → (n : ℕ) × (o ≡ Some n) × (f n ≡ true)
+some_next None f e = absurd (cc)
+some_next (Some n) f e = (n, refl, e)
+
+lt_is : (m n : ℕ) → nat_lt m n ≡ true → m < n
+lt_is m n e = ltb-true m n e
+
+le_is : (m n : ℕ) → nat_le m n ≡ true → m ≤ n
+le_is m n e = leb-true m n e
+
+links_are : (cells : Cells) (ss link : ℕ) (links : List ℕ) → are_links cells ss link links ≡ true → AreLinks cells ss link links
+links_are cells ss link [] e = eqb-true link 0 e
+links_are cells ss link (here ∷ links) e =
+    let one = both_true (link == here) _ e in
+    let two = both_true (nat_lt 0 here) _ one.1 in
+    let three = both_true (nat_le (here + 6) (room_end links)) _ two.1 in
+    let next = some_next (known_word cells ss here) (λ next. are_links cells ss next links) three.1 in
+    (eqb-true link here one.0, next.0, record { positive = lt_is 0 here two.0; known = next.1; room = le_is (here + 6) (room_end links) three.0 }, links_are cells ss next.0 links next.2)
+
+abbrev are_same : List ℕ → List ℕ → Bool
+are_same [] [] = true
+are_same [] (y ∷ ys) = false
+are_same (x ∷ xs) [] = false
+are_same (x ∷ xs) (y ∷ ys) = (x == y) && are_same xs ys
+
+same_are : (xs ys : List ℕ) → are_same xs ys ≡ true → xs ≡ ys
+same_are [] [] e = refl
+same_are [] (y ∷ ys) e = absurd (cc)
+same_are (x ∷ xs) [] e = absurd (cc)
+same_are (x ∷ xs) (y ∷ ys) e =
+    let both = both_true (x == y) (are_same xs ys) e in
+    let head = eqb-true x y both.0 in
+    let tail = same_are xs ys both.1 in
+    cc
+
+abbrev misses : ℕ → ℕ → List ℕ → Bool
+misses place ss [] = true
+misses place ss (link ∷ links) = not (place == address ss link) && (not (place == address ss (next_offset link)) && misses place ss links)
+
+not_same : (a b : ℕ) → not (a == b) ≡ true → a ≢ b
+not_same a b e same = let z = eq-eqb a b same in absurd (cc)
+
+misses_are : (place ss : ℕ) (links : List ℕ) → misses place ss links ≡ true → AllByRecursion (λ offset. MissesWord place ss offset) links
+misses_are place ss [] e = tt
+misses_are place ss (link ∷ links) e =
+    let one = both_true (not (place == address ss link)) _ e in
+    let two = both_true (not (place == address ss (next_offset link))) _ one.1 in
+    (record { low = not_same place (address ss link) one.0; high = not_same place (address ss (next_offset link)) two.0 }, misses_are place ss links two.1)
+
+abbrev is_spare : Program → ResidentState → List ℕ → ℕ → Bool
+is_spare p r links place = is_free (r.cells place) && (not (place == p.installed) && misses place r.registers.ss links)
+
+spare_is : (p : Program) (r : ResidentState) (links : List ℕ) (place : ℕ) → is_spare p r links place ≡ true → IsSpare p r links place
+spare_is p r links place e =
+    let one = both_true (is_free (r.cells place)) _ e in
+    let two = both_true (not (place == p.installed)) _ one.1 in
+    record { free = one.0; flag = not_same place p.installed two.0; link = misses_are place r.registers.ss links two.1 }
+
+abbrev each_below : ℕ → (ℕ → Bool) → Bool
+each_below zero f = true
+each_below (suc n) f = f n && each_below n f
+
+below_each : (n : ℕ) (f : ℕ → Bool) → each_below n f ≡ true → (k : ℕ) → k < n → f k ≡ true
+below_each zero f e k lt = absurd (omega arith)
+below_each (suc n) f e k lt = by (nat_eq k n) refl (below_each n f (both_true (f n) (each_below n f) e).1 k)
+  where
+    by : (b : Bool) → nat_eq k n ≡ b → (k < n → f k ≡ true) → f k ≡ true
+    by true same more = ap f (eqb-true k n same) ∙ (both_true (f n) (each_below n f) e).0
+    by false apart more = more (let ne : k ≢ n = λ same. (let z = eq-eqb k n same in absurd (cc)) in omega arith)
+
+abbrev is_framed : Program → Bool → ResidentState → List ℕ → Bool
+is_framed p pending r links =
+    are_links r.cells r.registers.ss r.registers.bp links
+    && (are_same (places_of r.records) (live_places pending r.registers.sp links)
+    && (nat_le (r.registers.sp + 4) 65536
+    && each_below 64 (λ k. is_spare p r links (below r.registers.ss r.registers.sp k))))
+
+framed_is : (p : Program) (pending : Bool) (r : ResidentState) (links : List ℕ) → is_framed p pending r links ≡ true → IsFramed p pending r
+framed_is p pending r links e =
+    let one = both_true (are_links r.cells r.registers.ss r.registers.bp links) _ e in
+    let two = both_true (are_same (places_of r.records) (live_places pending r.registers.sp links)) _ one.1 in
+    let three = both_true (nat_le (r.registers.sp + 4) 65536) _ two.1 in
+    record {
+      links = links;
+      chain = links_are r.cells r.registers.ss r.registers.bp links one.0;
+      places = same_are _ _ two.0;
+      pending_room = λ _. le_is (r.registers.sp + 4) 65536 three.0;
+      spare = λ k lt. spare_is p r links (below r.registers.ss r.registers.sp k) (below_each 64 (λ k. is_spare p r links (below r.registers.ss r.registers.sp k)) three.1 k lt);
+    }
+
+abbrev is_framed_after : Program → Service → ResidentState → List ℕ → Bool
+is_framed_after p NoService r links = true
+is_framed_after p AtCall r links = is_framed p true r links
+is_framed_after p AtReturn r links = is_framed p false r links
+is_framed_after p AtClear r links = is_framed p true r links
+
+framed_after_is : (p : Program) (service : Service) (r : ResidentState) (links : List ℕ) → is_framed_after p service r links ≡ true → FramedAfter p service r
+framed_after_is p NoService r links e = tt
+framed_after_is p AtCall r links e = framed_is p true r links e
+framed_after_is p AtReturn r links e = framed_is p false r links e
+framed_after_is p AtClear r links e = framed_is p true r links e
+
+-- ## A step, and a list of them
+
+abbrev is_running : ResidentStatus → Bool
+is_running Running = true
+is_running (Ended code) = false
+is_running (Stopped segment offset why) = false
+
+running_is : (s : ResidentStatus) → is_running s ≡ true → s ≡ Running
+running_is Running e = refl
+running_is (Ended code) e = absurd (cc)
+running_is (Stopped segment offset why) e = absurd (cc)
+
+abbrev came_to : Program → List ℕ → Outcome → Option ResidentState
+came_to p links (Ok w) = if is_framed_after p w.1 w.0 links then Some w.0 else None
+came_to p links (Err way) = None
+
+abbrev tried : Program → Move → ResidentState → Option ResidentState
+tried p m r =
+    if is_running r.status && stands_in (code_of p r.cs) r.registers.ip m.instruction then came_to p m.links (effect_of p r m.instruction) else None
+
+-- a step that was tried
+record Tried (p : Program) (r t : ResidentState) : Type 0 where
+  service : Service
+  goes : Goes p r t service
+  framed : FramedAfter p service t
+
+some_if : (b : Bool) (o : Option ResidentState) (t : ResidentState) → (if b then o else None) ≡ Some t → (b ≡ true) × (o ≡ Some t)
+some_if true o t e = (refl, e)
+some_if false o t e = absurd (cc)
+
+abbrev or_other : Option ResidentState → ResidentState → ResidentState
+or_other None other = other
+or_other (Some x) other = x
+
+some_same : (x y : ResidentState) → Some x ≡ Some y → x ≡ y
+some_same x y e = ap (λ o. or_other o x) e
+
+came_is : (p : Program) (links : List ℕ) (o : Outcome) (t : ResidentState) → came_to p links o ≡ Some t → (service : Service) × (o ≡ Ok (t, service)) × FramedAfter p service t
+came_is p links (Ok w) t e =
+    let found = some_if (is_framed_after p w.1 w.0 links) (Some w.0) t e in
+    let is : w.0 ≡ t = some_same w.0 t found.1 in
+    (w.1, ap (λ (z : ResidentState). Ok (z, w.1)) is, subst (λ z. FramedAfter p w.1 z) is (framed_after_is p w.1 w.0 links found.0))
+came_is p links (Err way) t e = absurd (cc)
+
+tried_is : (p : Program) (m : Move) (r t : ResidentState) → tried p m r ≡ Some t → Tried p r t
+tried_is p m r t e =
+    let tests = some_if (is_running r.status && stands_in (code_of p r.cs) r.registers.ip m.instruction) (came_to p m.links (effect_of p r m.instruction)) t e in
+    let both = both_true (is_running r.status) _ tests.0 in
+    let came = came_is p m.links (effect_of p r m.instruction) t tests.1 in
+    record {
+      service = came.0;
+      goes = record { running = running_is r.status both.0; instruction = m.instruction; stands = stands_is p r m.instruction both.1; result = came.1 };
+      framed = came.2;
+    }
+
+abbrev and_go : Option ResidentState → (ResidentState → Option ResidentState) → Option ResidentState
+and_go None f = None
+and_go (Some r) f = f r
+
+abbrev followed : Program → List Move → ResidentState → Option ResidentState
+followed p [] r = Some r
+followed p (m ∷ ms) r = and_go (tried p m r) (λ t. followed p ms t)
+
+went : (o : Option ResidentState) (f : ResidentState → Option ResidentState) (t : ResidentState) → and_go o f ≡ Some t → (middle : ResidentState) × (o ≡ Some middle) × (f middle ≡ Some t)
+went None f t e = absurd (cc)
+went (Some r) f t e = (r, refl, e)
+
+followed_runs : (p : Program) (ms : List Move) (r t : ResidentState) → followed p ms r ≡ Some t → RunsFramed p (length ms) r t
+followed_runs p [] r t e = some_same r t e
+followed_runs p (m ∷ ms) r t e =
+    let one = went (tried p m r) (λ t. followed p ms t) t e in
+    let step = tried_is p m r one.0 one.1 in
+    (one.0, step.service, step.goes, step.framed, followed_runs p ms one.0 t one.2)
+
+-- ## The example
+
+abbrev move : Instr → Move
+move i = record { instruction = i; links = [] }
+
+abbrev framed_move : Instr → List ℕ → Move
+framed_move i links = record { instruction = i; links = links }
+
+abbrev push_bp : Move
+push_bp = move (instr.Push word.Bp)
+
+abbrev pop_bp : Move
+pop_bp = move (instr.Pop word.Bp)
+
+abbrev move_bp : Move
+move_bp = move (instr.Mov (pair.WordRm word.Bp (word_rm.Reg word.Sp)))
+
+abbrev moves : List Move
+moves =
+    move (instr.CallFar 32 256) ∷ push_bp ∷ move_bp
+    ∷ move (instr.CallFar 0 128) ∷ push_bp ∷ move_bp ∷ pop_bp ∷ framed_move instr.RetFar (506 ∷ [])
+    ∷ move (instr.PushSeg seg.Cs) ∷ move (instr.CallNear 2) ∷ push_bp ∷ move_bp ∷ pop_bp ∷ framed_move instr.RetFar (506 ∷ [])
+    ∷ pop_bp ∷ move instr.RetFar ∷ move (instr.MovWord word.Ax 0x4C00) ∷ move (instr.Int 33) ∷ []
+
+abbrev seen : Option ResidentState → Option (ResidentStatus × ℕ)
+seen None = None
+seen (Some t) = Some (t.status, length t.records)
+
+example_ends : seen (followed example moves (example_start 1)) ≡ Some (Ended 0, 0)
+unfolding effect_of act with_lost word_bytes word_then word_modrm pair_form pair_body pair_override
+example_ends = refl

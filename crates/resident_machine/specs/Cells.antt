@@ -93,6 +93,10 @@ lost Unknown = Unknown
 lost Kept = Kept
 lost Paired = Paired
 
+abbrev pub lost_if : Bool → Cell → Cell
+lost_if true cell = lost cell
+lost_if false cell = cell
+
 -- The 64 bytes below SP are not known from here on.
 unfoldable pub with_lost : ℕ → ℕ → Cells → Cells
-with_lost segment offset cells place = if is_below 64 segment offset place then lost (cells place) else cells place
+with_lost segment offset cells place = lost_if (is_below 64 segment offset place) (cells place)
