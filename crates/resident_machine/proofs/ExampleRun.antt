@@ -13,13 +13,13 @@ use Rattle.x86_table.specs.Spelling.{word_bytes, word_modrm, pair_form, pair_bod
 use Rattle.cpu_8086.specs.Access.{word_then}
 use Rattle.cpu_8086.specs.Effect.{act}
 use Rattle.cpu_8086.specs.Memory.{address, next_offset}
-use Rattle.resident_machine.specs.Program.{Segment, Image, Program, code_of}
+use Rattle.resident_machine.specs.Program.{Segment, Image, Overlay, Program, code_of}
 use Rattle.resident_machine.specs.Cells.{Cells, is_free, known_word, below, with_lost}
 use Rattle.resident_machine.specs.Effect.{Outcome, effect_of}
 use Rattle.resident_machine.specs.Example.{example, example_start}
 use Rattle.resident_machine.specs.Framed.{room_end, IsLink, AreLinks, live_places, places_of, MissesWord, IsSpare, IsFramed, FramedAfter}
 use Rattle.resident_machine.specs.Run.{StandsAt, Goes, RunsFramed}
-use Rattle.resident_machine.specs.State.{ResidentStatus, Running, Ended, Stopped, ResidentState, Service, NoService, AtCall, AtReturn, AtClear}
+use Rattle.resident_machine.specs.State.{Record, ResidentStatus, Running, Ended, Stopped, ResidentState, Service, NoService, AtCall, AtReturn, AtClear}
 
 -- an instruction to try, and the links that BP leads to where a service may follow
 record Move : Type 0 where
@@ -274,10 +274,66 @@ moves =
     ∷ move (instr.PushSeg seg.Cs) ∷ move (instr.CallNear 2) ∷ push_bp ∷ move_bp ∷ pop_bp ∷ framed_move instr.RetFar (506 ∷ [])
     ∷ pop_bp ∷ move instr.RetFar ∷ move (instr.MovWord word.Ax 0x4C00) ∷ move (instr.Int 33) ∷ []
 
-abbrev seen : Option ResidentState → Option (ResidentStatus × ℕ)
-seen None = None
-seen (Some t) = Some (t.status, length t.records)
+abbrev is_zero_end : ResidentStatus → Bool
+is_zero_end Running = false
+is_zero_end (Ended code) = code == 0
+is_zero_end (Stopped segment offset why) = false
 
-example_ends : seen (followed example moves (example_start 1)) ≡ Some (Ended 0, 0)
+zero_end_is : (s : ResidentStatus) → is_zero_end s ≡ true → s ≡ Ended 0
+zero_end_is Running e = absurd (cc)
+zero_end_is (Ended code) e = ap Ended (eqb-true code 0 e)
+zero_end_is (Stopped segment offset why) e = absurd (cc)
+
+abbrev is_none_left : List Record → Bool
+is_none_left [] = true
+is_none_left (x ∷ others) = false
+
+none_left_is : (records : List Record) → is_none_left records ≡ true → records ≡ []
+none_left_is [] e = refl
+none_left_is (x ∷ others) e = absurd (cc)
+
+abbrev is_routine : Segment → Bool
+is_routine (Image number) = number == 128
+is_routine (Overlay number) = false
+
+routine_is : (s : Segment) → is_routine s ≡ true → s ≡ Image 128
+routine_is (Image number) e = ap Image (eqb-true number 128 e)
+routine_is (Overlay number) e = absurd (cc)
+
+abbrev is_over : ResidentState → Bool
+is_over t = is_zero_end t.status && is_none_left t.records
+
+abbrev test : (ResidentState → Bool) → Option ResidentState → Bool
+test f None = false
+test f (Some t) = f t
+
+tested : (f : ResidentState → Bool) (o : Option ResidentState) → test f o ≡ true → (t : ResidentState) × (o ≡ Some t) × (f t ≡ true)
+tested f None e = absurd (cc)
+tested f (Some t) e = (t, refl, e)
+
+example_ends : test is_over (followed example moves (example_start 1)) ≡ true
 unfolding effect_of act with_lost word_bytes word_then word_modrm pair_form pair_body pair_override
 example_ends = refl
+
+over_is : (t : ResidentState) → is_over t ≡ true → (t.status ≡ Ended 0) × (t.records ≡ [])
+over_is t e = let both = both_true (is_zero_end t.status) (is_none_left t.records) e in (zero_end_is t.status both.0, none_left_is t.records both.1)
+
+pub example_runs : (t : ResidentState) × RunsFramed example 18 (example_start 1) t × (t.status ≡ Ended 0) × (t.records ≡ [])
+example_runs =
+    let found = tested is_over (followed example moves (example_start 1)) example_ends in
+    let end = over_is found.0 found.2 in
+    (found.0, followed_runs example moves (example_start 1) found.0 found.1, end.0, end.1)
+
+-- with the installed flag 0 the call comes to the error routine
+abbrev is_refused : ResidentState → Bool
+is_refused t = is_routine t.cs && (t.registers.ax == 208)
+
+refused_ends : test is_refused (followed example (move (instr.CallFar 32 256) ∷ []) (example_start 0)) ≡ true
+unfolding effect_of act with_lost word_bytes word_then word_modrm pair_form pair_body pair_override
+refused_ends = refl
+
+pub example_refused : (t : ResidentState) × RunsFramed example 1 (example_start 0) t × (t.cs ≡ Image 0x80) × (t.registers.ax ≡ 208)
+example_refused =
+    let found = tested is_refused (followed example (move (instr.CallFar 32 256) ∷ []) (example_start 0)) refused_ends in
+    let both = both_true (is_routine found.0.cs) (found.0.registers.ax == 208) found.2 in
+    (found.0, followed_runs example (move (instr.CallFar 32 256) ∷ []) (example_start 0) found.0 found.1, routine_is found.0.cs both.0, eqb-true found.0.registers.ax 208 both.1)

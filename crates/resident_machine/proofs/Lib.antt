@@ -6,3 +6,4 @@ pub mod NearLaws
 pub mod RunLaws
 pub mod StartLaws
 pub mod ExampleRun
+pub mod AstrayLaws
