@@ -22,6 +22,7 @@ use Rattle.resident_machine.specs.Program.{Segment, Overlay, Program, image_targ
 use Rattle.resident_machine.specs.Astray.{Astray, LeadsNowhere, TouchesReturn, TouchesKept, ReadsUnknown, TakesCodeSegment, LeavesHalf, ReturnsElsewhere, Traps, ClearsItself, Uninstalls, MovesStack, and_then}
 use Rattle.resident_machine.specs.Cells.{Cell, Known, Unknown, Kept, Paired, with_cell, known_then, free_then}
 use Rattle.resident_machine.specs.Effect.{Outcome, plain_effect, completed, kept_installed, effect_of, is_near_call, far_return, cleared, is_zero, jumped_to, with_memory, on_cells}
+use Rattle.resident_machine.specs.Example.{byte_at, load_al}
 use Rattle.resident_machine.specs.State.{ResidentState, NoService}
 use Rattle.resident_machine.specs.Dos.{plainly}
 use Rattle.resident_machine.proofs.CellLaws.{with_cell-same}
@@ -70,19 +71,19 @@ read_tree : (p : Program) (r : ResidentState) (place : ℕ) (next : ℕ → Act)
 read_tree p r place next x way cell e = ap (λ z. known_then z (λ v. on_cells p r (next v) r.cells)) cell ∙ e (λ v. on_cells p r (next v) r.cells)
 
 -- MOV AL from a byte of the data segment, whatever its cell is
-reads : (p : Program) (r : ResidentState) (offset : ℕ) (x : Cell) (way : Astray) → r.half ≡ false → r.cells (address r.registers.ds offset) ≡ x → ((next : ℕ → Outcome) → known_then x next ≡ Err way) → effect_of p r (instr.Mov (pair.ByteRm byte.Al (byte_rm.Mem (record { segment = None; place = Direct offset })))) ≡ Err way
+reads : (p : Program) (r : ResidentState) (offset : ℕ) (x : Cell) (way : Astray) → r.half ≡ false → r.cells (address r.registers.ds offset) ≡ x → ((next : ℕ → Outcome) → known_then x next ≡ Err way) → effect_of p r (load_al offset) ≡ Err way
 unfolding act byte_then in_segment offset_of usual_segment
 reads p r offset x way half cell e =
-    by_tree p r (instr.Mov (pair.ByteRm byte.Al (byte_rm.Mem (record { segment = None; place = Direct offset })))) way half
-      (read_tree p r (address r.registers.ds offset) (λ v. Done (with_byte_reg (past (instr.Mov (pair.ByteRm byte.Al (byte_rm.Mem (record { segment = None; place = Direct offset })))) r.registers) byte.Al v)) x way cell e)
+    by_tree p r (load_al offset) way half
+      (read_tree p r (address r.registers.ds offset) (λ v. Done (with_byte_reg (past (load_al offset) r.registers) byte.Al v)) x way cell e)
 
-pub reads_unknown : (p : Program) (r : ResidentState) (offset : ℕ) → r.half ≡ false → r.cells (address r.registers.ds offset) ≡ Unknown → effect_of p r (instr.Mov (pair.ByteRm byte.Al (byte_rm.Mem (record { segment = None; place = Direct offset })))) ≡ Err ReadsUnknown
+pub reads_unknown : (p : Program) (r : ResidentState) (offset : ℕ) → r.half ≡ false → r.cells (address r.registers.ds offset) ≡ Unknown → effect_of p r (load_al offset) ≡ Err ReadsUnknown
 reads_unknown p r offset half cell = reads p r offset Unknown ReadsUnknown half cell (λ next. refl)
 
-pub touches_kept : (p : Program) (r : ResidentState) (offset : ℕ) → r.half ≡ false → r.cells (address r.registers.ds offset) ≡ Kept → effect_of p r (instr.Mov (pair.ByteRm byte.Al (byte_rm.Mem (record { segment = None; place = Direct offset })))) ≡ Err TouchesKept
+pub touches_kept : (p : Program) (r : ResidentState) (offset : ℕ) → r.half ≡ false → r.cells (address r.registers.ds offset) ≡ Kept → effect_of p r (load_al offset) ≡ Err TouchesKept
 touches_kept p r offset half cell = reads p r offset Kept TouchesKept half cell (λ next. refl)
 
-pub touches_return : (p : Program) (r : ResidentState) (offset : ℕ) → r.half ≡ false → r.cells (address r.registers.ds offset) ≡ Paired → effect_of p r (instr.Mov (pair.ByteRm byte.Al (byte_rm.Mem (record { segment = None; place = Direct offset })))) ≡ Err TouchesReturn
+pub touches_return : (p : Program) (r : ResidentState) (offset : ℕ) → r.half ≡ false → r.cells (address r.registers.ds offset) ≡ Paired → effect_of p r (load_al offset) ≡ Err TouchesReturn
 touches_return p r offset half cell = reads p r offset Paired TouchesReturn half cell (λ next. refl)
 
 -- MOV SS with another value
@@ -101,10 +102,10 @@ set_back false true o e f = refl
 set_back false false o e f = absurd (cc)
 
 -- MOV of 0 to the installed flag, which is not 0
-pub uninstalls : (p : Program) (r : ResidentState) (offset flag : ℕ) → r.half ≡ false → p.installed ≡ address r.registers.ds offset → r.cells p.installed ≡ Known flag → flag ≢ 0 → effect_of p r (instr.MovImmediate (immediate.Byte (byte_rm.Mem (record { segment = None; place = Direct offset })) 0)) ≡ Err Uninstalls
+pub uninstalls : (p : Program) (r : ResidentState) (offset flag : ℕ) → r.half ≡ false → p.installed ≡ address r.registers.ds offset → r.cells p.installed ≡ Known flag → flag ≢ 0 → effect_of p r (instr.MovImmediate (immediate.Byte (byte_at offset) 0)) ≡ Err Uninstalls
 unfolding effect_of act put_byte in_segment offset_of usual_segment
 uninstalls p r offset flag half place known apart =
-    let i : Instr = instr.MovImmediate (immediate.Byte (byte_rm.Mem (record { segment = None; place = Direct offset })) 0) in
+    let i : Instr = instr.MovImmediate (immediate.Byte (byte_at offset) 0) in
     let g : Registers = past i r.registers in
     let at : ℕ = address r.registers.ds offset in
     let t : ResidentState = with_memory r g (with_cell r.cells at (Known 0)) in

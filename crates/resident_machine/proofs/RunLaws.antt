@@ -146,6 +146,16 @@ astray_stops p r t a x g = by x.cause
         let both : (let o : Outcome = Err way.0 in o ≡ Ok (t, a)) = sym y.result ∙ ap (effect_of p r) same ∙ g.result in
         absurd (cc)
 
+-- a state that runs and neither goes on nor strays has no instruction at CS:IP
+outcome_of : (p : Program) (r : ResidentState) (i : Instr) (o : Outcome) → r.status ≡ Running → StandsAt p r i → effect_of p r i ≡ o → ((t : ResidentState) (service : Service) → Goes p r t service → ⊥) → ((way : Astray) → Strays p r way → ⊥) → ⊥
+outcome_of p r i (Ok w) running at e stops strays = stops w.0 w.1 (record { running = running; instruction = i; stands = at; result = e })
+outcome_of p r i (Err way) running at e stops strays = strays way (record { instruction = i; stands = at; result = e })
+
+pub goes_or_strays : (p : Program) (r : ResidentState) → r.status ≡ Running → ((t : ResidentState) (service : Service) → Goes p r t service → ⊥) → (IsAstray p r → ⊥) → ⊥
+goes_or_strays p r running stops keeps =
+    let strays : (way : Astray) → Strays p r way → ⊥ = λ way x. keeps (record { running = running; cause = inr (way, x) }) in
+    keeps (record { running = running; cause = inl (λ i at. outcome_of p r i (effect_of p r i) running at refl stops strays) })
+
 pub runs_once : (p : Program) (n : ℕ) (r t u : ResidentState) → Runs p n r t → Runs p n r u → t ≡ u
 runs_once p zero r t u x y = sym x ∙ y
 runs_once p (suc n) r t u x y =

@@ -1,6 +1,13 @@
 -- A small program: two segments of the image, and an overlay that is called through its stub, calls a far routine of the
 -- image and one of its own.
 use Rattle.std.specs.Prelude.{ℕ, ◌==◌, Bool, true, false, nat_lt, if◌then◌else◌, List, [], ◌∷◌, Option, Some, None}
+use Rattle.x86_table.specs.declared.instr.Instr.{Instr}
+use Rattle.x86_table.specs.declared.instr.Instr.TheVariants as instr
+use Rattle.x86_table.specs.declared.instr.Pair.TheVariants as pair
+use Rattle.x86_table.specs.declared.operand.ByteOperand.{ByteOperand}
+use Rattle.x86_table.specs.declared.operand.ByteOperand.TheVariants as byte_rm
+use Rattle.x86_table.specs.declared.operand.ByteReg.TheVariants as byte
+use Rattle.x86_table.specs.declared.operand.Place.TheVariants.{Direct}
 use Rattle.cpu_8086.specs.declared.registers.Registers.{Registers}
 use Rattle.cpu_8086.specs.Accessors.{zero_registers}
 use Rattle.resident_machine.specs.Program.{Image, OverlayCode, Program}
@@ -54,3 +61,10 @@ example_start flag = record {
   err = [];
   status = Running;
 }
+
+-- the byte at an offset of the data segment, and MOV AL from it
+abbrev pub byte_at : ℕ → ByteOperand
+byte_at offset = byte_rm.Mem (record { segment = None; place = Direct offset })
+
+abbrev pub load_al : ℕ → Instr
+load_al offset = instr.Mov (pair.ByteRm byte.Al (byte_at offset))
