@@ -1,24 +1,21 @@
 -- Each way of going astray is met.
-use Rattle.std.proofs.Common.{◌≡◌, ◌≢◌, ℕ, suc, ◌==◌, Bool, true, false, List, [], Option, Some, None, Result, Ok, Err, refl, sym, ap, ◌∙◌, subst, arith, eq-eqb, ne_eqb}
+use Rattle.std.proofs.Common.{◌≡◌, ◌≢◌, ℕ, ◌==◌, Bool, true, false, [], None, Ok, Err, refl, sym, ap, ◌∙◌, subst, arith, eq-eqb, ne_eqb}
 use Rattle.std.specs.Prelude.{◌&&◌, not, if◌then◌else◌}
 use Rattle.x86_table.specs.declared.instr.Instr.{Instr}
 use Rattle.x86_table.specs.declared.instr.Instr.TheVariants as instr
 use Rattle.x86_table.specs.declared.instr.Immediate.TheVariants as immediate
-use Rattle.x86_table.specs.declared.instr.Pair.TheVariants as pair
-use Rattle.x86_table.specs.declared.operand.ByteOperand.TheVariants as byte_rm
 use Rattle.x86_table.specs.declared.operand.ByteReg.TheVariants as byte
 use Rattle.x86_table.specs.declared.operand.DataSeg.TheVariants as seg
-use Rattle.x86_table.specs.declared.operand.Place.TheVariants.{Direct}
 use Rattle.x86_table.specs.declared.operand.SegReg.TheVariants as any_seg
 use Rattle.x86_table.specs.declared.operand.WordOperand.TheVariants as word_rm
 use Rattle.x86_table.specs.declared.operand.WordReg.{WordReg}
 use Rattle.cpu_8086.specs.declared.registers.Registers.{Registers}
-use Rattle.cpu_8086.specs.Access.{Act, Done, Read, in_segment, byte_then, word_then, put_byte, put_word}
+use Rattle.cpu_8086.specs.Access.{Act, Done, Read, in_segment, byte_then, word_then, put_byte}
 use Rattle.cpu_8086.specs.Effect.{act}
 use Rattle.cpu_8086.specs.Memory.{address}
 use Rattle.cpu_8086.specs.Operand.{word_reg, with_data_seg, with_byte_reg, offset_of, usual_segment}
 use Rattle.cpu_8086.specs.Step.{past}
-use Rattle.resident_machine.specs.Program.{Segment, Overlay, Program, image_target}
+use Rattle.resident_machine.specs.Program.{Overlay, Program, image_target}
 use Rattle.resident_machine.specs.Astray.{Astray, LeadsNowhere, TouchesReturn, TouchesKept, ReadsUnknown, TakesCodeSegment, LeavesHalf, ReturnsElsewhere, Traps, ClearsItself, Uninstalls, MovesStack, and_then}
 use Rattle.resident_machine.specs.Cells.{Cell, Known, Unknown, Kept, Paired, with_cell, known_then, free_then}
 use Rattle.resident_machine.specs.Effect.{Outcome, plain_effect, completed, kept_installed, effect_of, is_near_call, far_return, cleared, is_zero, jumped_to, with_memory, on_cells}
@@ -45,7 +42,7 @@ traps p r half = by_tree p r (instr.Int 63) Traps half (same_stack r (Err Traps)
 
 pub clears : (p : Program) (r : ResidentState) (v : ℕ) → r.half ≡ false → r.cs ≡ Overlay v → effect_of p r (instr.Int 96) ≡ Err ClearsItself
 unfolding act
-clears p r v half cs = by_tree p r (instr.Int 96) ClearsItself half 
+clears p r v half cs = by_tree p r (instr.Int 96) ClearsItself half
     (same_stack r (cleared r.cs (with_memory r (past (instr.Int 96) r.registers) r.cells)) ∙ ap (λ c. cleared c (with_memory r (past (instr.Int 96) r.registers) r.cells)) cs)
 
 pub leaves_half : (p : Program) (r : ResidentState) (i : Instr) → r.half ≡ true → is_near_call i ≡ false → effect_of p r i ≡ Err LeavesHalf
@@ -58,12 +55,12 @@ takes_code_segment p r w half = by_tree p r (instr.MovFromSeg (word_rm.Reg w) an
 
 pub returns_elsewhere : (p : Program) (r : ResidentState) → r.half ≡ false → r.records ≡ [] → effect_of p r instr.RetFar ≡ Err ReturnsElsewhere
 unfolding act
-returns_elsewhere p r half none = by_tree p r instr.RetFar ReturnsElsewhere half 
+returns_elsewhere p r half none = by_tree p r instr.RetFar ReturnsElsewhere half
     (same_stack r (far_return r (past instr.RetFar r.registers) r.cells 0 r.records) ∙ ap (far_return r (past instr.RetFar r.registers) r.cells 0) none)
 
 pub leads_nowhere : (p : Program) (r : ResidentState) (segment offset : ℕ) → r.half ≡ false → p.image segment ≡ None → effect_of p r (instr.JumpFar offset segment) ≡ Err LeadsNowhere
 unfolding act
-leads_nowhere p r segment offset half none = by_tree p r (instr.JumpFar offset segment) LeadsNowhere half 
+leads_nowhere p r segment offset half none = by_tree p r (instr.JumpFar offset segment) LeadsNowhere half
     (same_stack r (jumped_to r (past (instr.JumpFar offset segment) r.registers) r.cells (image_target (p.image segment) segment offset))
     ∙ ap (λ o. jumped_to r (past (instr.JumpFar offset segment) r.registers) r.cells (image_target o segment offset)) none)
 
@@ -75,7 +72,7 @@ reads : (p : Program) (r : ResidentState) (offset : ℕ) (x : Cell) (way : Astra
 unfolding act byte_then in_segment offset_of usual_segment
 reads p r offset x way half cell e =
     by_tree p r (load_al offset) way half
-      (read_tree p r (address r.registers.ds offset) (λ v. Done (with_byte_reg (past (load_al offset) r.registers) byte.Al v)) x way cell e)
+    (read_tree p r (address r.registers.ds offset) (λ v. Done (with_byte_reg (past (load_al offset) r.registers) byte.Al v)) x way cell e)
 
 pub reads_unknown : (p : Program) (r : ResidentState) (offset : ℕ) → r.half ≡ false → r.cells (address r.registers.ds offset) ≡ Unknown → effect_of p r (load_al offset) ≡ Err ReadsUnknown
 reads_unknown p r offset half cell = reads p r offset Unknown ReadsUnknown half cell (λ next. refl)
@@ -94,7 +91,7 @@ moves_stack p r w half apart =
     let h : Registers = with_data_seg g seg.Ss (word_reg g w) in
     let same : word_reg g w ≡ word_reg r.registers w = grind arith in
     by_tree p r (instr.MovToSeg seg.Ss (word_rm.Reg w)) MovesStack half
-      (ap (λ b. if b then plainly (with_memory r h r.cells) else Err MovesStack) (ne_eqb (word_reg g w) r.registers.ss (λ e. apart (sym same ∙ e))))
+    (ap (λ b. if b then plainly (with_memory r h r.cells) else Err MovesStack) (ne_eqb (word_reg g w) r.registers.ss (λ e. apart (sym same ∙ e))))
 
 set_back : (a b : Bool) (o : Outcome) → a ≡ false → b ≡ true → (if not a && b then Err Uninstalls else o) ≡ Err Uninstalls
 set_back true b o e f = absurd (cc)

@@ -1,5 +1,5 @@
 -- Steps over cells that did not go astray, taken apart.
-use Rattle.std.proofs.Common.{◌≡◌, ◌≢◌, ℕ, ◌+◌, ◌%◌, ◌<◌, ◌==◌, Bool, true, false, List, Result, Ok, Err, refl, sym, ap, ◌∙◌, ne_eqb, eq-eqb, eqb-true}
+use Rattle.std.proofs.Common.{◌≡◌, ◌≢◌, ℕ, ◌==◌, Bool, true, false, Result, Ok, Err, refl, sym, ap, ◌∙◌, ne_eqb, eq-eqb, eqb-true}
 use Rattle.std.specs.Prelude.{IsTrue, if◌then◌else◌}
 use Rattle.cpu_8086.specs.Memory.{address, next_offset}
 use Rattle.cpu_8086.specs.declared.registers.Registers.{Registers}

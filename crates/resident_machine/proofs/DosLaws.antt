@@ -1,6 +1,6 @@
 -- DOS calls over cells are those over memory.
-use Rattle.std.proofs.Common.{◌≡◌, ℕ, zero, suc, ◌+◌, ◌/◌, ◌%◌, ◌==◌, Bool, true, false, List, [], ◌∷◌, ◌++◌, length, take, drop, Result, Ok, Err, refl, sym, ap, ◌∙◌, subst}
-use Rattle.std.specs.Prelude.{IsTrue, if◌then◌else◌, slice_index, slice_set}
+use Rattle.std.proofs.Common.{◌≡◌, ℕ, zero, suc, ◌+◌, ◌/◌, ◌==◌, Bool, true, false, List, [], ◌∷◌, ◌++◌, length, take, drop, Ok, refl, sym, ap, ◌∙◌, subst}
+use Rattle.std.specs.Prelude.{if◌then◌else◌, slice_index, slice_set}
 use Rattle.cpu_8086.specs.declared.process.Why.{Why}
 use Rattle.cpu_8086.specs.declared.process.Why.TheVariants as why
 use Rattle.cpu_8086.specs.declared.registers.Registers.{Registers}
@@ -9,12 +9,12 @@ use Rattle.cpu_8086.specs.Process as process
 use Rattle.cpu_8086.specs.Process.{Process}
 use Rattle.cpu_8086.specs.State.{State}
 use Rattle.resident_machine.specs.Program.{Program}
-use Rattle.resident_machine.specs.Astray.{Astray, and_then}
-use Rattle.resident_machine.specs.Cells.{Cell, Known, Cells, with_cell, known_bytes, with_bytes, known_then, free_then}
+use Rattle.resident_machine.specs.Astray.{and_then}
+use Rattle.resident_machine.specs.Cells.{Known, Cells, with_cell, known_bytes, with_bytes}
 use Rattle.resident_machine.specs.Dos.{plainly, stopped, answered, bad_handle, said_bytes, to_output, to_errors, write_call, read_bytes, given, read_call, exit_call, dos_call}
-use Rattle.resident_machine.specs.Effect.{Outcome, with_memory}
+use Rattle.resident_machine.specs.Effect.{Outcome}
 use Rattle.resident_machine.specs.Standing.{PairWord, HoldsMemory, StandsFor, pair_words, status_of}
-use Rattle.resident_machine.specs.State.{ResidentState, Service, NoService, Ended}
+use Rattle.resident_machine.specs.State.{ResidentState, Service, NoService}
 use Rattle.resident_machine.proofs.CellLaws.{known_ok, free_ok, and_then_ok, ok_same}
 use Rattle.resident_machine.proofs.HoldLaws.{memory_written}
 
@@ -37,7 +37,7 @@ with_bytes-hold p ss ws segment (b ∷ bs) offset c d m h e =
     let place = address segment offset in
     let first = free_ok (c place) (with_bytes (with_cell c place (Known b)) segment (next_offset offset) bs) d e in
     with_bytes-hold p ss ws segment bs (next_offset offset) (with_cell c place (Known b)) d (slice_set m place b)
-      (memory_written p ss c m ws place (Known b) b h first.0 (λ v same. by v same)) first.1
+    (memory_written p ss c m ws place (Known b) b h first.0 (λ v same. by v same)) first.1
   where
     by : (v : ℕ) → Known b ≡ Known v → b ≡ v
     by v same = cc

@@ -1,6 +1,6 @@
 -- A run by computation: a list of instructions is followed from a state, and each step tested.
-use Rattle.std.proofs.Common.{◌≡◌, ◌≢◌, ℕ, zero, suc, ◌+◌, ◌-◌, ◌%◌, ◌<◌, ◌≤◌, ◌==◌, nat_eq, nat_lt, nat_le, ◌&&◌, not, Bool, true, false, List, [], ◌∷◌, ◌++◌, length, Option, Some, None, is_some, Result, Ok, Err, refl, sym, ap, ◌∙◌, subst, arith, eq-eqb, eqb-true}
-use Rattle.std.specs.Prelude.{drop, IsTrue, if◌then◌else◌, option_map}
+use Rattle.std.proofs.Common.{◌≡◌, ◌≢◌, ℕ, zero, suc, ◌+◌, ◌<◌, ◌≤◌, ◌==◌, nat_eq, nat_lt, nat_le, ◌&&◌, not, Bool, true, false, List, [], ◌∷◌, ◌++◌, length, Option, Some, None, is_some, Ok, Err, refl, ap, ◌∙◌, subst, arith, eq-eqb, eqb-true}
+use Rattle.std.specs.Prelude.{drop, if◌then◌else◌}
 use Rattle.std.proofs.lemmas.Bool.{ltb-true, leb-true}
 use Rattle.std.specs.List.{AllByRecursion}
 use Rattle.x86_table.specs.declared.instr.Instr.{Instr}
@@ -17,7 +17,7 @@ use Rattle.resident_machine.specs.Program.{Segment, Image, Overlay, Program, cod
 use Rattle.resident_machine.specs.Cells.{Cells, is_free, known_word, below, with_lost}
 use Rattle.resident_machine.specs.Effect.{Outcome, effect_of}
 use Rattle.resident_machine.specs.Example.{example, example_start}
-use Rattle.resident_machine.specs.Framed.{room_end, IsLink, AreLinks, live_places, places_of, MissesWord, IsSpare, IsFramed, FramedAfter}
+use Rattle.resident_machine.specs.Framed.{room_end, AreLinks, live_places, places_of, MissesWord, IsSpare, IsFramed, FramedAfter}
 use Rattle.resident_machine.specs.Run.{StandsAt, Goes, RunsFramed}
 use Rattle.resident_machine.specs.State.{Record, ResidentStatus, Running, Ended, Stopped, ResidentState, Service, NoService, AtCall, AtReturn, AtClear}
 

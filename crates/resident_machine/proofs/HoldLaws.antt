@@ -1,15 +1,14 @@
 -- What memory holds as bytes are written, words of return pairs are pushed and taken, and bytes are lost.
-use Rattle.std.proofs.Common.{◌≡◌, ◌≢◌, ℕ, ◌+◌, ◌%◌, ◌<◌, ◌≤◌, ◌==◌, ◌⊎◌, inl, inr, nat_eq, eq-eqb, Bool, true, false, List, [], ◌∷◌, length, Option, Some, refl, sym, ap, ◌∙◌, subst, arith, eqb-true}
+use Rattle.std.proofs.Common.{◌≡◌, ◌≢◌, ℕ, ◌<◌, ◌≤◌, ◌⊎◌, inl, inr, nat_eq, eq-eqb, Bool, true, false, List, [], ◌∷◌, length, refl, sym, ap, ◌∙◌, subst, arith, eqb-true}
 use Rattle.std.specs.Prelude.{IsTrue, if◌then◌else◌, slice_index, slice_set}
 use Rattle.std.proofs.lemmas.List.{get_or-set_same, get_or-set_other}
 use Rattle.std.proofs.lemmas.Bool.{cases_lt}
 use Rattle.std.proofs.Math.ListN.{length-set}
 use Rattle.cpu_8086.specs.Memory.{address, next_offset, word_of, load_byte, load_word, store_byte, store_word}
-use Rattle.cpu_8086.proofs.MemoryLaws.{address-lt, address-next, length-store_word, load_word-store_word_same}
+use Rattle.cpu_8086.proofs.MemoryLaws.{address-next, length-store_word, load_word-store_word_same}
 use Rattle.resident_machine.specs.Program.{Program}
 use Rattle.resident_machine.specs.Cells.{Cell, Known, Unknown, Kept, Paired, Cells, with_cell, with_word, is_free, with_lost}
-use Rattle.resident_machine.specs.Framed.{MissesWord}
-use Rattle.resident_machine.specs.Standing.{PairWord, HoldsWord, AreApart, IsApart, HoldsWords, HoldsByte, HoldsCode, HoldsMemory}
+use Rattle.resident_machine.specs.Standing.{PairWord, HoldsWord, IsApart, HoldsWords, HoldsByte, HoldsCode, HoldsMemory}
 use Rattle.resident_machine.proofs.CellLaws.{with_cell-same, with_cell-other, free_not_kept, free_not_paired, with_lost-kept, with_lost-paired, with_lost-known}
 
 -- From cells and memory to later ones: kept and paired bytes stay so and hold what they held, and what is known is there.
@@ -108,10 +107,13 @@ pushed_known ss offset c d place v pushed e =
 
 apart_from_free : (ss offset v : ℕ) (c : Cells) (m : List ℕ) (ws : List PairWord) → IsTrue (is_free (c (address ss offset))) → IsTrue (is_free (c (address ss (next_offset offset)))) → HoldsWords ss c m ws → IsApart ss (record { offset = offset; value = v }) ws
 apart_from_free ss offset v c m [] low high h = tt
-apart_from_free ss offset v c m (w ∷ ws) low high h = (record {
-      low = record { low = free_not_paired c (address ss offset) (address ss w.offset) low h.0.low; high = free_not_paired c (address ss (next_offset offset)) (address ss w.offset) high h.0.low };
-      high = record { low = free_not_paired c (address ss offset) (address ss (next_offset w.offset)) low h.0.high; high = free_not_paired c (address ss (next_offset offset)) (address ss (next_offset w.offset)) high h.0.high };
-    }, apart_from_free ss offset v c m ws low high h.2)
+apart_from_free ss offset v c m (w ∷ ws) low high h = (
+  record {
+    low = record { low = free_not_paired c (address ss offset) (address ss w.offset) low h.0.low; high = free_not_paired c (address ss (next_offset offset)) (address ss w.offset) high h.0.low };
+    high = record { low = free_not_paired c (address ss offset) (address ss (next_offset w.offset)) low h.0.high; high = free_not_paired c (address ss (next_offset offset)) (address ss (next_offset w.offset)) high h.0.high };
+  },
+  apart_from_free ss offset v c m ws low high h.2,
+)
 
 pub memory_pushed : (p : Program) (ss : ℕ) (c d : Cells) (m : List ℕ) (ws : List PairWord) (offset v : ℕ) → HoldsMemory p ss c m ws → offset < 65536 → IsTrue (is_free (c (address ss offset))) → IsTrue (is_free (c (address ss (next_offset offset)))) → IsPushed ss offset c d → HoldsMemory p ss d (store_word m ss offset v) (record { offset = offset; value = v } ∷ ws)
 memory_pushed p ss c d m ws offset v h lt low high pushed = record {
@@ -163,13 +165,16 @@ with_word-other c ss offset x place low high = with_cell-other (with_cell c (add
 words_taken : (ss : ℕ) (c : Cells) (m : List ℕ) (w : PairWord) (ws : List PairWord) → IsApart ss w ws → HoldsWords ss c m ws → HoldsWords ss (with_word c ss w.offset Unknown) m ws
 words_taken ss c m w [] apart h = tt
 words_taken ss c m w (x ∷ ws) apart h =
-    let a = apart.0 in
-    (record {
-      fits = h.0.fits;
-      value = h.0.value;
-      low = with_word-other c ss w.offset Unknown (address ss x.offset) a.low.low a.low.high ∙ h.0.low;
-      high = with_word-other c ss w.offset Unknown (address ss (next_offset x.offset)) a.high.low a.high.high ∙ h.0.high;
-    }, h.1, words_taken ss c m w ws apart.1 h.2)
+    let a = apart.0 in (
+      record {
+        fits = h.0.fits;
+        value = h.0.value;
+        low = with_word-other c ss w.offset Unknown (address ss x.offset) a.low.low a.low.high ∙ h.0.low;
+        high = with_word-other c ss w.offset Unknown (address ss (next_offset x.offset)) a.high.low a.high.high ∙ h.0.high;
+      },
+      h.1,
+      words_taken ss c m w ws apart.1 h.2,
+    )
 
 unknown_known : (c : Cells) (place other v : ℕ) → with_cell c place Unknown other ≡ Known v → c other ≡ Known v
 unknown_known c place other v e = by (nat_eq other place) e

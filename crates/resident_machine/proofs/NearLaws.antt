@@ -1,6 +1,6 @@
 -- A near call after PUSH CS makes a return pair whole, on both sides.
-use Rattle.std.proofs.Common.{◌≡◌, ◌≢◌, ℕ, ◌+◌, ◌%◌, ◌<◌, Bool, true, false, List, ◌∷◌, Option, Some, None, Result, Ok, Err, refl, sym, ap, ◌∙◌, subst, arith}
-use Rattle.std.specs.Prelude.{IsTrue, if◌then◌else◌, slice_index, slice_set}
+use Rattle.std.proofs.Common.{◌≡◌, ◌≢◌, ℕ, ◌+◌, ◌%◌, ◌<◌, true, false, List, ◌∷◌, Option, Some, None, Ok, refl, sym, ap, ◌∙◌, subst, arith}
+use Rattle.std.specs.Prelude.{IsTrue, slice_index}
 use Rattle.x86_table.specs.declared.instr.Instr.{Instr}
 use Rattle.x86_table.specs.declared.instr.Instr.TheVariants as instr
 use Rattle.x86_table.specs.declared.operand.SegReg.{SegReg}
@@ -9,7 +9,7 @@ use Rattle.x86_table.specs.declared.operand.WordOperand.{WordOperand}
 use Rattle.x86_table.specs.declared.operand.WordOperand.TheVariants as word_rm
 use Rattle.cpu_8086.specs.declared.machine.Event.{Event}
 use Rattle.cpu_8086.specs.declared.registers.Registers.{Registers}
-use Rattle.cpu_8086.specs.Access.{Act, Done, Read, Write, lowered, at_offset, on_memory, in_segment, read_word, word_then}
+use Rattle.cpu_8086.specs.Access.{Act, lowered, at_offset, on_memory, in_segment, read_word, word_then}
 use Rattle.cpu_8086.specs.Effect.{act, call_to}
 use Rattle.cpu_8086.specs.Memory.{address, next_offset, word_of, low_byte, high_byte, store_byte, store_word}
 use Rattle.cpu_8086.specs.Operand.{word_reg, offset_of, usual_segment}
@@ -18,11 +18,10 @@ use Rattle.cpu_8086.specs.State.{State}
 use Rattle.cpu_8086.specs.Step.{past}
 use Rattle.cpu_8086.proofs.MemoryLaws.{address-next}
 use Rattle.resident_machine.specs.Program.{Program}
-use Rattle.resident_machine.specs.Astray.{Astray}
-use Rattle.resident_machine.specs.Cells.{Cell, Known, Paired, Cells, with_cell, with_word, is_free, known_then, free_then}
+use Rattle.resident_machine.specs.Cells.{Known, Paired, Cells, with_cell, with_word, is_free, known_then, free_then}
 use Rattle.resident_machine.specs.Dos.{plainly}
-use Rattle.resident_machine.specs.Effect.{Outcome, with_memory, on_cells, plain_effect, is_near_call, made_whole, stack_then}
-use Rattle.resident_machine.specs.Standing.{number_of, PairWord, words_of, with_half, pair_words, HoldsMemory, StandsFor}
+use Rattle.resident_machine.specs.Effect.{with_memory, on_cells, plain_effect, is_near_call, made_whole, stack_then}
+use Rattle.resident_machine.specs.Standing.{number_of, PairWord, words_of, with_half, HoldsMemory, StandsFor}
 use Rattle.resident_machine.specs.State.{Record, ResidentState, Service, NoService}
 use Rattle.resident_machine.proofs.CellLaws.{with_cell-other, known_ok, free_ok, stack_ok, ok_same}
 use Rattle.resident_machine.proofs.DosLaws.{lands}
@@ -109,10 +108,10 @@ module _ (p : Program) (r : ResidentState) (q : Process) (s : StandsFor p r q) (
       let fits : r.registers.sp < 65536 = half_held.words.0.fits in
       let second : r.registers.sp ≡ (top + 2) % 65536 = sym sp ∙ raised-lowered g.sp (subst (λ z. z < 65536) (sym sp) fits) in
       let words = subst (λ (z : PairWord). HoldsMemory p g.ss d (store_word m g.ss top g.ip) (record { offset = top; value = g.ip } ∷ z ∷ words_of r.records))
-        (same_word r.registers.sp ((top + 2) % 65536) (number_of r.cs) (number_of r.cs) second refl) held in
+      (same_word r.registers.sp ((top + 2) % 65536) (number_of r.cs) (number_of r.cs) second refl) held in
       let records : List Record = record { place = top; segment = r.cs; offset = g.ip } ∷ r.records in
       lands p _ (arrived r h r.cs d records false) NoService w made'
-        (stands_arrived p r q h h r.cs q.machine.cs d (store_word m g.ss top g.ip) records false s refl s.cs words)
+      (stands_arrived p r q h h r.cs q.machine.cs d (store_word m g.ss top g.ip) records false s refl s.cs words)
 
   by_call : (g : Registers) (a : Act) (offset : ℕ) (v w : ResidentState × Service) → g.sp ≡ r.registers.sp → g.ss ≡ r.registers.ss → on_cells p r (call_to g offset) r.cells ≡ Ok v → made_whole r g.ip v ≡ Ok w → on_memory q.machine a q.machine.memory ≡ on_memory q.machine (call_to g offset) q.machine.memory → StandsFor p w.0 (after_step q (on_memory q.machine a q.machine.memory).0 (on_memory q.machine a q.machine.memory).1)
   by_call g a offset v w sp ss e made same = subst (λ (z : State × Event). StandsFor p w.0 (after_step q z.0 z.1)) (sym same) (call_whole g offset v w sp ss e made)

@@ -1,19 +1,16 @@
 -- Each event of the resident machine is one of the plain machine, and so are runs.
-use Rattle.std.proofs.Common.{◌≡◌, ◌≢◌, ◌⊎◌, inl, inr, ℕ, zero, suc, ◌+◌, ◌-◌, ◌%◌, ◌<◌, ◌≤◌, Bool, true, false, List, [], ◌∷◌, ◌++◌, length, take, drop, get_or, Option, Some, None, Result, Ok, Err, refl, sym, ap, ◌∙◌, subst, arith, length-append, length-drop}
+use Rattle.std.proofs.Common.{◌≡◌, ◌⊎◌, inl, inr, ℕ, zero, suc, ◌+◌, ◌-◌, ◌%◌, ◌<◌, Bool, true, false, List, [], ◌∷◌, ◌++◌, length, drop, get_or, Some, Ok, Err, refl, sym, ap, ◌∙◌, subst, arith, length-append, length-drop}
 use Rattle.std.specs.Prelude.{◌&&◌, not, if◌then◌else◌, slice_index, slice_get, option_map}
 use Rattle.std.proofs.lemmas.List.{get_or-drop, get_or_append_left}
 use Rattle.x86_table.specs.declared.instr.Instr.{Instr}
 use Rattle.x86_table.specs.Spelling.{spelling}
-use Rattle.x86_table.proofs.Spellings.{spelling_unique, spelling_bounds}
-use Rattle.cpu_8086.specs.declared.machine.Event.{Event}
+use Rattle.x86_table.proofs.Spellings.{spelling_unique}
 use Rattle.cpu_8086.specs.declared.registers.Registers.{Registers}
 use Rattle.cpu_8086.specs.Access.{on_memory}
 use Rattle.cpu_8086.specs.Effect.{act}
 use Rattle.cpu_8086.specs.Memory.{load_byte}
-use Rattle.cpu_8086.specs.Process as process
 use Rattle.cpu_8086.specs.Process.{Process, after_step}
 use Rattle.cpu_8086.specs.Run as plain
-use Rattle.cpu_8086.specs.State.{State}
 use Rattle.cpu_8086.specs.Step.{past, effect, fetched, code_byte}
 use Rattle.cpu_8086.proofs.FetchLaws.{fetched_spells}
 use Rattle.cpu_8086.proofs.RunLaws.{goes_by}
@@ -21,7 +18,7 @@ use Rattle.resident_machine.specs.Program.{Segment, Image, Overlay, OverlayCode,
 use Rattle.resident_machine.specs.Astray.{Astray, LeavesHalf, Uninstalls, and_then}
 use Rattle.resident_machine.specs.Effect.{Outcome, plain_effect, is_near_call, made_whole, completed, is_zero, kept_installed, effect_of}
 use Rattle.resident_machine.specs.Run.{StandsAt, Goes, IsAstray, Strays, Runs, RunsFramed}
-use Rattle.resident_machine.specs.Standing.{number_of, words_of, with_half, HoldsMemory, HoldsCode, StandsFor, status_of}
+use Rattle.resident_machine.specs.Standing.{number_of, words_of, with_half, HoldsMemory, StandsFor, status_of}
 use Rattle.resident_machine.specs.State.{ResidentState, Running, Service}
 use Rattle.resident_machine.proofs.CellLaws.{and_then_ok, unless_ok, if_ok, ok_same}
 use Rattle.resident_machine.proofs.NearLaws.{near_stands}
@@ -108,10 +105,11 @@ fetched_alike p none r q i s at = by r.cs refl
 pub goes_alike : (p : Program) (none : p.overlays ≡ []) (r t : ResidentState) (service : Service) (q : Process) → StandsFor p r q → Goes p r t service → (u : Process) × plain.Goes q u × StandsFor p t u
 goes_alike p none r t service q s g =
     let i = g.instruction in
-    let there = fetched_alike p none r q i s g.stands in
-    (after_step q (effect q.machine i).0 (effect q.machine i).1,
+    let there = fetched_alike p none r q i s g.stands in (
+      after_step q (effect q.machine i).0 (effect q.machine i).1,
       goes_by q i there.0 (s.status ∙ ap status_of g.running) there.1,
-      effect_stands p none r q i (t, service) s g.result)
+      effect_stands p none r q i (t, service) s g.result,
+    )
 
 pub runs_alike : (p : Program) (none : p.overlays ≡ []) (n : ℕ) (r t : ResidentState) (q : Process) → StandsFor p r q → Runs p n r t → (u : Process) × plain.Runs n q u × StandsFor p t u
 runs_alike p none zero r t q s e = (q, refl, subst (λ z. StandsFor p z q) e s)

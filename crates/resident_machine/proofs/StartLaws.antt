@@ -1,11 +1,11 @@
 -- A process stands for the resident state that it starts.
-use Rattle.std.proofs.Common.{◌≡◌, ℕ, ◌<◌, ◌≤◌, Bool, true, false, List, length, Option, Some, refl, ap, ◌∙◌}
+use Rattle.std.proofs.Common.{◌≡◌, ℕ, Bool, true, false, List, refl}
 use Rattle.std.specs.Prelude.{IsTrue, if◌then◌else◌, slice_index}
 use Rattle.cpu_8086.specs.Memory.{address}
 use Rattle.cpu_8086.specs.Process as process
 use Rattle.cpu_8086.specs.Process.{Process}
 use Rattle.resident_machine.specs.Program.{Image, Program}
-use Rattle.resident_machine.specs.Cells.{Cell, Known, Kept}
+use Rattle.resident_machine.specs.Cells.{Known, Kept}
 use Rattle.resident_machine.specs.Standing.{HoldsCode, StandsFor}
 use Rattle.resident_machine.specs.Start.{cells_of, resident_start, KeepsCode, KeepsProgram}
 

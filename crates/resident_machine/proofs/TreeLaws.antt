@@ -1,22 +1,20 @@
 -- A tree of accesses that does not go astray over cells does over memory what it does there.
-use Rattle.std.proofs.Common.{◌≡◌, ◌≢◌, ℕ, ◌+◌, ◌%◌, ◌<◌, ◌==◌, Bool, true, false, List, [], ◌∷◌, Option, Some, None, Result, Ok, Err, refl, sym, ap, ◌∙◌, subst, arith, eqb-true}
+use Rattle.std.proofs.Common.{◌≡◌, ℕ, ◌+◌, ◌%◌, ◌==◌, Bool, true, false, List, [], ◌∷◌, Option, Some, None, Ok, Err, refl, sym, ap, subst, arith, eqb-true}
 use Rattle.std.specs.Prelude.{IsTrue, if◌then◌else◌, slice_index, slice_set, position}
-use Rattle.cpu_8086.specs.declared.machine.Event.{Event}
 use Rattle.cpu_8086.specs.declared.process.Why.TheVariants as why
 use Rattle.cpu_8086.specs.declared.registers.Registers.{Registers}
 use Rattle.cpu_8086.specs.Access.{Act, Done, Read, Write, Copy, ReadCodeSegment, FarCall, FarReturn, FarJump, PushCodeSegment, Interrupt, DivideFault, raised, lowered, at_offset, far_called, far_returned, with_top, on_memory}
 use Rattle.cpu_8086.specs.Memory.{address, next_offset, load_word, store_word}
 use Rattle.cpu_8086.specs.Process as process
 use Rattle.cpu_8086.specs.Process.{Process, after_step}
-use Rattle.cpu_8086.specs.State.{State}
 use Rattle.resident_machine.specs.Program.{Segment, Image, Overlay, OverlayCode, Program, Target, image_target, target_by, far_target}
-use Rattle.resident_machine.specs.Astray.{Astray, ReturnsElsewhere, Traps}
-use Rattle.resident_machine.specs.Cells.{Cell, Known, Unknown, Kept, Paired, Cells, with_cell, with_word, is_free, free_then, paired_then}
+use Rattle.resident_machine.specs.Astray.{ReturnsElsewhere, Traps}
+use Rattle.resident_machine.specs.Cells.{Cell, Known, Unknown, Paired, Cells, with_cell, with_word, is_free, free_then, paired_then}
 use Rattle.resident_machine.specs.Dos.{plainly, stopped, dos_call}
-use Rattle.resident_machine.specs.Effect.{Outcome, with_memory, blurred, called, called_to, far_call, taken_pair, returned, returned_into, far_return, jumped_to, half_pushed, cleared, serviced, on_cells}
+use Rattle.resident_machine.specs.Effect.{with_memory, blurred, called, called_to, far_call, taken_pair, returned, returned_into, far_return, jumped_to, half_pushed, cleared, serviced, on_cells}
 use Rattle.resident_machine.specs.Standing.{number_of, PairWord, low_of, high_of, words_of, with_half, pair_words, HoldsMemory, StandsFor}
-use Rattle.resident_machine.specs.State.{Record, ResidentState, Service, NoService, AtCall, AtReturn, AtClear}
-use Rattle.resident_machine.proofs.CellLaws.{known_ok, free_ok, moved_ok, unless_ok, stack_ok, PairedOk, paired_ok}
+use Rattle.resident_machine.specs.State.{Record, ResidentState, Service, NoService, AtReturn, AtClear}
+use Rattle.resident_machine.proofs.CellLaws.{known_ok, free_ok, moved_ok, unless_ok, stack_ok, paired_ok}
 use Rattle.resident_machine.proofs.DosLaws.{lands, stands_stopped, machine_of, dos_end}
 use Rattle.resident_machine.proofs.HoldLaws.{memory_written, memory_pushed, with_word-pushed, memory_taken, memory_lost}
 
@@ -94,7 +92,7 @@ module _ (p : Program) (none : p.overlays ≡ []) (r : ResidentState) (q : Proce
       let h1 = memory_pushed p g.ss c c1 m (words_of r.records) first q.machine.cs h (omega arith) free.low0 free.high0 (with_word-pushed c g.ss first (omega arith)) in
       let h2 = memory_pushed p g.ss c1 (with_word c1 g.ss second Paired) m1 (record { offset = first; value = q.machine.cs } ∷ words_of r.records) second g.ip h1 (omega arith) free.low1 free.high1 (with_word-pushed c1 g.ss second (omega arith)) in
       subst (λ (z : PairWord). HoldsMemory p g.ss (twice_paired g c) (store_word m1 g.ss second g.ip) (record { offset = second; value = g.ip } ∷ z ∷ words_of r.records))
-        (same_word first ((second + 2) % 65536) q.machine.cs (number_of r.cs) (lowered-raised g.sp) s.cs) h2
+      (same_word first ((second + 2) % 65536) q.machine.cs (number_of r.cs) (lowered-raised g.sp) s.cs) h2
 
   called_end : (g : Registers) (c : Cells) (m : List ℕ) (segment offset : ℕ) (o : Option (List ℕ)) (w : ResidentState × Service) → HoldsMemory p g.ss c m (words_of (record { place = (lowered (lowered g)).sp; segment = r.cs; offset = g.ip } ∷ r.records)) → called_to p r g c (image_target o segment offset) ≡ Ok w → StandsFor p w.0 (record q { machine = record { registers = at_offset (lowered (lowered g)) offset; cs = segment; memory = m } })
   called_end g c m segment offset None w h e = absurd (cc)
@@ -130,9 +128,9 @@ module _ (p : Program) (none : p.overlays ≡ []) (r : ResidentState) (q : Proce
       let cs : load_word m g.ss ((g.sp + 2) % 65536) ≡ number_of x.segment = subst (λ z. load_word m g.ss ((z + 2) % 65536) ≡ number_of x.segment) at h.words.2.0.value in
       let g2 : Registers = at_offset (raised g (4 + dropped)) x.offset in
       returned_end (returned r g c dropped x others) x.segment _ w
-        (stands_arrived p r q g2 (at_offset (raised g (4 + dropped)) (load_word m g.ss g.sp)) x.segment (load_word m g.ss ((g.sp + 2) % 65536)) (taken_pair g c) m others r.half s
-          (ap (at_offset (raised g (4 + dropped))) ip) cs (unhalved p r g.ss g2.sp (number_of x.segment) (taken_pair g c) m (words_of others) whole held))
-        both.1
+      (stands_arrived p r q g2 (at_offset (raised g (4 + dropped)) (load_word m g.ss g.sp)) x.segment (load_word m g.ss ((g.sp + 2) % 65536)) (taken_pair g c) m others r.half s
+      (ap (at_offset (raised g (4 + dropped))) ip) cs (unhalved p r g.ss g2.sp (number_of x.segment) (taken_pair g c) m (words_of others) whole held))
+      both.1
 
   -- ## Jumps, PUSH CS and interrupts
 
@@ -140,7 +138,7 @@ module _ (p : Program) (none : p.overlays ≡ []) (r : ResidentState) (q : Proce
   jump_end g c m segment offset None w h e = absurd (cc)
   jump_end g c m segment offset (Some code) w h e =
       lands p _ (arrived r (at_offset g offset) (Image segment) c r.records r.half) NoService w e
-        (stands_arrived p r q (at_offset g offset) (at_offset g offset) (Image segment) segment c m r.records r.half s refl refl (unhalved p r g.ss g.sp segment c m (words_of r.records) whole h))
+      (stands_arrived p r q (at_offset g offset) (at_offset g offset) (Image segment) segment c m r.records r.half s refl refl (unhalved p r g.ss g.sp segment c m (words_of r.records) whole h))
 
   half_end : (g : Registers) (c : Cells) (m : List ℕ) (w : ResidentState × Service) → HoldsMemory p g.ss c m (words_of r.records) → half_pushed r g c ≡ Ok w → StandsFor p w.0 (record q { machine = record { registers = lowered g; cs = q.machine.cs; memory = with_top (lowered g) m q.machine.cs } })
   half_end g c m w h e =
@@ -149,8 +147,8 @@ module _ (p : Program) (none : p.overlays ≡ []) (r : ResidentState) (q : Proce
       let m1 : List ℕ = store_word m g.ss (lowered g).sp q.machine.cs in
       let held = memory_pushed p g.ss c c1 m (words_of r.records) (lowered g).sp q.machine.cs h (omega arith) one.low one.high (with_word-pushed c g.ss (lowered g).sp (omega arith)) in
       lands p _ (arrived r (lowered g) r.cs c1 r.records true) NoService w one.goes_on
-        (stands_arrived p r q (lowered g) (lowered g) r.cs q.machine.cs c1 m1 r.records true s refl s.cs
-          (subst (λ n. HoldsMemory p g.ss c1 m1 (record { offset = (lowered g).sp; value = n } ∷ words_of r.records)) s.cs held))
+      (stands_arrived p r q (lowered g) (lowered g) r.cs q.machine.cs c1 m1 r.records true s refl s.cs
+      (subst (λ n. HoldsMemory p g.ss c1 m1 (record { offset = (lowered g).sp; value = n } ∷ words_of r.records)) s.cs held))
 
   cleared_end : (cs : Segment) (t : ResidentState) (u : Process) (w : ResidentState × Service) → StandsFor p t u → cleared cs t ≡ Ok w → StandsFor p w.0 u
   cleared_end (Image number) t u w h e = lands p u (blurred t) AtClear w e (stands_blurred p t u h)

@@ -1,5 +1,5 @@
 -- DOS calls, as `cpu_8086` has them for a process, where memory is known in part.
-use Rattle.std.specs.Prelude.{ℕ, ◌+◌, ◌/◌, ◌%◌, ◌==◌, Bool, true, false, if◌then◌else◌, List, ◌++◌, length, take, drop, Result, Ok, Err}
+use Rattle.std.specs.Prelude.{ℕ, ◌+◌, ◌/◌, ◌%◌, ◌==◌, Bool, true, false, if◌then◌else◌, List, ◌++◌, length, take, drop, Result, Ok}
 use Rattle.cpu_8086.specs.declared.process.Why.{Why}
 use Rattle.cpu_8086.specs.declared.process.Why.TheVariants as why
 use Rattle.resident_machine.specs.Astray.{Astray, and_then}

@@ -1,5 +1,5 @@
 -- What an instruction does to a resident state. Its tree of accesses is that of `cpu_8086`, run over cells.
-use Rattle.std.specs.Prelude.{ℕ, ◌+◌, ◌%◌, ◌==◌, ◌&&◌, not, Bool, true, false, if◌then◌else◌, List, [], ◌∷◌, Option, Some, None, Result, Ok, Err}
+use Rattle.std.specs.Prelude.{ℕ, ◌+◌, ◌%◌, ◌==◌, ◌&&◌, not, Bool, true, false, if◌then◌else◌, List, [], ◌∷◌, Result, Ok, Err}
 use Rattle.x86_table.specs.declared.instr.Instr.{Instr}
 use Rattle.x86_table.specs.declared.instr.Instr.TheVariants as instr
 use Rattle.cpu_8086.specs.declared.process.Why.TheVariants as why
@@ -11,7 +11,7 @@ use Rattle.resident_machine.specs.Program.{Segment, Image, Overlay, Program, Tar
 use Rattle.resident_machine.specs.Astray.{Astray, LeadsNowhere, TakesCodeSegment, LeavesHalf, ReturnsElsewhere, Traps, ClearsItself, Uninstalls, MovesStack, and_then}
 use Rattle.resident_machine.specs.Cells.{Cell, Known, Unknown, Kept, Paired, Cells, with_cell, with_word, known_then, free_then, moved_then, paired_then, with_lost}
 use Rattle.resident_machine.specs.Dos.{plainly, stopped, dos_call}
-use Rattle.resident_machine.specs.State.{Record, ResidentState, Service, NoService, AtCall, AtReturn, AtClear}
+use Rattle.resident_machine.specs.State.{Record, ResidentState, Service, AtCall, AtReturn, AtClear}
 
 -- what a step gives: the state after it and the service that may follow
 abbrev pub Outcome : Type 0

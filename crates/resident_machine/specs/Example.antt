@@ -1,6 +1,6 @@
 -- A small program: two segments of the image, and an overlay that is called through its stub, calls a far routine of the
 -- image and one of its own.
-use Rattle.std.specs.Prelude.{ℕ, ◌==◌, Bool, true, false, nat_lt, if◌then◌else◌, List, [], ◌∷◌, Option, Some, None}
+use Rattle.std.specs.Prelude.{ℕ, ◌==◌, false, nat_lt, if◌then◌else◌, List, [], ◌∷◌, Option, Some, None}
 use Rattle.x86_table.specs.declared.instr.Instr.{Instr}
 use Rattle.x86_table.specs.declared.instr.Instr.TheVariants as instr
 use Rattle.x86_table.specs.declared.instr.Pair.TheVariants as pair
@@ -10,8 +10,8 @@ use Rattle.x86_table.specs.declared.operand.ByteReg.TheVariants as byte
 use Rattle.x86_table.specs.declared.operand.Place.TheVariants.{Direct}
 use Rattle.cpu_8086.specs.declared.registers.Registers.{Registers}
 use Rattle.cpu_8086.specs.Accessors.{zero_registers}
-use Rattle.resident_machine.specs.Program.{Image, OverlayCode, Program}
-use Rattle.resident_machine.specs.Cells.{Cell, Known, Kept, Cells}
+use Rattle.resident_machine.specs.Program.{Image, Program}
+use Rattle.resident_machine.specs.Cells.{Known, Kept, Cells}
 use Rattle.resident_machine.specs.State.{ResidentState, Running}
 
 -- CALL FAR 0100:0020; MOV AX,4C00; INT 21h

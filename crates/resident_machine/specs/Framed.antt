@@ -1,5 +1,5 @@
 -- Framed states: those in which the live returns can be found from BP on, as a service of overlays does.
-use Rattle.std.specs.Prelude.{◌≡◌, ◌≢◌, ℕ, ◌+◌, ◌%◌, ◌<◌, ◌≤◌, Bool, true, false, IsTrue, List, [], ◌∷◌, map, Option, Some}
+use Rattle.std.specs.Prelude.{◌≡◌, ◌≢◌, ℕ, ◌+◌, ◌%◌, ◌<◌, ◌≤◌, Bool, true, false, IsTrue, List, [], ◌∷◌, map, Some}
 use Rattle.std.specs.List.{AllByRecursion}
 use Rattle.cpu_8086.specs.Memory.{address, next_offset}
 use Rattle.resident_machine.specs.Program.{Program}

@@ -1,5 +1,5 @@
 -- A program of which all code is present: each code segment is a list of bytes of its own, which CS names.
-use Rattle.std.specs.Prelude.{ℕ, ◌-◌, ◌/◌, ◌%◌, ◌==◌, ◌&&◌, Bool, nat_le, if◌then◌else◌, List, Option, Some, None, option_map, position, slice_get}
+use Rattle.std.specs.Prelude.{ℕ, ◌-◌, ◌/◌, ◌%◌, ◌==◌, ◌&&◌, nat_le, if◌then◌else◌, List, Option, Some, None, option_map, position, slice_get}
 use Rattle.cpu_8086.specs.declared.registers.Far.{Far}
 
 -- What CS names: the code of the image that begins at a segment, or the code of an overlay.

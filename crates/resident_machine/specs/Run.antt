@@ -1,5 +1,5 @@
 -- Steps and runs of the resident machine, and those that go astray.
-use Rattle.std.specs.Prelude.{◌≡◌, ◌⊎◌, ℕ, zero, suc, List, ◌++◌, drop, Option, Some, Result, Ok, Err}
+use Rattle.std.specs.Prelude.{◌≡◌, ◌⊎◌, ℕ, zero, suc, List, ◌++◌, drop, Some, Ok, Err}
 use Rattle.x86_table.specs.declared.instr.Instr.{Instr}
 use Rattle.x86_table.specs.Spelling.{spelling}
 use Rattle.resident_machine.specs.Program.{Program, code_of}

@@ -1,10 +1,10 @@
 -- When a process of the plain machine stands for a resident state, there being no overlays.
-use Rattle.std.specs.Prelude.{◌≡◌, ◌≢◌, ℕ, ◌+◌, ◌%◌, ◌<◌, ◌≤◌, Bool, true, false, if◌then◌else◌, List, [], ◌∷◌, length, slice_index, Option, Some}
+use Rattle.std.specs.Prelude.{◌≡◌, ℕ, ◌+◌, ◌%◌, ◌<◌, ◌≤◌, Bool, true, false, List, [], ◌∷◌, length, slice_index, Some}
 use Rattle.cpu_8086.specs.Memory.{address, next_offset, load_byte, load_word}
 use Rattle.cpu_8086.specs.Process as process
 use Rattle.cpu_8086.specs.Process.{Process}
 use Rattle.resident_machine.specs.Program.{Segment, Image, Overlay, Program}
-use Rattle.resident_machine.specs.Cells.{Cell, Known, Kept, Paired, Cells}
+use Rattle.resident_machine.specs.Cells.{Known, Kept, Paired, Cells}
 use Rattle.resident_machine.specs.State.{Record, ResidentStatus, Running, Ended, Stopped, ResidentState}
 use Rattle.resident_machine.specs.Framed.{MissesWord}
 

@@ -1,9 +1,9 @@
 -- The resident state from which a program starts, made of the process of the plain machine that starts it.
-use Rattle.std.specs.Prelude.{◌≡◌, ℕ, ◌<◌, ◌≤◌, Bool, false, IsTrue, if◌then◌else◌, List, [], length, slice_index, Option, Some}
+use Rattle.std.specs.Prelude.{◌≡◌, ℕ, ◌<◌, ◌≤◌, Bool, false, IsTrue, if◌then◌else◌, List, [], length, slice_index, Some}
 use Rattle.cpu_8086.specs.Memory.{address, load_byte}
 use Rattle.cpu_8086.specs.Process.{Process}
 use Rattle.resident_machine.specs.Program.{Segment, Program}
-use Rattle.resident_machine.specs.Cells.{Cell, Known, Kept, Cells}
+use Rattle.resident_machine.specs.Cells.{Known, Kept, Cells}
 use Rattle.resident_machine.specs.State.{ResidentState, Running}
 
 -- What is not kept is known.
