@@ -159,7 +159,7 @@ with_word-pushed c ss offset lt = record {
 
 -- ## A word of a return pair is taken
 
-with_word-other : (c : Cells) (ss offset : ℕ) (x : Cell) (place : ℕ) → place ≢ address ss offset → place ≢ address ss (next_offset offset) → with_word c ss offset x place ≡ c place
+pub with_word-other : (c : Cells) (ss offset : ℕ) (x : Cell) (place : ℕ) → place ≢ address ss offset → place ≢ address ss (next_offset offset) → with_word c ss offset x place ≡ c place
 with_word-other c ss offset x place low high = with_cell-other (with_cell c (address ss offset) x) (address ss (next_offset offset)) x place high ∙ with_cell-other c (address ss offset) x place low
 
 words_taken : (ss : ℕ) (c : Cells) (m : List ℕ) (w : PairWord) (ws : List PairWord) → IsApart ss w ws → HoldsWords ss c m ws → HoldsWords ss (with_word c ss w.offset Unknown) m ws

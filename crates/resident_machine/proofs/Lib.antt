@@ -7,3 +7,6 @@ pub mod RunLaws
 pub mod StartLaws
 pub mod ExampleRun
 pub mod AstrayLaws
+pub mod FirmLaws
+pub mod WholeLaws
+pub mod WholeRuns

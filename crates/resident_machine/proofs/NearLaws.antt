@@ -64,11 +64,11 @@ module _ (p : Program) (r : ResidentState) (s : State) (c : Cells) (m : List ℕ
       record { value = second.value; cells = second.cells; memory = first.memory ∙ second.memory }
 
 -- the words of half a record and of its other half are those of the record
-raised-lowered : (sp : ℕ) → sp < 65536 → sp ≡ ((sp + 65534) % 65536 + 2) % 65536
+pub raised-lowered : (sp : ℕ) → sp < 65536 → sp ≡ ((sp + 65534) % 65536 + 2) % 65536
 raised-lowered sp lt = omega arith
 
 -- Of the cells only those of the word that was pushed differ.
-near_pushed : (c : Cells) (ss offset low high : ℕ) → offset < 65536 → IsPushed ss offset c (with_word (with_cell (with_cell c (address ss offset) (Known low)) (address ss (next_offset offset)) (Known high)) ss offset Paired)
+pub near_pushed : (c : Cells) (ss offset low high : ℕ) → offset < 65536 → IsPushed ss offset c (with_word (with_cell (with_cell c (address ss offset) (Known low)) (address ss (next_offset offset)) (Known high)) ss offset Paired)
 near_pushed c ss offset low high lt =
     let before : Cells = with_cell (with_cell c (address ss offset) (Known low)) (address ss (next_offset offset)) (Known high) in
     let pushed = with_word-pushed before ss offset lt in

@@ -9,7 +9,7 @@ use Rattle.resident_machine.specs.Cells.{Known, Kept}
 use Rattle.resident_machine.specs.Standing.{HoldsCode, StandsFor}
 use Rattle.resident_machine.specs.Start.{cells_of, resident_start, KeepsCode, KeepsProgram}
 
-kept_cell : (b : Bool) (v : ℕ) → IsTrue b → (if b then Kept else Known v) ≡ Kept
+pub kept_cell : (b : Bool) (v : ℕ) → IsTrue b → (if b then Kept else Known v) ≡ Kept
 kept_cell true v e = refl
 kept_cell false v e = absurd (cc)
 

@@ -69,7 +69,7 @@ record PushedTwice (g : Registers) (c : Cells) : Type 0 where
 pub same_word : (a b x y : ℕ) → a ≡ b → x ≡ y → (let v : PairWord = record { offset = a; value = x } in let u : PairWord = record { offset = b; value = y } in v ≡ u)
 same_word a b x y e f = cc
 
-lowered-raised : (sp : ℕ) → (sp + 65534) % 65536 ≡ (((sp + 65534) % 65536 + 65534) % 65536 + 2) % 65536
+pub lowered-raised : (sp : ℕ) → (sp + 65534) % 65536 ≡ (((sp + 65534) % 65536 + 65534) % 65536 + 2) % 65536
 lowered-raised sp = omega arith
 
 known_value : (value v : ℕ) → (let x : Cell = Known value in x ≡ Known v) → value ≡ v

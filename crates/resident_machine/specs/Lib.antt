@@ -9,3 +9,4 @@ pub mod Run
 pub mod Standing
 pub mod Start
 pub mod Example
+pub mod Whole

@@ -4,4 +4,4 @@
 
 mod laws;
 
-pub use laws::{astray_law, example_law, resident_law, run_law, start_law};
+pub use laws::{astray_law, example_law, resident_law, run_law, start_law, whole_law};
