@@ -10,3 +10,4 @@ pub mod AstrayLaws
 pub mod FirmLaws
 pub mod WholeLaws
 pub mod WholeRuns
+pub mod CallLaws

@@ -12,7 +12,8 @@ use Rattle.resident_machine.specs.Cells.{Cell, Known, Unknown, Kept, Paired, Cel
 use Rattle.resident_machine.specs.Dos.{plainly, stopped, answered, bad_handle, said_bytes, to_output, to_errors, write_call, read_bytes, given, read_call, exit_call, dos_call}
 use Rattle.resident_machine.specs.Effect.{Outcome, with_memory, blurred, called, refused, refused_to, entered, called_to, far_call, taken_pair, returned, returned_into, far_return, jumped_to, half_pushed, cleared, serviced, on_cells}
 use Rattle.resident_machine.specs.State.{Record, ResidentState, Service, NoService, AtCall, AtReturn, AtClear}
-use Rattle.resident_machine.specs.Whole.{offsets_of, half_offsets, ArePaired, IsNamed, IsImage, IsOutside, IsWhole}
+use Rattle.resident_machine.specs.Whole.{offsets_of, half_offsets, ArePaired, IsNamed, IsImage, IsOutside, IsReturn, IsWhole}
+use Rattle.resident_machine.proofs.CallLaws.{CallsFrom}
 use Rattle.resident_machine.proofs.CellLaws.{known_ok, free_ok, moved_ok, and_then_ok, unless_ok, stack_ok, paired_ok, ok_same, with_lost-known}
 use Rattle.resident_machine.proofs.FirmLaws.{Firm, firm_written, firm_lost, firm_pushed, firm_taken, firm_bytes}
 use Rattle.resident_machine.proofs.HoldLaws.{with_word-pushed}
@@ -21,7 +22,7 @@ use Rattle.resident_machine.proofs.TreeLaws.{lowered-raised}
 -- What a step that began in r keeps: all that is whole, and what is outside as long as the installed flag stays 0.
 pub record Comes (p : Program) (kept : ℕ → Bool) (r t : ResidentState) : Type 0 where
   pub named : IsNamed p t.cs
-  pub returns : AllByRecursion (λ (x : Record). IsNamed p x.segment) t.records
+  pub returns : AllByRecursion (IsReturn p) t.records
   pub stays : (place : ℕ) → IsTrue (kept place) → t.cells place ≡ Kept
   pub paired : ArePaired t.registers.ss t.cells (half_offsets t.half t.registers.sp (offsets_of t.records))
   pub outside : IsOutside r → t.cells p.installed ≡ Known 0 → IsOutside t
@@ -85,12 +86,12 @@ not_zero : (flag : ℕ) → (flag == 0) ≡ false → (let x : Cell = Known flag
 not_zero flag apart same = let e : flag ≡ 0 = cc in let z = eq-eqb flag 0 e in absurd (cc)
 
 -- r stands before the instruction, which is whole and has no half pushed
-module _ (p : Program) (kept : ℕ → Bool) (r : ResidentState) (whole : IsWhole p kept r) (half : r.half ≡ false) where
+module _ (p : Program) (kept : ℕ → Bool) (r : ResidentState) (whole : IsWhole p kept r) (half : r.half ≡ false) (ip : ℕ) (fresh : (place : ℕ) → IsReturn p (record { place = place; segment = r.cs; offset = ip })) where
   -- a state with the CS and the records of r
   same_end : (t : ResidentState) → t.cs ≡ r.cs → t.records ≡ r.records → t.half ≡ r.half → Firm kept t.registers.ss t.cells (offsets_of r.records) → Comes p kept r t
   same_end t cs records same f = record {
     named = subst (IsNamed p) (sym cs) whole.named;
-    returns = subst (AllByRecursion (λ (x : Record). IsNamed p x.segment)) (sym records) whole.returns;
+    returns = subst (AllByRecursion (IsReturn p)) (sym records) whole.returns;
     stays = f.stays;
     paired = half_of t.registers.ss t.registers.sp t.cells (offsets_of t.records) t.half (same ∙ half) (subst (λ (xs : List Record). ArePaired t.registers.ss t.cells (offsets_of xs)) (sym records) f.paired);
     outside = λ out zero. record { cs = subst IsImage (sym cs) out.cs; records = subst (AllByRecursion (λ (x : Record). IsImage x.segment)) (sym records) out.records };
@@ -150,54 +151,54 @@ module _ (p : Program) (kept : ℕ → Bool) (r : ResidentState) (whole : IsWhol
 
   -- ## Far calls, returns and jumps
 
-  new_record : Registers → Record
-  new_record g = record { place = (lowered (lowered g)).sp; segment = r.cs; offset = g.ip }
+  new_return : (g : Registers) → g.ip ≡ ip → IsReturn p (record { place = (lowered (lowered g)).sp; segment = r.cs; offset = g.ip })
+  new_return g e = subst (λ z. IsReturn p (record { place = (lowered (lowered g)).sp; segment = r.cs; offset = z })) (sym e) (fresh (lowered (lowered g)).sp)
 
   -- a far call that leads to an overlay only where the installed flag isn't 0
-  called_comes : (g : Registers) (c : Cells) (to : Segment) (offset : ℕ) → IsNamed p to → (c p.installed ≡ Known 0 → IsImage to) → Firm kept g.ss c (offsets_of (record { place = (lowered (lowered g)).sp; segment = r.cs; offset = g.ip } ∷ r.records)) → Comes p kept r (called r g c to offset)
-  called_comes g c to offset named image f = record {
+  called_comes : (g : Registers) (c : Cells) (to : Segment) (offset : ℕ) → g.ip ≡ ip → IsNamed p to → (c p.installed ≡ Known 0 → IsImage to) → Firm kept g.ss c (offsets_of (record { place = (lowered (lowered g)).sp; segment = r.cs; offset = g.ip } ∷ r.records)) → Comes p kept r (called r g c to offset)
+  called_comes g c to offset here named image f = record {
     named = named;
-    returns = (whole.named, whole.returns);
+    returns = (new_return g here, whole.returns);
     stays = f.stays;
     paired = half_of g.ss (lowered (lowered g)).sp c (offsets_of (record { place = (lowered (lowered g)).sp; segment = r.cs; offset = g.ip } ∷ r.records)) r.half half f.paired;
     outside = λ out zero. record { cs = image zero; records = (out.cs, out.records) };
   }
 
   -- the error routine is entered in place of an overlay
-  refused_comes : (g : Registers) (c : Cells) (to : Segment) (offset : ℕ) (target : Target) (w : ResidentState × Service) → Firm kept g.ss c (offsets_of (record { place = (lowered (lowered g)).sp; segment = r.cs; offset = g.ip } ∷ r.records)) → IsNamed p (Image p.error_routine.segment) ⊎ ((s f : ℕ) → target ≢ Into s f) → refused_to p (called r g c to offset) target ≡ Ok w → Comes p kept r w.0
-  refused_comes g c to offset (Into s f) w firm (inl named) e =
+  refused_comes : (g : Registers) (c : Cells) (to : Segment) (offset : ℕ) (target : Target) (w : ResidentState × Service) → g.ip ≡ ip → Firm kept g.ss c (offsets_of (record { place = (lowered (lowered g)).sp; segment = r.cs; offset = g.ip } ∷ r.records)) → IsNamed p (Image p.error_routine.segment) ⊎ ((s f : ℕ) → target ≢ Into s f) → refused_to p (called r g c to offset) target ≡ Ok w → Comes p kept r w.0
+  refused_comes g c to offset (Into s f) w here firm (inl named) e =
       let t : ResidentState = refused p (called r g c to offset) in
       comes p kept r (blurred t) AtCall w e (comes_blurred p kept r t (record {
         named = named;
-        returns = (whole.named, whole.returns);
+        returns = (new_return g here, whole.returns);
         stays = firm.stays;
         paired = half_of g.ss (lowered (lowered g)).sp c (offsets_of (record { place = (lowered (lowered g)).sp; segment = r.cs; offset = g.ip } ∷ r.records)) r.half half firm.paired;
         outside = λ out zero. record { cs = tt; records = (out.cs, out.records) };
       }))
-  refused_comes g c to offset (Into s f) w firm (inr never) e = absurd (never s f refl)
-  refused_comes g c to offset (Through v f) w firm named e = absurd (cc)
-  refused_comes g c to offset Nowhere w firm named e = absurd (cc)
+  refused_comes g c to offset (Into s f) w here firm (inr never) e = absurd (never s f refl)
+  refused_comes g c to offset (Through v f) w here firm named e = absurd (cc)
+  refused_comes g c to offset Nowhere w here firm named e = absurd (cc)
 
   error_named : (o : Option (List ℕ)) → p.image p.error_routine.segment ≡ o → IsNamed p (Image p.error_routine.segment) ⊎ ((s f : ℕ) → image_target o p.error_routine.segment p.error_routine.offset ≢ Into s f)
   error_named None e = inr (λ s f is. absurd (cc))
   error_named (Some code) e = inl (code, e)
 
-  called_to_comes : (g : Registers) (c : Cells) (target : Target) (w : ResidentState × Service) → Firm kept g.ss c (offsets_of (record { place = (lowered (lowered g)).sp; segment = r.cs; offset = g.ip } ∷ r.records)) → LeadsToCode p target → called_to p r g c target ≡ Ok w → Comes p kept r w.0
-  called_to_comes g c (Into segment offset) w firm leads e = comes p kept r (called r g c (Image segment) offset) NoService w e (called_comes g c (Image segment) offset (leads.into segment offset refl) (λ zero. tt) firm)
-  called_to_comes g c (Through v offset) w firm leads e =
+  called_to_comes : (g : Registers) (c : Cells) (target : Target) (w : ResidentState × Service) → g.ip ≡ ip → Firm kept g.ss c (offsets_of (record { place = (lowered (lowered g)).sp; segment = r.cs; offset = g.ip } ∷ r.records)) → LeadsToCode p target → called_to p r g c target ≡ Ok w → Comes p kept r w.0
+  called_to_comes g c (Into segment offset) w here firm leads e = comes p kept r (called r g c (Image segment) offset) NoService w e (called_comes g c (Image segment) offset here (leads.into segment offset refl) (λ zero. tt) firm)
+  called_to_comes g c (Through v offset) w here firm leads e =
       let flag = known_ok (c p.installed) (λ flag. entered p (called r g c (Overlay v) offset) flag) w e in
       by flag.0 flag.1 (flag.0 == 0) refl flag.2
     where
       by : (flag : ℕ) → c p.installed ≡ Known flag → (b : Bool) → (flag == 0) ≡ b → (if b then refused_to p (called r g c (Overlay v) offset) (image_target (p.image p.error_routine.segment) p.error_routine.segment p.error_routine.offset) else Ok (blurred (called r g c (Overlay v) offset), AtCall)) ≡ Ok w → Comes p kept r w.0
-      by flag known true zero e = refused_comes g c (Overlay v) offset (image_target (p.image p.error_routine.segment) p.error_routine.segment p.error_routine.offset) w firm (error_named (p.image p.error_routine.segment) refl) e
+      by flag known true zero e = refused_comes g c (Overlay v) offset (image_target (p.image p.error_routine.segment) p.error_routine.segment p.error_routine.offset) w here firm (error_named (p.image p.error_routine.segment) refl) e
       by flag known false zero e =
           let t : ResidentState = called r g c (Overlay v) offset in
           let never : c p.installed ≡ Known 0 → IsImage (Overlay v) = λ z. not_zero flag zero (sym known ∙ z) in
-          comes p kept r (blurred t) AtCall w e (comes_blurred p kept r t (called_comes g c (Overlay v) offset (leads.through v offset refl) never firm))
-  called_to_comes g c Nowhere w firm leads e = absurd (cc)
+          comes p kept r (blurred t) AtCall w e (comes_blurred p kept r t (called_comes g c (Overlay v) offset here (leads.through v offset refl) never firm))
+  called_to_comes g c Nowhere w here firm leads e = absurd (cc)
 
-  call_comes : (g : Registers) (c : Cells) (target : Target) (w : ResidentState × Service) → Firm kept g.ss c (offsets_of r.records) → LeadsToCode p target → far_call p r g c target ≡ Ok w → Comes p kept r w.0
-  call_comes g c target w firm leads e =
+  call_comes : (g : Registers) (c : Cells) (target : Target) (w : ResidentState × Service) → g.ip ≡ ip → Firm kept g.ss c (offsets_of r.records) → LeadsToCode p target → far_call p r g c target ≡ Ok w → Comes p kept r w.0
+  call_comes g c target w here firm leads e =
       let first : ℕ = (lowered g).sp in
       let second : ℕ = (lowered (lowered g)).sp in
       let c1 : Cells = with_word c g.ss first Paired in
@@ -205,13 +206,13 @@ module _ (p : Program) (kept : ℕ → Bool) (r : ResidentState) (whole : IsWhol
       let two = paired_ok c1 g.ss second (λ all. called_to p r g all target) w one.goes_on in
       let f1 = firm_pushed kept g.ss c c1 (offsets_of r.records) first (omega arith) one.low one.high (with_word-pushed c g.ss first (omega arith)) firm in
       let f2 = firm_pushed kept g.ss c1 (with_word c1 g.ss second Paired) (first ∷ offsets_of r.records) second (omega arith) two.low two.high (with_word-pushed c1 g.ss second (omega arith)) f1 in
-      called_to_comes g (with_word c1 g.ss second Paired) target w (subst (λ z. Firm kept g.ss (with_word c1 g.ss second Paired) (second ∷ z ∷ offsets_of r.records)) (lowered-raised g.sp) f2) leads two.goes_on
+      called_to_comes g (with_word c1 g.ss second Paired) target w here (subst (λ z. Firm kept g.ss (with_word c1 g.ss second Paired) (second ∷ z ∷ offsets_of r.records)) (lowered-raised g.sp) f2) leads two.goes_on
 
   returned_comes : (t : ResidentState) (segment : Segment) (w : ResidentState × Service) → Comes p kept r t → returned_into segment t ≡ Ok w → Comes p kept r w.0
   returned_comes t (Image number) w h e = comes p kept r t NoService w e h
   returned_comes t (Overlay number) w h e = comes p kept r (blurred t) AtReturn w e (comes_blurred p kept r t h)
 
-  return_comes : (g : Registers) (c : Cells) (dropped : ℕ) (records : List Record) (w : ResidentState × Service) → Firm kept g.ss c (offsets_of records) → AllByRecursion (λ (x : Record). IsNamed p x.segment) records → (IsOutside r → AllByRecursion (λ (x : Record). IsImage x.segment) records) → far_return r g c dropped records ≡ Ok w → Comes p kept r w.0
+  return_comes : (g : Registers) (c : Cells) (dropped : ℕ) (records : List Record) (w : ResidentState × Service) → Firm kept g.ss c (offsets_of records) → AllByRecursion (IsReturn p) records → (IsOutside r → AllByRecursion (λ (x : Record). IsImage x.segment) records) → far_return r g c dropped records ≡ Ok w → Comes p kept r w.0
   return_comes g c dropped [] w firm named images e = absurd (cc)
   return_comes g c dropped (x ∷ others) w firm named images e =
       let both = unless_ok (x.place == g.sp) (returned_into x.segment (returned r g c dropped x others)) ReturnsElsewhere w e in
@@ -220,7 +221,7 @@ module _ (p : Program) (kept : ℕ → Bool) (r : ResidentState) (whole : IsWhol
       let high = firm_taken kept g.ss (with_word c g.ss x.place Unknown) ((x.place + 2) % 65536) (offsets_of others) low in
       let held = subst (λ z. Firm kept g.ss (with_word (with_word c g.ss z Unknown) g.ss ((z + 2) % 65536) Unknown) (offsets_of others)) at high in
       returned_comes (returned r g c dropped x others) x.segment w (record {
-        named = named.0;
+        named = named.0.named;
         returns = named.1;
         stays = held.stays;
         paired = half_of g.ss (raised g (4 + dropped)).sp (taken_pair g c) (offsets_of others) r.half half held.paired;
@@ -258,27 +259,27 @@ module _ (p : Program) (kept : ℕ → Bool) (r : ResidentState) (whole : IsWhol
   at_ss : (g : Registers) (c : Cells) → g.ss ≡ r.registers.ss → Firm kept r.registers.ss c (offsets_of r.records) → Firm kept g.ss c (offsets_of r.records)
   at_ss g c e f = subst (λ z. Firm kept z c (offsets_of r.records)) (sym e) f
 
-  pub tree_comes : (a : Act) (c : Cells) (w : ResidentState × Service) → Firm kept r.registers.ss c (offsets_of r.records) → on_cells p r a c ≡ Ok w → Comes p kept r w.0
-  tree_comes (Done g) c w f e =
+  pub tree_comes : (a : Act) (c : Cells) (w : ResidentState × Service) → CallsFrom ip a → Firm kept r.registers.ss c (offsets_of r.records) → on_cells p r a c ≡ Ok w → Comes p kept r w.0
+  tree_comes (Done g) c w calls f e =
       let x = stack_ok r g (plainly (with_memory r g c)) w e in
       comes p kept r (with_memory r g c) NoService w x.1 (same_end (with_memory r g c) refl refl refl (at_ss g c x.0 f))
-  tree_comes (Read place next) c w f e = let x = known_ok (c place) (λ v. on_cells p r (next v) c) w e in tree_comes (next x.0) c w f x.2
-  tree_comes (Write place value next) c w f e =
+  tree_comes (Read place next) c w calls f e = let x = known_ok (c place) (λ v. on_cells p r (next v) c) w e in tree_comes (next x.0) c w (calls x.0) f x.2
+  tree_comes (Write place value next) c w calls f e =
       let x = free_ok (c place) (on_cells p r next (with_cell c place (Known value))) w e in
-      tree_comes next (with_cell c place (Known value)) w (firm_written kept r.registers.ss c (offsets_of r.records) place (Known value) x.0 f) x.1
-  tree_comes (Copy from to next) c w f e =
+      tree_comes next (with_cell c place (Known value)) w calls (firm_written kept r.registers.ss c (offsets_of r.records) place (Known value) x.0 f) x.1
+  tree_comes (Copy from to next) c w calls f e =
       let x = moved_ok (c from) (λ y. free_then (c to) (on_cells p r next (with_cell c to y))) w e in
       let y = free_ok (c to) (on_cells p r next (with_cell c to (c from))) w x in
-      tree_comes next (with_cell c to (c from)) w (firm_written kept r.registers.ss c (offsets_of r.records) to (c from) y.0 f) y.1
-  tree_comes (ReadCodeSegment next) c w f e = absurd (cc)
-  tree_comes (FarCall g segment offset) c w f e =
-      let x = stack_ok r g (far_call p r g c (far_target p segment offset)) w e in call_comes g c (far_target p segment offset) w (at_ss g c x.0 f) (far_leads p segment offset) x.1
-  tree_comes (FarReturn g dropped) c w f e =
+      tree_comes next (with_cell c to (c from)) w calls (firm_written kept r.registers.ss c (offsets_of r.records) to (c from) y.0 f) y.1
+  tree_comes (ReadCodeSegment next) c w calls f e = absurd (cc)
+  tree_comes (FarCall g segment offset) c w calls f e =
+      let x = stack_ok r g (far_call p r g c (far_target p segment offset)) w e in call_comes g c (far_target p segment offset) w calls (at_ss g c x.0 f) (far_leads p segment offset) x.1
+  tree_comes (FarReturn g dropped) c w calls f e =
       let x = stack_ok r g (far_return r g c dropped r.records) w e in return_comes g c dropped r.records w (at_ss g c x.0 f) whole.returns (λ out. out.records) x.1
-  tree_comes (FarJump g segment offset) c w f e =
+  tree_comes (FarJump g segment offset) c w calls f e =
       let x = stack_ok r g (jumped_to r g c (image_target (p.image segment) segment offset)) w e in
       jump_comes g c (image_target (p.image segment) segment offset) w (at_ss g c x.0 f) (image_leads p segment offset (p.image segment) refl) x.1
-  tree_comes (PushCodeSegment g) c w f e = let x = stack_ok r g (half_pushed r g c) w e in half_comes g c w (at_ss g c x.0 f) x.1
-  tree_comes (Interrupt g number) c w f e =
+  tree_comes (PushCodeSegment g) c w calls f e = let x = stack_ok r g (half_pushed r g c) w e in half_comes g c w (at_ss g c x.0 f) x.1
+  tree_comes (Interrupt g number) c w calls f e =
       let x = stack_ok r g (serviced r (with_memory r g c) number) w e in service_comes (with_memory r g c) number w refl refl refl (at_ss g c x.0 f) x.1
-  tree_comes DivideFault c w f e = comes p kept r (stopped r why.Divide) NoService w e (stopped_end why.Divide)
+  tree_comes DivideFault c w calls f e = comes p kept r (stopped r why.Divide) NoService w e (stopped_end why.Divide)

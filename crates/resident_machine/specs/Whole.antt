@@ -1,6 +1,6 @@
 -- What holds of each state that a run comes to, with overlays or without: where the return pairs stand, and what they lead
 -- to.
-use Rattle.std.specs.Prelude.{◌≡◌, ℕ, ◌+◌, ◌%◌, ◌<◌, Bool, true, false, IsTrue, List, [], ◌∷◌, Some}
+use Rattle.std.specs.Prelude.{◌≡◌, ℕ, ◌+◌, ◌%◌, ◌<◌, Bool, true, false, IsTrue, List, [], ◌∷◌, Some, length}
 use Rattle.std.specs.List.{AllByRecursion}
 use Rattle.cpu_8086.specs.Memory.{address, next_offset}
 use Rattle.resident_machine.specs.Cells.{Known, Kept, Paired, Cells}
@@ -46,11 +46,21 @@ pub record IsOutside (r : ResidentState) : Type 0 where
   pub cs : IsImage r.cs
   pub records : AllByRecursion (λ (x : Record). IsImage x.segment) r.records
 
+-- A return leads to code, and never to the first byte of an overlay.
+pub record IsReturn (p : Program) (x : Record) : Type 0 where
+  pub named : IsNamed p x.segment
+  pub fits : x.offset < 65536
+  pub positive : (overlay : ℕ) → x.segment ≡ Overlay overlay → 0 < x.offset
+
+-- The code of an overlay does not fill a segment.
+abbrev pub HasSmallOverlays : Program → Type 0
+HasSmallOverlays p = (overlay : ℕ) (code : List ℕ) → code_of p (Overlay overlay) ≡ Some code → length code < 65536
+
 -- CS and the return pairs lead to code. The bytes of pairs stand apart from one another and from what is kept, which stays
 -- kept. As long as the installed flag is 0, no overlay was entered.
 pub record IsWhole (p : Program) (kept : ℕ → Bool) (r : ResidentState) : Type 0 where
   pub named : IsNamed p r.cs
-  pub returns : AllByRecursion (λ (x : Record). IsNamed p x.segment) r.records
+  pub returns : AllByRecursion (IsReturn p) r.records
   pub stays : (place : ℕ) → IsTrue (kept place) → r.cells place ≡ Kept
   pub paired : ArePaired r.registers.ss r.cells (half_offsets r.half r.registers.sp (offsets_of r.records))
   pub outside : r.cells p.installed ≡ Known 0 → IsOutside r

@@ -23,7 +23,7 @@ ghost use Rattle.resident_machine.specs.Run.{Goes, Strays, IsAstray, Runs, RunsF
 ghost use Rattle.resident_machine.specs.Standing.{StandsFor};
 ghost use Rattle.resident_machine.specs.Start.{resident_start, KeepsProgram};
 ghost use Rattle.resident_machine.specs.State.{ResidentState, Running, Ended, Service};
-ghost use Rattle.resident_machine.specs.Whole.{IsNamed, IsWhole};
+ghost use Rattle.resident_machine.specs.Whole.{HasSmallOverlays, IsNamed, IsWhole};
 
 /// Without stubs each run of the resident machine that isn't astray is the plain machine's run, event by event: from a
 /// process that stands for the state, so many events lead to one that stands for the state afterwards.
@@ -46,11 +46,11 @@ pub fn run_law()
     ensures either { (p : Program) (r : ResidentState) → r.status ≡ Running → ((t : ResidentState) (service : Service) → Goes p r t service → ⊥) → (IsAstray p r → ⊥) → ⊥ }
 {}
 
-/// Whatever a run does, also with overlays, its states stay whole: CS and return pairs lead to code, the bytes of pairs stand
-/// apart from one another and from what is kept, which stays kept, and no overlay was entered while the installed flag is
-/// 0. A start is whole where its CS names code.
+/// Whatever a run does, also with overlays, its states stay whole: CS and return pairs lead to code, none to the first byte of
+/// an overlay; the bytes of pairs stand apart from one another and from what is kept, which stays kept; and no overlay was
+/// entered while the installed flag is 0. A start is whole where its CS names code.
 pub fn whole_law()
-    ensures stays { (p : Program) (kept : ℕ → Bool) (n : ℕ) (r : ResidentState) (t : ResidentState) → IsWhole p kept r → Runs p n r t → IsWhole p kept t }
+    ensures stays { (p : Program) (kept : ℕ → Bool) (n : ℕ) (r : ResidentState) (t : ResidentState) → HasSmallOverlays p → IsWhole p kept r → Runs p n r t → IsWhole p kept t }
     ensures begins { (p : Program) (kept : ℕ → Bool) (number : ℕ) (q : Process) → IsNamed p (Image number) → IsWhole p kept (resident_start kept (Image number) q) }
 {}
 
