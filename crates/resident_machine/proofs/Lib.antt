@@ -1,0 +1,13 @@
+pub mod CellLaws
+pub mod HoldLaws
+pub mod DosLaws
+pub mod TreeLaws
+pub mod NearLaws
+pub mod RunLaws
+pub mod StartLaws
+pub mod ExampleRun
+pub mod AstrayLaws
+pub mod FirmLaws
+pub mod WholeLaws
+pub mod WholeRuns
+pub mod CallLaws

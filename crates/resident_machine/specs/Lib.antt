@@ -1,0 +1,12 @@
+pub mod Program
+pub mod Astray
+pub mod Cells
+pub mod State
+pub mod Dos
+pub mod Effect
+pub mod Framed
+pub mod Run
+pub mod Standing
+pub mod Start
+pub mod Example
+pub mod Whole
