@@ -1,21 +1,21 @@
 -- The routine by hand that negates a LongInt does as the runtime promises.
-use Rattle.std.proofs.Common.{◌≡◌, ℕ, suc, ◌+◌, ◌-◌, ◌*◌, ◌/◌, ◌%◌, ◌≤◌, ◌<◌, ◌⊎◌, inl, inr, List, [], ◌∷◌, Option, Ok, ℤ, pos, negsuc, refl, sym, ap, subst, ◌∙◌, arith}
-use Rattle.std.specs.Prelude.{nat_lt, if◌then◌else◌, Bool, true, false}
+use Rattle.std.proofs.Common.{◌≡◌, ℕ, ◌+◌, ◌-◌, ◌*◌, ◌/◌, ◌%◌, ◌≤◌, ◌<◌, ◌⊎◌, inl, inr, List, [], ◌∷◌, Option, Ok, pos, negsuc, refl, sym, ap, subst, ◌∙◌, arith}
+use Rattle.std.specs.Prelude.{nat_lt}
 use Rattle.std.proofs.lemmas.Bool.Decides.{nat_tests}
 use Rattle.integers.specs.Words.{w16, w32, wrapping_sub, low_byte, high_byte}
 use Rattle.flat_code.specs.declared.tree.Address.TheVariants.{Local}
 use Rattle.flat_code.specs.declared.tree.FlatOp.TheVariants as op
 use Rattle.flat_code.specs.declared.tree.FlatResult.{FlatResult}
 use Rattle.flat_code.specs.declared.memory.Cell.TheVariants.{Unset, Outside}
-use Rattle.flat_code.specs.Tree.{Number, Word, Op, StoreWord, End, Do}
+use Rattle.flat_code.specs.Tree.{Number, Word, Op, End}
 use Rattle.flat_code.specs.Memory.{Cells, pushed}
 use Rattle.flat_code.specs.Program.{FlatProgram, Choice, strings_unit, runtime_key}
-use Rattle.flat_code.specs.Meaning.{Frame, State, with_cells, begun, truth, value_of, stack_top, frame_of, opened, closed, result_bytes, give, called, run, number_bytes}
+use Rattle.flat_code.specs.Meaning.{Frame, State, with_cells, begun, truth, value_of, frame_of, opened, closed, result_bytes, give, called, run, number_bytes}
 use Rattle.flat_code.specs.Legal.{StackFits}
-use Rattle.flat_code.specs.Gives.{with_turns, AreWords, KeepsRest, HasStack, Ends, Computes}
+use Rattle.flat_code.specs.Gives.{with_turns, KeepsRest, HasStack, Ends, Computes}
 use Rattle.flat_code.specs.Runtime.{long_word, negation_of, negation_routine, HoldsExample, IsRuntime}
 use Rattle.flat_code.proofs.Nodes.{run-end}
-use Rattle.flat_code.proofs.Bodies.{ComesTo, next-comes, Stands, inside, call-comes}
+use Rattle.flat_code.proofs.Bodies.{ComesTo, next-comes, inside, call-comes}
 use Rattle.flat_code.proofs.Stack.{HasWord, with_word, word-written, word-kept, word-other, words-read, offset-above, offset-below, LiesAt, byte-lies, local-word, op-value, local-stored, word-step, first-argument, word-above, local-unset, not_below, opened-keeps, closed-keeps}
 
 -- ---- the numbers
@@ -154,7 +154,7 @@ module _ (program : FlatProgram) (choice : Choice) (fits : StackFits program cho
       let here = word-other m (16 * seg + (f.sp - 14)) (low_of low) (16 * seg + (f.sp - 12)) (λ e. omega (arith, e)) (λ e. omega (arith, e)) in
       let next = word-other m (16 * seg + (f.sp - 14)) (low_of low) (16 * seg + (f.sp - 12) + 1) (λ e. omega (arith, e)) (λ e. omega (arith, e)) in
       let stored_too = local-stored choice own n (negsuc 1) (f.sp - 12) (high_of low high) second-lies
-        (λ out. unset s.cells (16 * seg + (f.sp - 12)) (omega arith) (omega arith) (sym here ∙ out)) (λ out. unset s.cells (16 * seg + (f.sp - 12) + 1) (omega arith) (omega arith) (sym next ∙ out)) in
+      (λ out. unset s.cells (16 * seg + (f.sp - 12)) (omega arith) (omega arith) (sym here ∙ out)) (λ out. unset s.cells (16 * seg + (f.sp - 12) + 1) (omega arith) (omega arith) (sym next ∙ out)) in
       let s1 = with_cells (begun 4 (inside choice negation_routine args f s)) n in
       word-step program choice (Local (negsuc 3)) (Op op.Sub (Number 0) (Word (Local (pos 8)))) _ own (inside choice negation_routine args f s) (low_of low) n first stored
       ∙ word-step program choice (Local (negsuc 1)) (Op op.Sub (Op op.Sub (Number 0) (Word (Local (pos 6)))) (Op op.Below (Number 0) (Word (Local (pos 8))))) End own s1 (high_of low high) (last_cells s.cells) second stored_too

@@ -1,5 +1,5 @@
 -- Words on the stack: the arguments and locals of an activation, as its statements read and write them.
-use Rattle.std.proofs.Common.{◌≡◌, ℕ, suc, ◌+◌, ◌-◌, ◌*◌, ◌%◌, ◌≤◌, ◌<◌, ◌⊎◌, inl, inr, List, [], ◌∷◌, length, Ok, ℤ, pos, negsuc, refl, sym, ap, ◌∙◌, arith}
+use Rattle.std.proofs.Common.{◌≡◌, ℕ, ◌+◌, ◌-◌, ◌*◌, ◌%◌, ◌≤◌, ◌<◌, ◌⊎◌, inl, inr, List, [], ◌∷◌, length, Ok, ℤ, pos, negsuc, refl, sym, ap, ◌∙◌, arith}
 use Rattle.std.proofs.lemmas.Bool.Decides.{nat_tests}
 use Rattle.integers.specs.Words.{w16, word_of, wrapping_add, low_byte, high_byte, word_from_bytes}
 use Rattle.flat_code.specs.declared.tree.Address.{Address}
@@ -11,7 +11,7 @@ use Rattle.flat_code.specs.declared.memory.Place.{Place}
 use Rattle.flat_code.specs.Tree.{Expr, expr_size, Word, Op, StoreWord, Code, Do}
 use Rattle.flat_code.specs.Memory.{Cells, Found, ◌>>=◌, address_of, byte_in, byte_at, word_at, bytes_at, put, if_inside, write, store_bytes, word_bytes, region, pushed}
 use Rattle.flat_code.specs.Program.{Routine, FlatProgram, Choice}
-use Rattle.flat_code.specs.Meaning.{Frame, State, Outcome, and_then, with_found, set_cells, with_cells, begun, stored, stored_at, stack_place, value_of, op_of, activation_bytes, opened, closed, run}
+use Rattle.flat_code.specs.Meaning.{Frame, State, and_then, with_found, set_cells, with_cells, begun, stored, stored_at, stack_place, value_of, op_of, activation_bytes, opened, closed, run}
 use Rattle.flat_code.specs.Gives.{IsBelow}
 use Rattle.flat_code.proofs.Nodes.{run-step}
 use Rattle.flat_code.proofs.Shut.{put_other, region_below, region_above, region_in, pushed_below, pushed_above}

@@ -1,5 +1,5 @@
 -- The weight of a list is the sum of the weights of its statements.
-use Rattle.std.proofs.Common.{◌≡◌, ℕ, suc, ◌+◌, ◌<◌, List, ◌∷◌, length, get_or, drop, refl, sym, ap, ◌∙◌, arith}
+use Rattle.std.proofs.Common.{◌≡◌, ℕ, suc, ◌+◌, ◌<◌, List, ◌∷◌, length, get_or, drop, sym, ap, ◌∙◌, arith}
 use Rattle.std.proofs.Math.Seq.{drop-cons}
 use Rattle.flat_code.specs.declared.tree.FlatStmt.{FlatStmt}
 use Rattle.flat_code.specs.Tree.{Code, End, Do, If, Loop, ◌then◌}

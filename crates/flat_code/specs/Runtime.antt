@@ -1,11 +1,11 @@
 -- What the lowering may rely on in the runtime: a promise for each routine.
-use Rattle.std.specs.Prelude.{◌≡◌, ℕ, ◌+◌, ◌*◌, List, [], ◌∷◌, Result, Ok, ℤ, pos, negsuc, Some, true, false}
+use Rattle.std.specs.Prelude.{◌≡◌, ℕ, ◌+◌, ◌*◌, List, [], ◌∷◌, Result, Ok, pos, negsuc, Some, true, false}
 use Rattle.std.specs.Prelude.{slice_get}
 use Rattle.integers.specs.Words.{w32, wrapping_sub}
 use Rattle.flat_code.specs.declared.tree.Address.TheVariants.{Local}
 use Rattle.flat_code.specs.declared.tree.FlatOp.TheVariants as op
 use Rattle.flat_code.specs.Tree.{Number, Word, Op, StoreWord, End, Do}
-use Rattle.flat_code.specs.Program.{Key, Routine, UnitCode, FlatProgram, Choice, strings_unit, runtime_key}
+use Rattle.flat_code.specs.Program.{Routine, UnitCode, FlatProgram, Choice, strings_unit, runtime_key}
 use Rattle.flat_code.specs.Meaning.{number_bytes}
 use Rattle.flat_code.specs.Gives.{Computes}
 
@@ -40,9 +40,9 @@ negation_routine = record {
   frame = 0;
   result = Some (record { at = Local (negsuc 3); bytes = 4 });
   body =
-    Do (StoreWord (Local (negsuc 3)) (Op op.Sub (Number 0) (Word (Local (pos 8)))))
-    (Do (StoreWord (Local (negsuc 1)) (Op op.Sub (Op op.Sub (Number 0) (Word (Local (pos 6)))) (Op op.Below (Number 0) (Word (Local (pos 8))))))
-    End);
+      Do (StoreWord (Local (negsuc 3)) (Op op.Sub (Number 0) (Word (Local (pos 8)))))
+      (Do (StoreWord (Local (negsuc 1)) (Op op.Sub (Op op.Sub (Number 0) (Word (Local (pos 6)))) (Op op.Below (Number 0) (Word (Local (pos 8))))))
+      End);
 }
 
 -- a program whose unit of strings begins with that routine and is not overlaid

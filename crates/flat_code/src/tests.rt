@@ -42,7 +42,10 @@ fn negation(alloc: Global) -> Result<FlatRoutine, Fail> {
     let low = op(alloc, FlatOp::Sub, FlatExpr::Number(0), word(8))?;
     let high = op(alloc, FlatOp::Sub, FlatExpr::Number(0), word(6))?;
     let borrow = op(alloc, FlatOp::Below, FlatExpr::Number(0), word(8))?;
-    let body = vec![in alloc; set(-4, low), set(-2, op(alloc, FlatOp::Sub, high, borrow)?)]?;
+    let body = vec![in alloc;
+        set(-4, low),
+        set(-2, op(alloc, FlatOp::Sub, high, borrow)?),
+    ]?;
     let at = Address::Local(-4);
     Ok(FlatRoutine {
         name: Name::new(b"R").ok_or("a name")?,

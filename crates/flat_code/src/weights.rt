@@ -105,9 +105,9 @@ fn weight_of_stmt(stmt: &FlatStmt) -> u64
         }
         FlatStmt::Copy { to, from, .. } => 14 + weight_of_address(*to) + weight_of_address(*from),
         FlatStmt::If { test, yes, no } => {
-            let branches = weight_of_list(yes.as_slice()).saturating_add(
-                weight_of_list(no.as_slice()),
-            );
+            let branches = weight_of_list(yes.as_slice()).saturating_add(weight_of_list(
+                no.as_slice(),
+            ));
             weight_of_expr(test)
                 .saturating_add(branches)
                 .saturating_add(10)
