@@ -1,5 +1,5 @@
 -- What the interpreter's answers say of turns and of a loop's rounds.
-use Rattle.std.proofs.Common.{◌≡◌, ℕ, zero, suc, ◌≤◌, sym, ap, subst, ◌∙◌}
+use Rattle.std.proofs.Common.{◌≡◌, ℕ, ◌≤◌, sym, ap, subst, ◌∙◌}
 use Rattle.behaviour.specs.Seen.{Going}
 use Rattle.flat_run.specs.declared.state.Flow.{Flow}
 use Rattle.flat_run.specs.declared.state.Flow.TheVariants as flow
@@ -7,7 +7,7 @@ use Rattle.flat_run.specs.declared.state.Stop.{Stop}
 use Rattle.flat_run.specs.declared.state.Stop.TheVariants as stops
 use Rattle.flat_code.specs.Tree.{Code, End, Loop}
 use Rattle.flat_code.specs.Program.{FlatProgram, Choice}
-use Rattle.flat_code.specs.Meaning.{Frame, State, Outcome, Over, spend, begun, looped, run}
+use Rattle.flat_code.specs.Meaning.{Frame, State, Outcome, Over, begun, looped, run}
 use Rattle.flat_run.specs.Running.{outcome_of, forget, Stops}
 use Rattle.flat_code.proofs.After.{After, after_run}
 use Rattle.flat_code.proofs.More.{Falls, falls}

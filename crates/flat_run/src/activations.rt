@@ -13,9 +13,8 @@ use crate::context::Interpreter;
 use crate::program::{Callee, routine_of, runtime_callee, unit_of};
 use crate::state::{Flow, Run, Stop};
 use crate::statements::{around, then_next};
-use flat_code::{Address, FlatExpr, FlatResult, FlatStmt};
-use flat_code::{FlatRoutine, FlatUnit};
 use crate::value::{Activation, value_of};
+use flat_code::{Address, FlatExpr, FlatResult, FlatRoutine, FlatStmt, FlatUnit};
 use type_layout::RoutineId;
 
 impl Interpreter<'_> {

@@ -36,13 +36,11 @@ ghost use Rattle.flat_run.specs.Views.{view_frame, view_callee};
 ghost use Rattle.flat_run.specs.Running.{view_program, view_choice, view_run, Passes, Leads, Admits};
 
 use crate::context::Interpreter;
-use flat_code::{Cell, Place, Trap};
 use crate::program::{Callee, callee_of};
 use crate::state::{Run, Stop};
 use crate::statements::word_bytes;
-use flat_code::{Address, FlatExpr, FlatResult};
-use flat_code::{FlatRoutine, FlatUnit};
 use crate::value::{Activation, STACK_SEGMENT, named, place_of, value_of};
+use flat_code::{Address, Cell, FlatExpr, FlatResult, FlatRoutine, FlatUnit, Place, Trap};
 use std::alloc::AllocError;
 use type_layout::RoutineId;
 

@@ -9,8 +9,7 @@ ghost use Rattle.flat_code.specs.Program.{Routine, runtime_key};
 ghost use Rattle.flat_code.specs.Plain.{view_unit, view_routine, view_datum, view_vmt, name_at, data_size, vmts_size, unit_size, units_size, datum_from, vmt_from, datum_of, vmt_of, even, vmt_size, far_of, far_if, unit_from, key_if, callee_of, choice_of};
 ghost use Rattle.flat_run.specs.Views.{view_callee};
 
-use flat_code::Place;
-use flat_code::{FlatDatum, FlatRoutine, FlatUnit, FlatVmt};
+use flat_code::{FlatDatum, FlatRoutine, FlatUnit, FlatVmt, Place};
 
 /// What a unit is called that stands at a place of the list: the first three are the runtime's.
 pub fn name_at(at: usize, unit: &FlatUnit) -> &[u8]

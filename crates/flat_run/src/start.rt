@@ -29,12 +29,11 @@ ghost use Rattle.flat_run.specs.Running.{view_program, view_choice, view_run, vi
 
 use crate::context::Interpreter;
 use crate::memory::Memory;
-use flat_code::{Cell, Place};
 use crate::program::{Callee, datum_of, far_of, name_at, unit_of, vmt_of};
 use crate::state::{MeanEnd, Run, Stop};
 use crate::statements::{far_bytes, word_bytes};
-use flat_code::{FlatDatum, FlatUnit, FlatVmt};
 use crate::value::{Activation, DATA_SEGMENT, HEAP_SEGMENT, named};
+use flat_code::{Cell, FlatDatum, FlatUnit, FlatVmt, Place};
 use std::alloc::{AllocError, Global};
 use type_layout::{Bytes, Name, RoutineId};
 

@@ -7,8 +7,7 @@ ghost use Rattle.flat_code.specs.View.{view_expr, view_exprs};
 ghost use Rattle.flat_run.specs.Running.{view_run, view_end, forget, Stops};
 
 use crate::memory::Memory;
-use flat_code::Trap;
-use flat_code::FlatExpr;
+use flat_code::{FlatExpr, Trap};
 use std::alloc::{AllocError, AllocFailed, Global};
 
 /// How a run stands.

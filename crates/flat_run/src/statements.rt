@@ -9,10 +9,9 @@ ghost use Rattle.flat_run.specs.Views.{view_frame};
 ghost use Rattle.flat_run.specs.Running.{view_program, view_choice, view_run, outcome_of, around_of, Flows, Passes};
 
 use crate::context::Interpreter;
-use flat_code::Place;
 use crate::state::{Flow, Run, Stop};
-use flat_code::{Address, FlatExpr};
 use crate::value::{Activation, place_of, routine_pointer, value_of};
+use flat_code::{Address, FlatExpr, Place};
 use integers::{high_byte, low_byte};
 use type_layout::RoutineId;
 

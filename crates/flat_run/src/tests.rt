@@ -1,5 +1,8 @@
 use crate::*;
-use flat_code::{Address, Cell, FlatExpr, FlatExprs, FlatList, FlatOp, FlatResult, FlatRoutine, FlatStmt, FlatUnit, Place, Trap};
+use flat_code::{
+    Address, Cell, FlatExpr, FlatExprs, FlatList, FlatOp, FlatResult, FlatRoutine, FlatStmt,
+    FlatUnit, Place, Trap,
+};
 use std::alloc::Global;
 use std::process::Abort;
 use std::test::Fail;

@@ -11,10 +11,8 @@ ghost use Rattle.flat_code.specs.Plain.{view_unit, units_size, choice_of};
 ghost use Rattle.flat_run.specs.Views.{view_frame};
 
 use crate::memory::Memory;
-use flat_code::{Place, Trap};
 use crate::program::{datum_of, far_of, vmt_of};
-use flat_code::{Address, FlatExpr, FlatOp};
-use flat_code::FlatUnit;
+use flat_code::{Address, FlatExpr, FlatOp, FlatUnit, Place, Trap};
 use integers::{
     high_product, is_signed_less, shifted_left, shifted_right, signed_quotient, signed_remainder,
 };
