@@ -13,7 +13,7 @@ use Rattle.flat_code.specs.Program.{FlatProgram, Choice, strings_unit, runtime_k
 use Rattle.flat_code.specs.Meaning.{Frame, State, with_cells, begun, truth, value_of, frame_of, opened, closed, result_bytes, give, called, run, number_bytes}
 use Rattle.flat_code.specs.Legal.{StackFits}
 use Rattle.flat_code.specs.Gives.{with_turns, KeepsRest, HasStack, Ends, Computes}
-use Rattle.flat_code.specs.Runtime.{long_word, negation_of, negation_routine, HoldsExample, IsRuntime}
+use Rattle.flat_code.specs.Runtime.{long_word, negation_of, negation_routine, negation_number, HoldsExample}
 use Rattle.flat_code.proofs.Nodes.{run-end}
 use Rattle.flat_code.proofs.Bodies.{ComesTo, next-comes, inside, call-comes}
 use Rattle.flat_code.proofs.Stack.{HasWord, with_word, word-written, word-kept, word-other, words-read, offset-above, offset-below, LiesAt, byte-lies, local-word, op-value, local-stored, word-step, first-argument, word-above, local-unset, not_below, opened-keeps, closed-keeps}
@@ -196,7 +196,7 @@ module _ (program : FlatProgram) (choice : Choice) (fits : StackFits program cho
   bytes-are : negation_of args ≡ Ok bytes
   bytes-are = ap (λ n. let r : _ = Ok (number_bytes 4 n) in r) (negated low high low_word high_word) ∙ ap Ok (long-bytes (low_of low) (high_of low high) (low-small low) (high-small low high))
 
-  pub one-call : (s : State) → Ends program choice (runtime_key 512) (λ address. ⊥) (λ after bytes. (negation_of args ≡ Ok bytes) × KeepsRest s after) 0 32 args f s
+  pub one-call : (s : State) → Ends program choice (runtime_key 512) (λ address. ⊥) (λ after bytes. (negation_of args ≡ Ok bytes) × KeepsRest s after) 0 64 args f s
   one-call s = record {
     spent = 0;
     few = omega arith;
@@ -211,11 +211,8 @@ module _ (program : FlatProgram) (choice : Choice) (fits : StackFits program cho
 
 -- ---- the promise
 
-computes : (program : FlatProgram) (choice : Choice) → StackFits program choice → HoldsExample program → Computes program choice (runtime_key 512) 32 2 negation_of 0 32
+pub computes : (program : FlatProgram) (choice : Choice) → StackFits program choice → HoldsExample program → Computes program choice (runtime_key negation_number) 32 2 negation_of 0 64
 computes program choice fits holds [] f s stack words = absurd words
 computes program choice fits holds (low ∷ []) f s stack words = absurd words.1
 computes program choice fits holds (low ∷ high ∷ []) f s stack words = inl (one-call program choice fits holds low high words.0 words.1.0 f stack s)
 computes program choice fits holds (low ∷ high ∷ more ∷ args) f s stack words = absurd words.1.1
-
-pub example_runtime : (program : FlatProgram) (choice : Choice) → StackFits program choice → HoldsExample program → IsRuntime program choice
-example_runtime program choice fits holds = record { negation = computes program choice fits holds }

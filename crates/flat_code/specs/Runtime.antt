@@ -1,33 +1,75 @@
 -- What the lowering may rely on in the runtime: a promise for each routine.
-use Rattle.std.specs.Prelude.{◌≡◌, ℕ, ◌+◌, ◌*◌, List, [], ◌∷◌, Result, Ok, pos, negsuc, Some, true, false}
-use Rattle.std.specs.Prelude.{slice_get}
-use Rattle.integers.specs.Words.{w32, wrapping_sub}
+use Rattle.std.specs.Prelude.{◌≡◌, ℕ, ◌+◌, ◌*◌, ◌==◌, if◌then◌else◌, List, [], ◌∷◌, Result, Ok, Err, pos, negsuc, Some, true, false, slice_get}
+use Rattle.integers.specs.Words.{w32, wrapping_sub, wrapping_mul, signed_quotient, signed_remainder, is_signed_less}
 use Rattle.flat_code.specs.declared.tree.Address.TheVariants.{Local}
 use Rattle.flat_code.specs.declared.tree.FlatOp.TheVariants as op
 use Rattle.flat_code.specs.Tree.{Number, Word, Op, StoreWord, End, Do}
 use Rattle.flat_code.specs.Program.{Routine, UnitCode, FlatProgram, Choice, strings_unit, runtime_key}
-use Rattle.flat_code.specs.Meaning.{number_bytes}
+use Rattle.flat_code.specs.Memory.{word_bytes}
+use Rattle.flat_code.specs.Meaning.{truth, number_bytes}
 use Rattle.flat_code.specs.Gives.{Computes}
 
 -- a number of 32 bits from its two words, the lower one first
 abbrev pub long_word : ℕ → ℕ → ℕ
 long_word low high = low + 65536 * high
 
--- ---- runtime numbers, 512 and more for those of numbers, strings and sets
+-- the bytes of a LongInt
+abbrev pub long_bytes : ℕ → List ℕ
+long_bytes n = number_bytes 4 n
+
+-- ---- runtime numbers: 512 and more are those of numbers, strings and sets
 
 abbrev pub negation_number : ℕ
 negation_number = 512
 
--- ---- what the routines compute
+abbrev pub product_number : ℕ
+product_number = 513
 
--- the negative of a LongInt
+abbrev pub less_number : ℕ
+less_number = 514
+
+abbrev pub quotient_number : ℕ
+quotient_number = 515
+
+abbrev pub remainder_number : ℕ
+remainder_number = 516
+
+-- ---- what the routines compute from the words of LongInts, each the lower word first
+
+-- from one LongInt; other words never come
+abbrev pub from_one : (ℕ → Result (List ℕ) ℕ) → List ℕ → Result (List ℕ) ℕ
+from_one f (low ∷ high ∷ []) = f (long_word low high)
+from_one f words = Ok []
+
+-- from two
+abbrev pub from_two : (ℕ → ℕ → Result (List ℕ) ℕ) → List ℕ → Result (List ℕ) ℕ
+from_two f (low ∷ high ∷ other_low ∷ other_high ∷ []) = f (long_word low high) (long_word other_low other_high)
+from_two f words = Ok []
+
 abbrev pub negation_of : List ℕ → Result (List ℕ) ℕ
-negation_of (low ∷ high ∷ []) = Ok (number_bytes 4 (wrapping_sub w32 0 (long_word low high)))
-negation_of args = Ok []
+negation_of = from_one (λ x. Ok (long_bytes (wrapping_sub w32 0 x)))
 
--- what each routine of the runtime promises, in at most so much of the stack, so many turns and so much work
+abbrev pub product_of : List ℕ → Result (List ℕ) ℕ
+product_of = from_two (λ x y. Ok (long_bytes (wrapping_mul w32 x y)))
+
+-- a word that is 1 where the first is the less one, else 0
+abbrev pub less_of : List ℕ → Result (List ℕ) ℕ
+less_of = from_two (λ x y. Ok (word_bytes (truth (is_signed_less w32 x y))))
+
+-- a divisor of 0 is error 200
+abbrev pub quotient_of : List ℕ → Result (List ℕ) ℕ
+quotient_of = from_two (λ x y. if y == 0 then Err 200 else Ok (long_bytes (signed_quotient w32 x y)))
+
+abbrev pub remainder_of : List ℕ → Result (List ℕ) ℕ
+remainder_of = from_two (λ x y. if y == 0 then Err 200 else Ok (long_bytes (signed_remainder w32 x y)))
+
+-- what each routine of the runtime promises, with how much of the stack, of turns and of work it takes at most
 pub record IsRuntime (program : FlatProgram) (choice : Choice) : Type 0 where
-  pub negation : Computes program choice (runtime_key negation_number) 32 2 negation_of 0 32
+  pub negation : Computes program choice (runtime_key negation_number) 32 2 negation_of 0 64
+  pub product : Computes program choice (runtime_key product_number) 64 4 product_of 0 64
+  pub less : Computes program choice (runtime_key less_number) 64 4 less_of 0 64
+  pub quotient : Computes program choice (runtime_key quotient_number) 64 4 quotient_of 64 4096
+  pub remainder : Computes program choice (runtime_key remainder_number) 64 4 remainder_of 64 4096
 
 -- ---- a routine by hand
 

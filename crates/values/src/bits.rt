@@ -64,7 +64,10 @@ pub fn first_byte(value: i32) -> u8
 pub fn swapped(kind: IntegerType, value: i32) -> i32
     ensures { result ≡ bytes_swapped kind value }
 {
-    kept(kind, i64::from(word_from_bytes(second_byte(value), first_byte(value))))
+    kept(
+        kind,
+        i64::from(word_from_bytes(second_byte(value), first_byte(value))),
+    )
 }
 
 /// Abs in a type; the least number of Integer or LongInt wraps to itself.

@@ -2,7 +2,7 @@ use Rattle.flat_code.proofs.Whole.{flat_run-IsRun}
 use Rattle.flat_code.proofs.Nodes.{node_laws}
 use Rattle.flat_code.proofs.Shut.{run-shut}
 use Rattle.flat_code.proofs.PlainLegal.{plain_legal}
-use Rattle.flat_code.proofs.Negation.{example_runtime}
+use Rattle.flat_code.proofs.Negation.{computes}
 use Rattle.flat_code.proofs.Sums.{weight-then}
 use Rattle.flat_code.proofs.flat_laws.Goals as goal
 
@@ -19,7 +19,7 @@ pub returns-clause-plain : goal.returns-clause-plain
 returns-clause-plain c = plain_legal
 
 pub returns-clause-runtime : goal.returns-clause-runtime
-returns-clause-runtime c = example_runtime
+returns-clause-runtime c = computes
 
 pub returns-clause-weights : goal.returns-clause-weights
 returns-clause-weights c = weight-then

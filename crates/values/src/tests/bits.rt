@@ -11,7 +11,14 @@ fn operators_work_on_the_bits_of_the_type(rt: HostRuntime) {
         (IntegerType::Integer, -1, 255, 255, -1, -256),
         (IntegerType::Integer, -32768, 32767, 0, -1, -1),
         (IntegerType::Word, 65535, 32768, 32768, 65535, 32767),
-        (IntegerType::LongInt, -2147483648, 65536, 0, -2147418112, -2147418112),
+        (
+            IntegerType::LongInt,
+            -2147483648,
+            65536,
+            0,
+            -2147418112,
+            -2147418112,
+        ),
     ];
     for (kind, a, b, both, either, one) in rows {
         assert_eq!(rt; bitwise_and(kind, a, b), both);
