@@ -1,18 +1,16 @@
 -- The bits of integers.
-use Rattle.std.proofs.Common.{◌≡◌, ℕ, ◌+◌, ◌-◌, ◌*◌, ◌/◌, ◌%◌, ◌^◌, ◌<◌, ◌≤◌, refl, sym, ap, subst, ◌∙◌, arith, lit<}
-use Rattle.std.proofs.Math.IntN.{ℤ, pos, negsuc, ◌-ℤ◌, ◌*ℤ◌}
-use Rattle.std.specs.Prelude.{bit_and, bit_or, bit_xor, min, max}
+use Rattle.std.proofs.Common.{◌≡◌, ℕ, ◌+◌, ◌-◌, ◌*◌, ◌/◌, ◌%◌, ◌^◌, ◌<◌, sym, ap, ◌∙◌, arith}
+use Rattle.std.proofs.Math.IntN.{ℤ, pos, negsuc, ◌-ℤ◌}
+use Rattle.std.specs.Prelude.{bit_and, bit_or, bit_xor}
 use Rattle.std.specs.Int.{bit_at, bit_not}
-use Rattle.std.proofs.Math.Nat.{mod-eq_of_lt}
 use Rattle.std.proofs.lemmas.Int.{ints}
 use Rattle.std.proofs.lemmas.Nat.{pow_pos}
 use Rattle.std.proofs.lemmas.Nat.Bits.{bit_at_and, bit_at_or, bit_at_xor, bit_at_not, bit_at_cat_low}
-use Rattle.integers.specs.Words.{Width, w8, w16, w32, bits, IsWord, word_of, wrap, low_byte, high_byte, word_from_bytes}
+use Rattle.integers.specs.Words.{Width, bits, word_of, wrap}
 use Rattle.integers.proofs.WordLaws.{word_of-word}
 use Rattle.values.specs.declared.ordinals.IntegerType.{IntegerType}
-use Rattle.values.specs.declared.ordinals.IntegerType.TheVariants.{Word}
 use Rattle.values.specs.Ordinals.{width_of, kept}
-use Rattle.values.specs.Bits.{stored, conjunction, disjunction, exclusive_disjunction, complement, hi, lo, swapped}
+use Rattle.values.specs.Bits.{stored, complement}
 use Rattle.values.specs.BitLaws.{BitLaws, ByteLaws}
 use Rattle.values.proofs.OrdinalLemmas.{storage_laws}
 

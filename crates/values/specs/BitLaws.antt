@@ -1,5 +1,5 @@
 -- What holds of the bits of integers.
-use Rattle.std.specs.Prelude.{◌≡◌, ℕ, ◌+◌, ◌-◌, ◌*◌, ◌%◌, ◌^◌, ◌<◌, min, max, ℤ, pos, negsuc, ◌*ℤ◌, ◌-ℤ◌}
+use Rattle.std.specs.Prelude.{◌≡◌, ℕ, ◌+◌, ◌-◌, ◌*◌, ◌%◌, ◌<◌, min, max, ℤ, pos, negsuc, ◌*ℤ◌, ◌-ℤ◌}
 use Rattle.std.specs.Int.{bit_at}
 use Rattle.std.specs.Int.RustNames.{unsigned_abs}
 use Rattle.integers.specs.Words.{bits}
