@@ -1,6 +1,7 @@
 use crate::string_routines;
 use flat_code::{
-    Address, FlatExpr, FlatExprs, FlatResult, FlatRoutine, FlatStmt, FlatUnit, flat_weight_of,
+    Address, FlatExpr, FlatExprs, FlatList, FlatResult, FlatRoutine, FlatStmt, FlatUnit,
+    flat_weight_of,
 };
 use flat_run::{MeanEnd, Meaning, fits, flat_mean};
 use std::alloc::Global;
@@ -43,105 +44,104 @@ fn unit(alloc: Global, name: &[u8], routines: Vec<FlatRoutine>) -> Result<FlatUn
     })
 }
 
-// A main routine that calls a routine of the runtime and writes the bytes of its result.
-fn main_routine(
+// A routine of the runtime is called with some words, and the bytes of its result are written.
+fn call_and_write(
     alloc: Global,
+    body: &mut FlatList,
     number: u16,
     args: FlatExprs,
     bytes: u8,
-) -> Result<FlatRoutine, Fail> {
+) -> Result<(), Fail> {
     let at = Address::Local(-4);
-    let call = FlatStmt::Runtime {
+    body.push(FlatStmt::Runtime {
         number,
         args,
         result: Some(FlatResult { at, bytes }),
-    };
+    })?;
     let written = vec![in alloc;
         FlatExpr::Number(1),
         FlatExpr::SegmentOf(at),
         FlatExpr::AddressOf(at),
         FlatExpr::Number(u16::from(bytes)),
     ]?;
-    let write = FlatStmt::Runtime {
+    body.push(FlatStmt::Runtime {
         number: 0,
         args: written,
         result: None,
-    };
-    Ok(FlatRoutine {
+    })?;
+    Ok(())
+}
+
+// A program whose main routine has this body.
+fn mean(rt: &impl Abort, alloc: Global, body: FlatList) -> Result<Meaning, Fail> {
+    let main = FlatRoutine {
         name: Name::new(b"MAIN").ok_or("a name")?,
         far: true,
         arguments: 0,
         locals: 4,
         frame: 10,
         result: None,
-        body: vec![in alloc; call, write]?,
-    })
-}
-
-// What is written where a routine of the runtime gets these words.
-fn called(
-    rt: &impl Abort,
-    alloc: Global,
-    number: u16,
-    args: FlatExprs,
-    bytes: u8,
-) -> Result<Meaning, Fail> {
-    let main = main_routine(alloc, number, args, bytes)?;
+        body,
+    };
     let mut units = Vec::new(alloc);
     units.push(unit(alloc, b"TEXT", Vec::new(alloc))?)?;
     units.push(string_routines(alloc)?)?;
     units.push(unit(alloc, b"OVERLAY", Vec::new(alloc))?)?;
     units.push(unit(alloc, b"P", vec![in alloc; main]?)?)?;
     assert!(rt; fits(units.as_slice()));
-    Ok(flat_mean(alloc, units.as_slice(), &[], 1024, 0, b"", 9)?)
-}
-
-fn pair(alloc: Global, x: i32, y: i32) -> Result<FlatExprs, Fail> {
-    Ok(vec![in alloc; low(x), high(x), low(y), high(y)]?)
+    Ok(flat_mean(alloc, units.as_slice(), &[], 1024, 0, b"", 999)?)
 }
 
 #[test]
 fn negatives_wrap_in_32_bits(rt: HostRuntime) -> Result<(), Fail> {
     let alloc = rt.alloc();
+    let mut body = Vec::new(alloc);
+    let mut wanted = Vec::new(alloc);
     for x in EDGES {
         let args = vec![in alloc; low(x), high(x)]?;
-        let meaning = called(&rt, alloc, 512, args, 4)?;
-        assert_eq!(rt; meaning.end, MeanEnd::Ended(0));
-        assert_eq!(rt;
-            meaning.out.as_slice(),
-            x.wrapping_neg().to_le_bytes().as_slice()
-        );
+        call_and_write(alloc, &mut body, 512, args, 4)?;
+        wanted.extend_from_slice(&x.wrapping_neg().to_le_bytes())?;
     }
+    let meaning = mean(&rt, alloc, body)?;
+    assert_eq!(rt; meaning.end, MeanEnd::Ended(0));
+    assert_eq!(rt; meaning.out.as_slice(), wanted.as_slice());
     Ok(())
 }
 
 #[test]
 fn products_wrap_in_32_bits(rt: HostRuntime) -> Result<(), Fail> {
     let alloc = rt.alloc();
+    let mut body = Vec::new(alloc);
+    let mut wanted = Vec::new(alloc);
     for x in EDGES {
         for y in EDGES {
-            let meaning = called(&rt, alloc, 513, pair(alloc, x, y)?, 4)?;
-            assert_eq!(rt; meaning.end, MeanEnd::Ended(0));
-            assert_eq!(rt;
-                meaning.out.as_slice(),
-                x.wrapping_mul(y).to_le_bytes().as_slice()
-            );
+            let args = vec![in alloc; low(x), high(x), low(y), high(y)]?;
+            call_and_write(alloc, &mut body, 513, args, 4)?;
+            wanted.extend_from_slice(&x.wrapping_mul(y).to_le_bytes())?;
         }
     }
+    let meaning = mean(&rt, alloc, body)?;
+    assert_eq!(rt; meaning.end, MeanEnd::Ended(0));
+    assert_eq!(rt; meaning.out.as_slice(), wanted.as_slice());
     Ok(())
 }
 
 #[test]
 fn numbers_are_less_with_their_signs(rt: HostRuntime) -> Result<(), Fail> {
     let alloc = rt.alloc();
+    let mut body = Vec::new(alloc);
+    let mut wanted = Vec::new(alloc);
     for x in EDGES {
         for y in EDGES {
-            let meaning = called(&rt, alloc, 514, pair(alloc, x, y)?, 2)?;
-            let less = [u8::from(x < y), 0];
-            assert_eq!(rt; meaning.end, MeanEnd::Ended(0));
-            assert_eq!(rt; meaning.out.as_slice(), less.as_slice());
+            let args = vec![in alloc; low(x), high(x), low(y), high(y)]?;
+            call_and_write(alloc, &mut body, 514, args, 2)?;
+            wanted.push(u8::from(x < y))?;
+            wanted.push(0)?;
         }
     }
+    let meaning = mean(&rt, alloc, body)?;
+    assert_eq!(rt; meaning.end, MeanEnd::Ended(0));
+    assert_eq!(rt; meaning.out.as_slice(), wanted.as_slice());
     Ok(())
 }
 
