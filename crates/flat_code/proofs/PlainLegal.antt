@@ -185,6 +185,6 @@ module _ (units : List UnitCode) (overlaid : List Name) (stack heap : ℕ) where
         data_heap = inl (omega (arith, places.small));
         stack_heap = inl (omega (arith, top));
         data_end = omega (arith, places.small);
-        stack_end = omega (arith, top);
+        stack_fits = record { small = top; inside = omega (arith, top) };
         heap_end = omega (arith, small);
       }

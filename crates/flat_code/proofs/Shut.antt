@@ -20,7 +20,7 @@ use Rattle.flat_code.specs.Laws.{IsShutIn, StaysShut}
 
 -- ---- writing
 
-put_other : (m : Cells) (a : ℕ) (c : Cell) (x : ℕ) → (x ≡ a → ⊥) → put m a c x ≡ m x
+pub put_other : (m : Cells) (a : ℕ) (c : Cell) (x : ℕ) → (x ≡ a → ⊥) → put m a c x ≡ m x
 put_other m a c x h = grind (arith, nat_tests)
 
 bind-ok : {A B : Type 0} (x : Found A) (f : A → Found B) (b : B) → (x >>= f) ≡ Ok b → (a : A) × (x ≡ Ok a) × (f a ≡ Ok b)
@@ -66,16 +66,16 @@ copy-shut m m' to from i (suc n) e = λ x h.
 
 -- ---- the stack
 
-region_in : (m : Cells) (segment low n : ℕ) (c : Cell) (x : ℕ) → 16 * segment + low ≤ x → x < 16 * segment + low + n → region m segment low n c x ≡ c
+pub region_in : (m : Cells) (segment low n : ℕ) (c : Cell) (x : ℕ) → 16 * segment + low ≤ x → x < 16 * segment + low + n → region m segment low n c x ≡ c
 region_in m segment low n c x p q = grind (arith, nat_tests)
 
-region_below : (m : Cells) (segment low n : ℕ) (c : Cell) (x : ℕ) → x < 16 * segment + low → region m segment low n c x ≡ m x
+pub region_below : (m : Cells) (segment low n : ℕ) (c : Cell) (x : ℕ) → x < 16 * segment + low → region m segment low n c x ≡ m x
 region_below m segment low n c x p = grind (arith, nat_tests)
 
-region_above : (m : Cells) (segment low n : ℕ) (c : Cell) (x : ℕ) → 16 * segment + low + n ≤ x → region m segment low n c x ≡ m x
+pub region_above : (m : Cells) (segment low n : ℕ) (c : Cell) (x : ℕ) → 16 * segment + low + n ≤ x → region m segment low n c x ≡ m x
 region_above m segment low n c x p = grind (arith, nat_tests)
 
-pushed_below : (m : Cells) (segment sp : ℕ) (args : List ℕ) (x : ℕ) → 2 * length args ≤ sp → x < 16 * segment + (sp - 2 * length args) → pushed m segment sp args x ≡ m x
+pub pushed_below : (m : Cells) (segment sp : ℕ) (args : List ℕ) (x : ℕ) → 2 * length args ≤ sp → x < 16 * segment + (sp - 2 * length args) → pushed m segment sp args x ≡ m x
 pushed_below m segment sp [] x p q = refl
 pushed_below m segment sp (v ∷ vs) x p q =
     let n = put m (16 * segment + (sp - 2)) (Known (low_byte v)) in
@@ -85,7 +85,7 @@ pushed_below m segment sp (v ∷ vs) x p q =
     ∙ put_other n (16 * segment + (sp - 1)) (Known (high_byte v)) x ne
     ∙ put_other m (16 * segment + (sp - 2)) (Known (low_byte v)) x ne'
 
-pushed_above : (m : Cells) (segment sp : ℕ) (args : List ℕ) (x : ℕ) → 2 * length args ≤ sp → 16 * segment + sp ≤ x → pushed m segment sp args x ≡ m x
+pub pushed_above : (m : Cells) (segment sp : ℕ) (args : List ℕ) (x : ℕ) → 2 * length args ≤ sp → 16 * segment + sp ≤ x → pushed m segment sp args x ≡ m x
 pushed_above m segment sp [] x p q = refl
 pushed_above m segment sp (v ∷ vs) x p q =
     let n = put m (16 * segment + (sp - 2)) (Known (low_byte v)) in

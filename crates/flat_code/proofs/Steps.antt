@@ -1,32 +1,14 @@
--- Steps of the interpreter over lists, tests, loops and calls.
-use Rattle.std.proofs.Common.{◌≡◌, ℕ, zero, suc, ◌+◌, ◌≤◌, ◌<◌, List, ◌∷◌, length, get_or, drop, Option, Some, slice_get, refl, sym, ap, subst, ◌∙◌, arith}
+-- Single steps of lists, tests, loops and calls.
+use Rattle.std.proofs.Common.{◌≡◌, ℕ, zero, suc, ◌+◌, ◌≤◌, ◌<◌, List, ◌∷◌, length, get_or, drop, Option, Some, slice_get, refl, sym, ap, ◌∙◌, arith}
 use Rattle.std.proofs.Math.Seq.{drop-cons}
-use Rattle.behaviour.specs.Seen.{Going}
 use Rattle.flat_code.specs.declared.tree.FlatStmt.{FlatStmt}
 use Rattle.flat_code.specs.declared.tree.FlatResult.{FlatResult}
-use Rattle.flat_code.specs.declared.state.Flow.{Flow}
-use Rattle.flat_code.specs.declared.state.Flow.TheVariants as flow
-use Rattle.flat_code.specs.declared.state.Stop.{Stop}
-use Rattle.flat_code.specs.declared.state.Stop.TheVariants as stops
 use Rattle.flat_code.specs.Tree.{Expr, expr_size, Code, End, If, Loop}
 use Rattle.flat_code.specs.View.{view_stmt, view_list}
 use Rattle.flat_code.specs.Program.{Key, Routine, UnitCode, FlatProgram, Choice, runtime_key}
-use Rattle.flat_code.specs.Meaning.{Frame, State, Outcome, Over, and_then, spend, with_found, begun, looped, chosen, value_of, Does, with_some, entered, entered_at, called, runtime_of, run}
-use Rattle.flat_code.specs.Running.{outcome_of, forget, Stops}
-use Rattle.flat_code.proofs.After.{After, after_run}
-use Rattle.flat_code.proofs.More.{Falls, falls}
+use Rattle.flat_code.specs.Meaning.{Frame, State, Outcome, and_then, spend, with_found, begun, looped, chosen, value_of, Does, with_some, entered, entered_at, called, runtime_of, run}
 use Rattle.flat_code.proofs.Nodes.{and_then-next, run-test, run-loop, run-then}
-use Rattle.flat_code.proofs.Turns.{spend-none}
 use Rattle.flat_code.proofs.Rows.{view_stmt-then}
-
--- turns never grow
-falls-outcome : (turns : ℕ) (s t : State) (flow : Flow) → After Falls s (outcome_of flow t) → t.turns ≤ s.turns
-falls-outcome turns s t flow.Next p = p
-falls-outcome turns s t (flow.Left loops) p = p
-falls-outcome turns s t flow.Returned p = p
-
-pub falls-flow : (program : FlatProgram) (choice : Choice) (code : Code) (f : Frame) (s t : State) (flow : Flow) → run program choice code f s ≡ outcome_of flow t → t.turns ≤ s.turns
-falls-flow program choice code f s t flow e = falls-outcome 0 s t flow (subst (After Falls s) e (after_run falls program choice code f s))
 
 -- ---- lists
 
@@ -56,17 +38,10 @@ chosen-other (suc v) x y h = refl
 
 -- ---- loops
 
-loop-alone : (program : FlatProgram) (choice : Choice) (body : Code) (f : Frame) (s s1 : State) → s1 ≡ begun 1 s → run program choice (Loop body End) f s ≡ spend s1 (λ s. looped (run program choice body f (begun 1 s)) (run program choice (Loop body End) f))
+pub loop-alone : (program : FlatProgram) (choice : Choice) (body : Code) (f : Frame) (s s1 : State) → s1 ≡ begun 1 s → run program choice (Loop body End) f s ≡ spend s1 (λ s. looped (run program choice body f (begun 1 s)) (run program choice (Loop body End) f))
 loop-alone program choice body f s s1 e =
     let go : State → Outcome = λ s. looped (run program choice body f (begun 1 s)) (run program choice (Loop body End) f) in
     run-loop program choice body End f s ∙ and_then-next program choice f (spend (begun 1 s) go) ∙ ap (λ t. spend t go) (sym e)
-
--- no turn is left for a run of the body
-pub round-none : (program : FlatProgram) (choice : Choice) (body : Code) (f : Frame) (s s1 u : State) (stop : Stop) → s1 ≡ begun 1 s → stop ≡ stops.Going → s1.turns ≡ 0 → u ≡ s1 → Stops stop u (run program choice (Loop body End) f s)
-round-none program choice body f s s1 u stop e g none same =
-    let go : State → Outcome = λ s. looped (run program choice body f (begun 1 s)) (run program choice (Loop body End) f) in
-    let whole : run program choice (Loop body End) f s ≡ Over Going u = loop-alone program choice body f s s1 e ∙ spend-none s1 go none ∙ ap (Over Going) (sym same) in
-    subst (λ (x : Stop). Stops x u (run program choice (Loop body End) f s)) (sym g) (ap forget whole)
 
 -- a run of the body
 pub round-some : (program : FlatProgram) (choice : Choice) (body : Code) (f : Frame) (s s1 s2 s3 : State) → s1 ≡ begun 1 s → s1 ≡ record s2 { turns = suc s2.turns } → s3 ≡ begun 1 s2 → run program choice (Loop body End) f s ≡ looped (run program choice body f s3) (run program choice (Loop body End) f)

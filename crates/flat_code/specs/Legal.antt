@@ -93,6 +93,11 @@ TakesData program choice (ToVmt key) offset size =
 abbrev pub IsApart : ℕ → ℕ → ℕ → ℕ → Type 0
 IsApart a m b n = (a + m ≤ b) ⊎ (b + n ≤ a)
 
+-- the stack fits a segment, and ends with memory or before
+pub record StackFits (program : FlatProgram) (choice : Choice) : Type 0 where
+  pub small : stack_top program ≤ 65520
+  pub inside : 16 * choice.stack_segment + stack_top program ≤ 1048576
+
 -- what is reached has its place and nothing else has one; the places keep apart inside their segments, and the segments' bytes from each other
 pub record IsLegal (program : FlatProgram) (choice : Choice) (R : Mention → Type 0) : Type 0 where
   pub datum : (key : Key) → IsSome (choice.datum key) ↔ R (ToDatum key)
@@ -111,7 +116,7 @@ pub record IsLegal (program : FlatProgram) (choice : Choice) (R : Mention → Ty
   pub data_heap : IsApart (16 * choice.data_segment) data_bytes (16 * choice.heap_segment) program.heap
   pub stack_heap : IsApart (16 * choice.stack_segment) (stack_top program) (16 * choice.heap_segment) program.heap
   pub data_end : 16 * choice.data_segment + data_bytes ≤ 1048576
-  pub stack_end : 16 * choice.stack_segment + stack_top program ≤ 1048576
+  pub stack_fits : StackFits program choice
   pub heap_end : 16 * choice.heap_segment + program.heap ≤ 1048576
 
 -- ---- well-formed programs

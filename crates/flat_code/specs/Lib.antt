@@ -2,9 +2,12 @@ pub mod Tree
 pub mod View
 pub mod Memory
 pub mod Program
+pub mod Values
+pub mod Calls
 pub mod Meaning
 pub mod Legal
 pub mod Laws
 pub mod Plain
-pub mod Running
 pub mod Gives
+pub mod Runtime
+pub mod Weights

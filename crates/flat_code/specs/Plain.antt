@@ -9,9 +9,6 @@ use Rattle.flat_code.specs.declared.unit.FlatDatum.{FlatDatum}
 use Rattle.flat_code.specs.declared.unit.FlatVmt.{FlatVmt}
 use Rattle.flat_code.specs.declared.unit.FlatUnit.{FlatUnit}
 use Rattle.flat_code.specs.declared.memory.Place.{Place}
-use Rattle.flat_code.specs.declared.program.Callee.{Callee}
-use Rattle.flat_code.specs.declared.value.Activation.{Activation}
-use Rattle.flat_code.specs.Meaning.{Frame}
 use Rattle.flat_code.specs.View.{view_list}
 use Rattle.flat_code.specs.Program.{Name, Key, Routine, Datum, Vmt, UnitCode, FlatProgram, Choice, text_unit, strings_unit, overlay_unit}
 
@@ -151,9 +148,6 @@ choice_of units = record {
   callee = λ p. if nat_le 61440 p.segment then callee_of 0 units (p.segment - 61440) p.offset else None;
 }
 
-abbrev pub view_callee : Callee → Key
-view_callee callee = record { unit = callee.name.now; number = callee.number }
-
 -- no later unit has the name of an earlier one
 abbrev pub IsDifferent : ℕ → List UnitCode → Type 0
 IsDifferent at [] = Unit {0}
@@ -165,9 +159,3 @@ pub record HasPlaces (units : List UnitCode) : Type 0 where
   pub different : IsDifferent 0 units
   pub small : units_size units ≤ 65520
   pub numbered : (name : Name) (unit : UnitCode) → unit_from 0 units name ≡ Some unit → length unit.routines ≤ 65536
-
--- ---- frames
-
--- an activation as the interpreter keeps it
-abbrev pub view_frame : Activation → Frame
-view_frame f = record { unit = f.name.now; names = f.names.now; bp = f.bp; link = f.link; sp = f.sp; sum = f.sum }

@@ -1,42 +1,21 @@
 use crate::*;
 use std::alloc::Global;
-use std::process::Abort;
 use std::test::Fail;
-use type_layout::{Name, RoutineId, Sequence};
-
-const AT: Place = Place {
-    segment: 0x2000,
-    offset: 0xffff,
-};
+use type_layout::{Name, Sequence};
 
 #[test]
-fn unset_and_outside_are_told_apart(rt: HostRuntime) -> Result<(), Fail> {
-    let mut memory = Memory::new(rt.alloc())?;
-    assert_eq!(rt; memory.byte(AT, 0), Err(Trap::Bad(2)));
-    memory.fill(0x2000, 0xffff, 1, Cell::Unset);
-    assert_eq!(rt; memory.byte(AT, 0), Err(Trap::Bad(1)));
-    memory.fill(0x2000, 0, 1, Cell::Known(7));
-    assert_eq!(rt; memory.byte(AT, 1), Ok(7));
-    assert_eq!(rt; memory.word(AT), Err(Trap::Bad(1)));
-    Ok(())
-}
-
-#[test]
-fn copies_run_forwards_and_keep_unset_bytes(rt: HostRuntime) -> Result<(), Fail> {
-    let mut memory = Memory::new(rt.alloc())?;
-    let from = Place {
-        segment: 0x3000,
-        offset: 16,
-    };
-    memory.fill(0x3000, 16, 8, Cell::Unset);
-    assert_eq!(rt; memory.store(from, 0, &[5, 6]), Ok(()));
-    assert_eq!(rt; memory.copy(from.after(1), from, 3), Ok(()));
-    assert_eq!(rt; memory.byte(from, 1), Ok(5));
-    assert_eq!(rt; memory.byte(from, 3), Ok(5));
-    assert_eq!(rt; memory.byte(from, 4), Err(Trap::Bad(1)));
-    assert_eq!(rt; memory.copy(from.after(5), from.after(4), 1), Ok(()));
-    assert_eq!(rt; memory.copy(from.after(8), from, 1), Err(Trap::Bad(2)));
-    Ok(())
+fn offsets_wrap_inside_the_segment(rt: HostRuntime) {
+    let rows: [(u16, u16, u16, usize); 4] = [
+        (0x2000, 0x10, 2, 0x2_0012),
+        (0x2000, 0xffff, 1, 0x2_0000),
+        (0xffff, 0x10, 0, 0),
+        (0xffff, 0xf, 0, 0xf_ffff),
+    ];
+    for (segment, offset, i, address) in rows {
+        let place = Place { segment, offset };
+        assert_eq!(rt; place.address(i), address);
+        assert_eq!(rt; place.after(i).address(0), address);
+    }
 }
 
 fn op(alloc: Global, op: FlatOp, a: FlatExpr, b: FlatExpr) -> Result<FlatExpr, Fail> {
@@ -58,220 +37,40 @@ fn set(at: i32, value: FlatExpr) -> FlatStmt {
     }
 }
 
-fn exit(alloc: Global, code: FlatExpr) -> Result<FlatStmt, Fail> {
-    Ok(FlatStmt::Runtime {
-        number: 2,
-        args: vec![in alloc; code]?,
-        result: None,
-    })
-}
-
-fn write(alloc: Global, at: i32, count: u16) -> Result<FlatStmt, Fail> {
-    let at = Address::Local(at);
-    let args = vec![in alloc;
-        FlatExpr::Number(1),
-        FlatExpr::SegmentOf(at),
-        FlatExpr::AddressOf(at),
-        FlatExpr::Number(count),
+// A LongInt of which the words stand at 8 and 6 above BP is negated.
+fn negation(alloc: Global) -> Result<FlatRoutine, Fail> {
+    let low = op(alloc, FlatOp::Sub, FlatExpr::Number(0), word(8))?;
+    let high = op(alloc, FlatOp::Sub, FlatExpr::Number(0), word(6))?;
+    let borrow = op(alloc, FlatOp::Below, FlatExpr::Number(0), word(8))?;
+    let body = vec![in alloc;
+        set(-4, low),
+        set(-2, op(alloc, FlatOp::Sub, high, borrow)?),
     ]?;
-    Ok(FlatStmt::Runtime {
-        number: 0,
-        args,
-        result: None,
-    })
-}
-
-fn call(number: u32, args: FlatExprs, wanted: Option<FlatResult>) -> FlatStmt {
-    let routine = RoutineId { unit: 0, number };
-    FlatStmt::Call {
-        routine,
-        args,
-        result: wanted,
-    }
-}
-
-fn routine(arguments: u16, locals: u16, body: FlatList) -> Result<FlatRoutine, Fail> {
+    let at = Address::Local(-4);
     Ok(FlatRoutine {
         name: Name::new(b"R").ok_or("a name")?,
-        far: false,
-        arguments: u32::from(arguments),
-        locals: u32::from(locals),
-        frame: u32::from(arguments) + 4 + u32::from(locals),
-        result: None,
+        far: true,
+        arguments: 4,
+        locals: 4,
+        frame: 0,
+        result: Some(FlatResult { at, bytes: 4 }),
         body,
     })
 }
 
-fn unit(alloc: Global, name: &[u8], routines: Vec<FlatRoutine>) -> Result<FlatUnit, Fail> {
+#[test]
+fn a_unit_weighs_what_its_routines_do(rt: HostRuntime) -> Result<(), Fail> {
+    let alloc = rt.alloc();
     let mut names = Sequence::new(alloc);
-    names.push(Name::new(name).ok_or("a name")?)?;
-    Ok(FlatUnit {
+    names.push(Name::new(b"U").ok_or("a name")?)?;
+    let routines = vec![in alloc; negation(alloc)?, negation(alloc)?]?;
+    let unit = FlatUnit {
         names,
-        initial: if routines.is_empty() { None } else { Some(0) },
+        initial: None,
         routines: Sequence::from_vec(routines),
         globals: Sequence::new(alloc),
         vmts: Sequence::new(alloc),
-    })
-}
-
-// Runs the routines of a program, of which the first is the main one.
-fn mean(
-    rt: &impl Abort,
-    alloc: Global,
-    routines: Vec<FlatRoutine>,
-    input: &[u8],
-    turns: u64,
-) -> Result<Meaning, Fail> {
-    let mut units = Vec::new(alloc);
-    units.push(unit(alloc, b"TEXT", Vec::new(alloc))?)?;
-    units.push(unit(alloc, b"STRINGS", Vec::new(alloc))?)?;
-    units.push(unit(alloc, b"OVERLAY", Vec::new(alloc))?)?;
-    units.push(unit(alloc, b"P", routines)?)?;
-    assert!(rt; fits(units.as_slice()));
-    Ok(flat_mean(alloc, units.as_slice(), &[], 1024, 1024, input, turns)?)
-}
-
-// How a program of a main routine alone ends.
-fn end(
-    rt: &impl Abort,
-    alloc: Global,
-    locals: u16,
-    body: FlatList,
-    turns: u64,
-) -> Result<MeanEnd, Fail> {
-    let routines = vec![in alloc; routine(0, locals, body)?]?;
-    Ok(mean(rt, alloc, routines, b"", turns)?.end)
-}
-
-fn leave(loops: u16) -> FlatStmt {
-    FlatStmt::Leave { loops }
-}
-
-fn when(alloc: Global, test: FlatExpr, yes: FlatStmt) -> Result<FlatStmt, Fail> {
-    Ok(FlatStmt::If {
-        test,
-        yes: vec![in alloc; yes]?,
-        no: Vec::new(alloc),
-    })
-}
-
-// i := 1; s := 0; the loop adds i to s while i is at most 10, and the code is s.
-fn sum(alloc: Global) -> Result<FlatList, Fail> {
-    let over = op(alloc, FlatOp::Less, FlatExpr::Number(10), word(-2))?;
-    let sum = op(alloc, FlatOp::Add, word(-4), word(-2))?;
-    let next = op(alloc, FlatOp::Add, word(-2), FlatExpr::Number(1))?;
-    let body = vec![in alloc; when(alloc, over, leave(1))?, set(-4, sum), set(-2, next)]?;
-    let first = set(-2, FlatExpr::Number(1));
-    let none = set(-4, FlatExpr::Number(0));
-    Ok(vec![in alloc; first, none, FlatStmt::Loop(body), exit(alloc, word(-4))?]?)
-}
-
-#[test]
-fn each_run_of_a_loop_spends_a_turn(rt: HostRuntime) -> Result<(), Fail> {
-    let alloc = rt.alloc();
-    assert_eq!(rt; end(&rt, alloc, 4, sum(alloc)?, 12)?, MeanEnd::Ended(55));
-    assert_eq!(rt; end(&rt, alloc, 4, sum(alloc)?, 11)?, MeanEnd::Going);
-    Ok(())
-}
-
-#[test]
-fn leave_leaves_so_many_loops(rt: HostRuntime) -> Result<(), Fail> {
-    let alloc = rt.alloc();
-    let inner = FlatStmt::Loop(vec![in alloc; leave(2)]?);
-    let outer = FlatStmt::Loop(vec![in alloc; inner, FlatStmt::Error(1)]?);
-    let body = vec![in alloc; outer, exit(alloc, FlatExpr::Number(3))?]?;
-    assert_eq!(rt; end(&rt, alloc, 0, body, 9)?, MeanEnd::Ended(3));
-    Ok(())
-}
-
-#[test]
-fn a_call_gives_four_bytes(rt: HostRuntime) -> Result<(), Fail> {
-    let alloc = rt.alloc();
-    let at = Address::Local(-4);
-    let result = Some(FlatResult { at, bytes: 4 });
-    let low = set(-4, FlatExpr::Number(0x1234));
-    let high = set(-2, FlatExpr::Number(0x5678));
-    let mut callee = routine(0, 4, vec![in alloc; low, high]?)?;
-    callee.result = result;
-    let body = vec![in alloc; call(1, Vec::new(alloc), result), write(alloc, -4, 4)?]?;
-    let routines = vec![in alloc; routine(0, 4, body)?, callee]?;
-    let meaning = mean(&rt, alloc, routines, b"", 9)?;
-    assert_eq!(rt; meaning.out.as_slice(), b"\x34\x12\x78\x56".as_slice());
-    assert_eq!(rt; meaning.end, MeanEnd::Ended(0));
-    Ok(())
-}
-
-// A main routine of 4 bytes calls one of 6 bytes, which calls itself so many times more.
-fn recursion(alloc: Global, count: u16) -> Result<Vec<FlatRoutine>, Fail> {
-    let less = op(alloc, FlatOp::Sub, word(4), FlatExpr::Number(1))?;
-    let again = call(1, vec![in alloc; less]?, None);
-    let body = vec![in alloc; when(alloc, word(4), again)?]?;
-    let first = call(1, vec![in alloc; FlatExpr::Number(count)]?, None);
-    Ok(vec![in alloc;
-        routine(0, 0, vec![in alloc; first]?)?,
-        routine(2, 0, body)?,
-    ]?)
-}
-
-#[test]
-fn the_frame_sum_stops_a_recursion(rt: HostRuntime) -> Result<(), Fail> {
-    let alloc = rt.alloc();
-    let deepest = mean(&rt, alloc, recursion(alloc, 83)?, b"", 999)?;
-    assert_eq!(rt; deepest.end, MeanEnd::Ended(0));
-    let deeper = mean(&rt, alloc, recursion(alloc, 84)?, b"", 999)?;
-    assert_eq!(rt; deeper.end, MeanEnd::Ended(202));
-    assert_eq!(rt; deeper.err.as_slice(), b"Runtime error 202\r\n".as_slice());
-    Ok(())
-}
-
-#[test]
-fn what_is_bad_is_an_undefined_act(rt: HostRuntime) -> Result<(), Fail> {
-    let alloc = rt.alloc();
-    let to = Address::Local(-4);
-    let from = Address::Local(-2);
-    let copy = FlatStmt::Copy { to, from, bytes: 2 };
-    let passed = vec![in alloc; copy, exit(alloc, FlatExpr::Number(9))?]?;
-    assert_eq!(rt; end(&rt, alloc, 4, passed, 9)?, MeanEnd::Ended(9));
-    let unset = vec![in alloc; exit(alloc, word(-2))?]?;
-    assert_eq!(rt; end(&rt, alloc, 4, unset, 9)?, MeanEnd::Undefined(1));
-    let outside = vec![in alloc; exit(alloc, word(-6))?]?;
-    assert_eq!(rt; end(&rt, alloc, 4, outside, 9)?, MeanEnd::Undefined(2));
-    let args = Vec::new(alloc);
-    let through = FlatStmt::CallThrough {
-        pointer: to,
-        args,
-        result: None,
     };
-    let zero = FlatExpr::Number(0);
-    let none = FlatExpr::Number(0);
-    let bad = vec![in alloc; set(-4, zero), set(-2, none), through]?;
-    assert_eq!(rt; end(&rt, alloc, 4, bad, 9)?, MeanEnd::Undefined(1));
-    let by_zero = op(alloc, FlatOp::Div, FlatExpr::Number(1), FlatExpr::Number(0))?;
-    assert_eq!(rt;
-        end(&rt, alloc, 2, vec![in alloc; set(-2, by_zero)]?, 0)?,
-        MeanEnd::Going
-    );
-    let by_zero = op(alloc, FlatOp::Div, FlatExpr::Number(1), FlatExpr::Number(0))?;
-    assert_eq!(rt;
-        end(&rt, alloc, 2, vec![in alloc; set(-2, by_zero)]?, 1)?,
-        MeanEnd::Ended(200)
-    );
-    Ok(())
-}
-
-#[test]
-fn input_comes_byte_by_byte_to_its_end(rt: HostRuntime) -> Result<(), Fail> {
-    let alloc = rt.alloc();
-    let at = Address::Local(-2);
-    let read = FlatStmt::Runtime {
-        number: 1,
-        args: Vec::new(alloc),
-        result: Some(FlatResult { at, bytes: 2 }),
-    };
-    let ended = op(alloc, FlatOp::Equal, word(-2), FlatExpr::Number(0xffff))?;
-    let body = vec![in alloc; read, when(alloc, ended, leave(1))?, write(alloc, -2, 1)?]?;
-    let routines = vec![in alloc; routine(0, 2, vec![in alloc; FlatStmt::Loop(body)]?)?]?;
-    let meaning = mean(&rt, alloc, routines, b"ab", 99)?;
-    assert_eq!(rt; meaning.out.as_slice(), b"ab".as_slice());
+    assert_eq!(rt; flat_weight_of(&unit), 216);
     Ok(())
 }

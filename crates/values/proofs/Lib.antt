@@ -6,3 +6,4 @@ pub mod BlockLemmas
 pub mod NumeralLemmas
 pub mod ValLemmas
 pub mod OrdinalLemmas
+pub mod BitLemmas

@@ -12,3 +12,5 @@ pub mod Blocks
 pub mod BlockLaws
 pub mod Ordinals
 pub mod OrdinalLaws
+pub mod Bits
+pub mod BitLaws

@@ -3,6 +3,7 @@
 //! definitions.
 #![tactic(auto)]
 
+pub mod bits;
 pub mod blocks;
 pub mod input;
 pub mod numerals;

@@ -38,7 +38,7 @@ fn word_8(value: i64) -> u8
     value.rem_euclid(0x100) as u8
 }
 
-fn word_16(value: i64) -> u16
+pub(crate) fn word_16(value: i64) -> u16
     ensures { result ≡ word_in w16 value }
 {
     value.rem_euclid(0x1_0000) as u16
@@ -72,7 +72,7 @@ pub fn quotient(kind: IntegerType, a: i32, b: i32) -> i32
 }
 
 /// A product that wraps nowhere.
-fn product(a: i32, b: i32) -> i64
+pub(crate) fn product(a: i32, b: i32) -> i64
     ensures value { result ≡ a *ℤ b }
     ensures small { mag result ≤ 2 ^ 62 }
 {
@@ -126,7 +126,7 @@ pub fn left_shift(kind: IntegerType, value: i32, count: i32) -> i32
 }
 
 /// The word that stores a value.
-fn word_of(kind: IntegerType, value: i32) -> u32
+pub(crate) fn word_of(kind: IntegerType, value: i32) -> u32
     ensures { result ≡ word_in (width_of kind) value }
 {
     let value = i64::from(value);

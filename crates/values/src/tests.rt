@@ -1,3 +1,4 @@
+mod bits;
 mod blocks;
 mod input;
 mod numerals;

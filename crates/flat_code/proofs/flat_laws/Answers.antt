@@ -2,6 +2,8 @@ use Rattle.flat_code.proofs.Whole.{flat_run-IsRun}
 use Rattle.flat_code.proofs.Nodes.{node_laws}
 use Rattle.flat_code.proofs.Shut.{run-shut}
 use Rattle.flat_code.proofs.PlainLegal.{plain_legal}
+use Rattle.flat_code.proofs.Negation.{computes}
+use Rattle.flat_code.proofs.Sums.{weight-then}
 use Rattle.flat_code.proofs.flat_laws.Goals as goal
 
 pub returns-clause-runs : goal.returns-clause-runs
@@ -15,3 +17,9 @@ returns-clause-shut c = run-shut
 
 pub returns-clause-plain : goal.returns-clause-plain
 returns-clause-plain c = plain_legal
+
+pub returns-clause-runtime : goal.returns-clause-runtime
+returns-clause-runtime c = computes
+
+pub returns-clause-weights : goal.returns-clause-weights
+returns-clause-weights c = weight-then

@@ -1,5 +1,0 @@
-use Rattle.std.proofs.Common.{length}
-use Rattle.flat_code.proofs.memory.Memory.+push.Given as goal
-
-abbrev pub decreases-push : goal.decreases-push
-decreases-push l = length l.words.now

@@ -1,4 +1,0 @@
-use Rattle.flat_code.proofs.program.+callee_from.Given as goal
-
-abbrev pub decreases-callee_from : goal.decreases-callee_from
-decreases-callee_from l = l.distance

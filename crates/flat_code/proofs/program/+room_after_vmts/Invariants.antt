@@ -1,5 +1,0 @@
-use Rattle.std.proofs.Common.{length}
-use Rattle.flat_code.proofs.program.+room_after_vmts.Given as goal
-
-abbrev pub decreases-room_after_vmts : goal.decreases-room_after_vmts
-decreases-room_after_vmts l = length l.list.now

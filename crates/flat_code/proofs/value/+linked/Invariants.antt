@@ -1,4 +1,0 @@
-use Rattle.flat_code.proofs.value.+linked.Given as goal
-
-abbrev pub decreases-linked : goal.decreases-linked
-decreases-linked l = l.levels
