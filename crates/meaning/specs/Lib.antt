@@ -1,0 +1,15 @@
+pub mod Members
+pub mod Slots
+pub mod Trees
+pub mod Found
+pub mod Shapes
+pub mod Store
+pub mod Programs
+pub mod Outcomes
+pub mod Operators
+pub mod Activations
+pub mod Calls
+pub mod Standard
+pub mod Expressions
+pub mod Statements
+pub mod Meaning
