@@ -1,6 +1,7 @@
 -- What expressions and places mean. Parts are evaluated from left to right, and a call's instance or variable before its
 -- arguments.
-use Rattle.std.specs.Prelude.{ℕ, Bool, true, false, if◌then◌else◌, ℤ, pos, ◌-ℤ◌, unsigned_abs, List, [], ◌∷◌, map, Option, Some, None, option_and_then, Ok, Err}
+use Rattle.std.specs.Prelude.{ℕ, Bool, true, false, if◌then◌else◌, ℤ, pos, ◌-ℤ◌, unsigned_abs, List, [], ◌∷◌, map, Option, Some, None, Ok, Err}
+use Rattle.std.specs.Option.{option_map}
 use Rattle.type_layout.specs.declared.definitions.TypeId.{TypeId}
 use Rattle.type_layout.specs.declared.definitions.RoutineId.{RoutineId}
 use Rattle.type_layout.specs.declared.definitions.Host.{Host}
@@ -23,7 +24,7 @@ use Rattle.meaning.specs.Outcomes.{State, Does, ◌>>=◌, ◌>>◌, give, raise
 use Rattle.meaning.specs.Operators.{unary, binary, decided, converted, ranged, is_between, element_of}
 use Rattle.meaning.specs.Activations.{Reached, Activation, whole, inside, variable_at, is_self, loaded, held_routine}
 use Rattle.meaning.specs.Calls.{Runs, entered, method_of, overlay_called}
-use Rattle.meaning.specs.Standard.{Operand, Given, Named, handed, Standard, standard, Effect, Gives, Changes, Asks, effect_of, target, made}
+use Rattle.meaning.specs.Standard.{Operand, Given, Named, handed, Standard, standard, Effect, Gives, Changes, Makes, Asks, effect_of, target, made}
 
 -- ---- constants, pointers, fields and elements
 
@@ -100,15 +101,6 @@ called_through program again f at args = spending do
   key ← looked (held_routine at)
   entered program again f key None None (map handed args)
 
-abbrev pub effect_done : Effect → Does Value
-effect_done (Gives look) = looked look
-effect_done (Changes change) = changed change >> give Void
-effect_done (Asks look) = ahead look
-
--- a standard routine whose result is stored so
-abbrev pub standard_done : Program → Option Host → List Operand → Standard → Does Value
-standard_done program stored args one = effect_done (effect_of program one stored args)
-
 -- a new block for what a pointer type points to
 abbrev pub block_made : Program → Sort → Does ℕ
 block_made program sort = do
@@ -116,9 +108,15 @@ block_made program sort = do
   changed (made program sort)
   give serial
 
--- how a result is stored, where there is one
-abbrev pub result_storage : Activation → Option TypeId → Option Host
-result_storage f ty = option_and_then (λ ty. stored_as (storage f ty)) ty
+abbrev pub effect_done : Program → Effect → Does Value
+effect_done program (Gives look) = looked look
+effect_done program (Changes change) = changed change >> give Void
+effect_done program (Makes pointer) = found (target pointer) >>= block_made program >>= λ serial. give (Block serial)
+effect_done program (Asks look) = ahead look
+
+-- a standard routine with a result of this type, if it has one
+abbrev pub standard_done : Program → Option Sort → List Operand → Standard → Does Value
+standard_done program result args one = effect_done program (effect_of program one result args)
 
 -- the right side, unless the left one decides
 abbrev pub unless : Option Value → Does Value → Does Value
@@ -161,7 +159,7 @@ abbrev mutual
   value program again f (Std ty number args) = do
     xs ← operands program again f args
     one ← known (standard number)
-    standard_done program (result_storage f ty) xs one
+    standard_done program (option_map (sort_in f.unit) ty) xs one
   value program again f (Make ty routine args) = do
     sort ← found (target (sort_in f.unit ty))
     serial ← block_made program sort

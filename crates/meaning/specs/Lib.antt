@@ -13,3 +13,4 @@ pub mod Standard
 pub mod Expressions
 pub mod Statements
 pub mod Meaning
+pub mod Examples

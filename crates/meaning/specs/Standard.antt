@@ -1,5 +1,5 @@
 -- The standard routines.
-use Rattle.std.specs.Prelude.{ℕ, zero, suc, ◌+◌, ◌%◌, ◌==◌, nat_lt, Bool, true, false, if◌then◌else◌, ℤ, pos, negsuc, ◌+ℤ◌, ◌-ℤ◌, ◌*ℤ◌, neg_ℤ, unsigned_abs, List, [], ◌∷◌, ◌++◌, length, slice_get, Option, Some, None, Ok, Err}
+use Rattle.std.specs.Prelude.{ℕ, zero, suc, option_and_then, ◌+◌, ◌%◌, ◌==◌, nat_lt, Bool, true, false, if◌then◌else◌, ℤ, pos, negsuc, ◌+ℤ◌, ◌-ℤ◌, ◌*ℤ◌, neg_ℤ, unsigned_abs, List, [], ◌∷◌, ◌++◌, length, slice_get, Option, Some, None, Ok, Err}
 use Rattle.std.specs.Option.{option_map_or}
 use Rattle.integers.specs.Words.{w8, w16, word_of, low_byte, high_byte, word_from_bytes}
 use Rattle.type_layout.specs.declared.definitions.TypeId.{TypeId}
@@ -282,39 +282,49 @@ disposing args store = value_given args 0 >>= λ x. disposed_by x.0 x.1 store
 
 -- ---- what a standard routine does
 
--- it gives a value, changes the store, or looks at the input
+-- it gives a value, changes the store, makes a block for a type and gives a pointer to it, or looks at the input
 pub data Effect : Type 0 where
   Gives : (Store → Found Value) → Effect
   Changes : (Store → Found Store) → Effect
+  Makes : Sort → Effect
   Asks : (List ℕ → Value) → Effect
 
 abbrev pub given : Found Value → Effect
 given v = Gives (λ store. v)
 
-abbrev pub effect_of : Program → Standard → Option Host → List Operand → Effect
-effect_of program Abs stored args = given (keeping (λ z. pos (unsigned_abs z)) stored args)
-effect_of program Sqr stored args = given (keeping (λ z. z *ℤ z) stored args)
-effect_of program Odd stored args = given (of_number (λ z. truth_number (word_of w8 z % 2 == 1)) args)
-effect_of program Ord stored args = given (of_number (λ z. z) args)
-effect_of program Chr stored args = given (of_number (λ z. pos (word_of w8 z)) args)
-effect_of program Succ stored args = given (keeping (λ z. z +ℤ pos 1) stored args)
-effect_of program Pred stored args = given (keeping (λ z. z -ℤ pos 1) stored args)
-effect_of program Inc stored args = Changes (moving (λ by. by) args)
-effect_of program Dec stored args = Changes (moving neg_ℤ args)
-effect_of program Hi stored args = given (of_number (λ z. pos (high_byte (low_word z))) args)
-effect_of program Lo stored args = given (of_number (λ z. pos (low_byte (low_word z))) args)
-effect_of program Swap stored args = given (keeping (λ z. pos (swapped (low_word z))) stored args)
-effect_of program SizeOf stored args = Gives (λ store. place_given args 0 >>= λ at. size_of_variable program at store)
-effect_of program UpCase stored args = given (of_number (λ z. pos (upper (word_of w8 z))) args)
-effect_of program Length stored args = given (length_of args)
-effect_of program Copy stored args = given (copy_of args)
-effect_of program Delete stored args = Changes (deleting args)
-effect_of program Insert stored args = Changes (inserting args)
-effect_of program Concat stored args = given (all_joined args >>= λ text. Ok (Text text))
-effect_of program Pos stored args = given (position_in args)
-effect_of program Str stored args = Changes (telling args)
-effect_of program Val stored args = Changes (valuing args)
-effect_of program Eof stored args = Asks (λ input. truth (is_eof input))
-effect_of program Eoln stored args = Asks (λ input. truth (is_eoln input))
-effect_of program New stored args = Changes (λ store. place_given args 0 >>= λ at. made_for program at store)
-effect_of program Dispose stored args = Changes (disposing args)
+-- how a result of a type is stored, where there is one
+abbrev pub result_storage : Option Sort → Option Host
+result_storage result = option_and_then (λ sort. stored_as (definition sort)) result
+
+-- New for a pointer variable, or as a function of a pointer type
+abbrev pub new_of : Program → Option Sort → List Operand → Effect
+new_of program (Some pointer) [] = Makes pointer
+new_of program result args = Changes (λ store. place_given args 0 >>= λ at. made_for program at store)
+
+abbrev pub effect_of : Program → Standard → Option Sort → List Operand → Effect
+effect_of program Abs result args = given (keeping (λ z. pos (unsigned_abs z)) (result_storage result) args)
+effect_of program Sqr result args = given (keeping (λ z. z *ℤ z) (result_storage result) args)
+effect_of program Odd result args = given (of_number (λ z. truth_number (word_of w8 z % 2 == 1)) args)
+effect_of program Ord result args = given (of_number (λ z. z) args)
+effect_of program Chr result args = given (of_number (λ z. pos (word_of w8 z)) args)
+effect_of program Succ result args = given (keeping (λ z. z +ℤ pos 1) (result_storage result) args)
+effect_of program Pred result args = given (keeping (λ z. z -ℤ pos 1) (result_storage result) args)
+effect_of program Inc result args = Changes (moving (λ by. by) args)
+effect_of program Dec result args = Changes (moving neg_ℤ args)
+effect_of program Hi result args = given (of_number (λ z. pos (high_byte (low_word z))) args)
+effect_of program Lo result args = given (of_number (λ z. pos (low_byte (low_word z))) args)
+effect_of program Swap result args = given (keeping (λ z. pos (swapped (low_word z))) (result_storage result) args)
+effect_of program SizeOf result args = Gives (λ store. place_given args 0 >>= λ at. size_of_variable program at store)
+effect_of program UpCase result args = given (of_number (λ z. pos (upper (word_of w8 z))) args)
+effect_of program Length result args = given (length_of args)
+effect_of program Copy result args = given (copy_of args)
+effect_of program Delete result args = Changes (deleting args)
+effect_of program Insert result args = Changes (inserting args)
+effect_of program Concat result args = given (all_joined args >>= λ text. Ok (Text text))
+effect_of program Pos result args = given (position_in args)
+effect_of program Str result args = Changes (telling args)
+effect_of program Val result args = Changes (valuing args)
+effect_of program Eof result args = Asks (λ input. truth (is_eof input))
+effect_of program Eoln result args = Asks (λ input. truth (is_eoln input))
+effect_of program New result args = new_of program result args
+effect_of program Dispose result args = Changes (disposing args)
