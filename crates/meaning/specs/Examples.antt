@@ -1,4 +1,4 @@
--- Small programs and what they show, as examples of the meaning. Each is the statement of a main part over a unit's globals.
+-- Words for small programs, which serve as examples: the statement of a main part over a unit's globals.
 use Rattle.std.specs.Prelude.{◌≡◌, ℕ, zero, suc, ◌+◌, Bool, true, false, ℤ, pos, negsuc, List, [], ◌∷◌, ◌++◌, map, Option, Some, None, codes}
 use Rattle.behaviour.specs.Seen.{Seen, Standing, Ended, Going, Undefined, Stopped}
 use Rattle.type_layout.specs.declared.definitions.TypeId.{TypeId}
@@ -24,7 +24,8 @@ use Rattle.meaning.specs.Meaning.{run, start_state, start_activation, seen_so}
 
 -- ---- a unit with these globals
 
--- Integer, Boolean, Char, string, Word, LongInt, string[3], 0..255, set of it, array[1..3] of Integer, a pointer to Integer
+-- Integer, Boolean, Char, string, Word, LongInt, string[3], Byte, set of Byte, 1..3, array[1..3] of Integer, a pointer to
+-- Integer, and a record of an Integer and a string[3]
 abbrev pub types : List TypeDef
 types =
     type.Ordinal host.Integer (negsuc 32767) (pos 32767)
@@ -39,6 +40,7 @@ types =
     ∷ type.Ordinal host.Integer (pos 1) (pos 3)
     ∷ type.ArrayOf (record { 0 = 9 }) (record { 0 = 0 })
     ∷ type.PointerTo (record { 0 = 0 })
+    ∷ type.RecordOf ((record { name = codes "N"; ty = record { 0 = 0 } }) ∷ (record { name = codes "S"; ty = record { 0 = 6 } }) ∷ [])
     ∷ []
 
 abbrev pub id : ℕ → TypeId
@@ -131,41 +133,12 @@ all (one ∷ rest) = Then one (all rest)
 abbrev pub block : List Statement → Statement
 block parts = Block (all parts)
 
--- ---- what they show
 
--- i := -7; Write(i div 2, ' ', i mod 2); i := -32768; Write(' ', i div -1)
-abbrev pub division : Seen
-division = shown (integer ∷ []) (block (
-    Assign (var 0) (number (negsuc 6))
-    ∷ write (on two.Divide (int 0) (number (pos 2)) ∷ chars (codes " ") ∷ on two.Modulo (int 0) (number (pos 2)) ∷ [])
-    ∷ Assign (var 0) (number (negsuc 32767))
-    ∷ write (chars (codes " ") ∷ on two.Divide (int 0) (number (negsuc 0)) ∷ [])
-    ∷ [])) [] 0
+abbrev pub call : ℕ → Arguments → Expression
+call n args = Std None n args
 
--- an Integer that wraps
-abbrev pub wrapping : Seen
-wrapping = shown (integer ∷ []) (block (
-    Assign (var 0) (number (pos 32767))
-    ∷ Assign (var 0) (on two.Add (int 0) (number (pos 1)))
-    ∷ write (int 0 ∷ [])
-    ∷ [])) [] 0
+abbrev pub gives : TypeId → ℕ → Arguments → Expression
+gives ty n args = Std (Some ty) n args
 
--- Write('q'); Write(i), where i is unset
-abbrev pub unset_read : Seen
-unset_read = shown (integer ∷ []) (block (write (chars (codes "q") ∷ []) ∷ write (int 0 ∷ []) ∷ [])) [] 0
-
--- i := 0; Write(1 div i)
-abbrev pub by_zero : Seen
-by_zero = shown (integer ∷ []) (block (Assign (var 0) (number (pos 0)) ∷ write (on two.Divide (number (pos 1)) (int 0) ∷ []) ∷ [])) [] 0
-
--- for i := 1 to 3 do Write(i), with so many turns
-abbrev pub counting : ℕ → Seen
-counting turns = shown (integer ∷ []) (For (variable 0) integer (number (pos 1)) (number (pos 3)) false (write (int 0 ∷ []))) [] turns
-
-pub record ShowExamples : Type 0 where
-  pub division : division ≡ ends (Ended 0) (codes "-3 -1 -32768") []
-  pub wrapping : wrapping ≡ ends (Ended 0) (codes "-32768") []
-  pub unset_read : unset_read ≡ ends (Undefined 1) (codes "q") []
-  pub by_zero : by_zero ≡ ends (Ended 200) [] (error_line (codes "200"))
-  pub counted : counting 3 ≡ ends (Ended 0) (codes "123") []
-  pub counting : counting 2 ≡ ends Going (codes "12") []
+abbrev pub truth_of : BinaryOp → Expression → Expression → Expression
+truth_of op a b = Binary boolean op a b false

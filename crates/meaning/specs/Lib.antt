@@ -14,3 +14,5 @@ pub mod Expressions
 pub mod Statements
 pub mod Meaning
 pub mod Examples
+pub mod ShownStatements
+pub mod ShownParts
