@@ -6,6 +6,7 @@ use Rattle.values.specs.Sets.{low_bits}
 use Rattle.meaning.specs.Meaning.{run}
 use Rattle.meaning.specs.ShownStatements.{StatementExamples}
 use Rattle.meaning.specs.ShownParts.{PartExamples}
+use Rattle.meaning.specs.ShownCalls.{Boxed, CallExamples}
 
 pub statement_examples : StatementExamples
 unfolding run digits
@@ -60,4 +61,22 @@ part_examples = record {
   no_numeral = refl;
   at_eof = refl;
   lines = refl;
+}
+
+pub call_examples : (b : Boxed) → CallExamples b
+unfolding run digits
+call_examples b = record {
+  called = refl;
+  calling = refl;
+  by_reference = refl;
+  no_result = refl;
+  through = refl;
+  room = refl;
+  no_room = refl;
+  dispatching = refl;
+  classless = refl;
+  assigning = refl;
+  making = refl;
+  installed = refl;
+  not_installed = refl;
 }

@@ -16,3 +16,4 @@ pub mod Meaning
 pub mod Examples
 pub mod ShownStatements
 pub mod ShownParts
+pub mod ShownCalls
