@@ -1,10 +1,9 @@
 -- Statements and whole runs with more turns.
-use Rattle.std.proofs.Common.{◌≡◌, ℕ, zero, suc, ◌+◌, ◌-◌, ◌<◌, ◌≤◌, Bool, true, false, List, [], ◌∷◌, Option, Some, None, refl, sym, ap, subst, ◌∙◌, arith}
-use Rattle.std.specs.Prelude.{if◌then◌else◌, ℤ, pos, ◌+ℤ◌, map}
+use Rattle.std.proofs.Common.{◌≡◌, ℕ, zero, suc, ◌+◌, ◌-◌, ◌≤◌, Bool, true, false, List, [], ◌∷◌, Option, Some, None, refl, sym, ap, subst, arith}
+use Rattle.std.specs.Prelude.{ℤ, pos, ◌+ℤ◌, map}
 use Rattle.std.specs.List.{list_any}
 use Rattle.std.specs.Ordering.{int_eq}
-use Rattle.behaviour.specs.Seen.{Standing, Ended, Going, Undefined, Stopped, Seen, Begins, IsOver, IsRun}
-use Rattle.integers.specs.Words.{w8, word_of}
+use Rattle.behaviour.specs.Seen.{Ended, Going, Undefined, Stopped, Seen, Begins, IsOver, IsRun}
 use Rattle.type_layout.specs.declared.definitions.Host.{Host}
 use Rattle.type_layout.specs.declared.definitions.Host.TheVariants as host
 use Rattle.type_layout.specs.declared.definitions.TypeDef.{TypeDef}
@@ -18,18 +17,17 @@ use Rattle.typed_tree.specs.Expressions.{Expression, Arguments}
 use Rattle.typed_tree.specs.Statements.{Written, Taken, Statement, Assign, CopyAll, Run, If, While, Repeat, Block, Case, For, With, WriteItems, ReadItems, Halt, Exit, Unmake, Statements, NoStatements, Then, Arms, NoArms, Branch}
 use Rattle.values.specs.Written.{line_end}
 use Rattle.values.specs.Input.{char_read, string_read, number_read, after_line}
-use Rattle.meaning.specs.Trees.{Key, Value, Ordinal, Text, Void, unset}
+use Rattle.meaning.specs.Trees.{Value, Ordinal, Text, Void, unset}
 use Rattle.meaning.specs.Store.{number_of, replaced, disposed}
 use Rattle.meaning.specs.Programs.{definition, sort_in, routine_key}
-use Rattle.meaning.specs.Outcomes.{State, Outcome, Done, Over, Does, give, known, spending}
+use Rattle.meaning.specs.Outcomes.{State, Outcome, Done, Over, Does}
 use Rattle.meaning.specs.Operators.{is_true}
 use Rattle.meaning.specs.Activations.{Reached, Activation, whole, variable_at, assigned, copied, number_in}
-use Rattle.meaning.specs.Calls.{Flow, Next, Left, Task, Do, Turns, Runs, entered}
+use Rattle.meaning.specs.Calls.{Flow, Next, Left, Task, Do, Turns, Runs}
 use Rattle.meaning.specs.Standard.{Operand, handed, field_text, text_of, number_assigned, target, size_freed}
-use Rattle.meaning.specs.Expressions.{value, place}
-use Rattle.meaning.specs.Statements.{then_next, chosen, number, condition, covers, checked, width_of, written, line_written, numeral_or_error, number_taken, char_taken, text_taken, ordinal_taken, taken_as, read, line_read, counter, is_past, step, counted, turned, turn, block_of, destructor_of, freed, unmade, halted, with_held, statement, statements, branches, task}
+use Rattle.meaning.specs.Statements.{then_next, chosen, number, condition, covers, checked, width_of, written, line_written, numeral_or_error, number_taken, char_taken, text_taken, ordinal_taken, taken_as, read, line_read, is_past, step, counted, turned, turn, block_of, destructor_of, freed, unmade, halted, with_held, statement, statements, branches, task}
 use Rattle.meaning.specs.Meaning.{run_by, run, start_state, start_activation, started, all_started, seen_so, seen_of, mean}
-use Rattle.meaning.proofs.Turns.{After, Falls, Grows, begins_itself, more, More, Like, like_weaker, like_bind, like_then, like_spending, like_give, like_stuck, like_raised, like_found, like_known, like_looked, like_changed, like_printed, like_taking}
+use Rattle.meaning.proofs.Turns.{After, Falls, Grows, begins_itself, More, Like, like_weaker, like_bind, like_then, like_spending, like_give, like_stuck, like_raised, like_found, like_known, like_looked, like_changed, like_printed, like_taking}
 use Rattle.meaning.proofs.Parts.{Alike, like_entered, like_method_of, like_sort_of, like_value, like_place, like_operands}
 
 -- ---- parts

@@ -1,9 +1,8 @@
 -- Calls, expressions and places with more turns.
-use Rattle.std.proofs.Common.{◌≡◌, ℕ, zero, suc, ◌&&◌, Bool, true, false, List, [], ◌∷◌, Option, Some, None, refl}
-use Rattle.std.specs.Prelude.{if◌then◌else◌, ℤ, pos, negsuc, map, not, ◌-ℤ◌, length, Ok}
+use Rattle.std.proofs.Common.{ℕ, zero, suc, ◌&&◌, Bool, true, false, List, [], ◌∷◌, Option, Some, None}
+use Rattle.std.specs.Prelude.{ℤ, pos, negsuc, map, not, length, Ok}
 use Rattle.std.specs.Option.{option_map}
 use Rattle.type_layout.specs.declared.definitions.TypeId.{TypeId}
-use Rattle.type_layout.specs.declared.definitions.Host.{Host}
 use Rattle.type_layout.specs.declared.definitions.TypeDef.{TypeDef}
 use Rattle.type_layout.specs.declared.definitions.TypeDef.TheVariants as type
 use Rattle.type_layout.specs.Layouts.{bounds_at}
@@ -13,18 +12,18 @@ use Rattle.typed_tree.specs.Expressions.{Expression, Const, RoutineValue, Load, 
 use Rattle.values.specs.Sets.{with_range}
 use Rattle.well_formed.specs.Fits.{stored_as, field_type}
 use Rattle.well_formed.specs.Scopes.{variables_of}
-use Rattle.meaning.specs.Trees.{Key, Spot, Value, Ordinal, Text, Elements, Nil, Block, Code, Class, At, Void}
+use Rattle.meaning.specs.Trees.{Key, Spot, Value, Ordinal, Text, Elements, Block, Code, Void}
 use Rattle.meaning.specs.Shapes.{parts_at, field_place}
-use Rattle.meaning.specs.Store.{Store, next_serial, followed, number_of, without}
+use Rattle.meaning.specs.Store.{next_serial, followed, number_of, without}
 use Rattle.meaning.specs.Programs.{routine_key, Sort, definition, beside, sort_in, class_key, is_overlay, is_overlaid, char_sort, dispatched}
-use Rattle.meaning.specs.Outcomes.{State, Does, give, raised, undefined, stuck, found, known, spending, looked, changed, ahead, is_installed, raised_if}
+use Rattle.meaning.specs.Outcomes.{Does}
 use Rattle.meaning.specs.Operators.{unary, binary, decided, converted, ranged, is_between, element_of}
-use Rattle.meaning.specs.Activations.{Reached, Activation, Level, Callee, callee_of, whole, inside, variable_at, loaded, held_routine, opened, class_set, class_at, levels_around, result_of, assigned}
-use Rattle.meaning.specs.Calls.{Flow, Task, Do, Runs, activation_of, activated, is_too_deep, entered, without_class, dispatched_by, method_of, with_overlay_result, overlay_variable, installed_if, is_file, overlay_called}
+use Rattle.meaning.specs.Activations.{Reached, Activation, Callee, callee_of, whole, inside, variable_at, loaded, held_routine, opened, class_set, class_at, levels_around, result_of, assigned}
+use Rattle.meaning.specs.Calls.{Task, Do, Runs, activation_of, activated, is_too_deep, entered, without_class, dispatched_by, method_of, with_overlay_result, overlay_variable, installed_if, is_file, overlay_called}
 use Rattle.meaning.specs.Programs.{overlay_file}
-use Rattle.meaning.specs.Standard.{Operand, Given, Named, handed, Standard, standard, Effect, Gives, Changes, Makes, Asks, effect_of, target, made}
-use Rattle.meaning.specs.Expressions.{constant_value, sort_of, storage, field_of, field_at, outside, element_between, element_in, Instance, no_instance, instance_at, called, called_by_class, called_through, effect_done, standard_done, block_made, unless, value, place, receiver, elements, operands}
-use Rattle.meaning.proofs.Turns.{Like, like_weaker, like_bind, like_then, like_spending, like_give, like_stuck, like_undefined, like_raised, like_found, like_known, like_raised_if, like_looked, like_changed, like_ahead, like_is_installed, like_install, like_if}
+use Rattle.meaning.specs.Standard.{Operand, Given, Named, handed, standard, Effect, Gives, Changes, Makes, Asks, effect_of, target, made}
+use Rattle.meaning.specs.Expressions.{constant_value, sort_of, storage, field_of, outside, element_between, element_in, Instance, no_instance, instance_at, called, called_by_class, called_through, effect_done, block_made, unless, value, place, receiver, elements, operands}
+use Rattle.meaning.proofs.Turns.{Like, like_bind, like_then, like_spending, like_give, like_stuck, like_undefined, like_raised, like_found, like_known, like_raised_if, like_looked, like_changed, like_ahead, like_is_installed, like_install, like_if}
 
 -- tasks are alike in each activation
 abbrev pub Alike : ℕ → ℕ → ℕ → Runs → Runs → Type 0

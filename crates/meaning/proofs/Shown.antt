@@ -2,7 +2,6 @@
 use Rattle.std.proofs.Common.{refl}
 use Rattle.std.specs.Fmt.{digits}
 use Rattle.values.specs.Numerals.{numeral_of}
-use Rattle.values.specs.Sets.{low_bits}
 use Rattle.meaning.specs.Meaning.{run}
 use Rattle.meaning.specs.ShownStatements.{StatementExamples}
 use Rattle.meaning.specs.ShownParts.{PartExamples}
@@ -77,6 +76,12 @@ call_examples b = record {
   classless = refl;
   assigning = refl;
   making = refl;
+  unmade = refl;
+  unmaking = refl;
+  arguments = refl;
+  nested = refl;
+  not_started = refl;
+  starting = refl;
   installed = refl;
   not_installed = refl;
 }

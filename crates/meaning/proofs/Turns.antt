@@ -1,13 +1,13 @@
 -- More turns change nothing of what is done: what two ways of doing a thing have in common where the second one is given more turns.
-use Rattle.std.proofs.Common.{◌≡◌, ℕ, zero, suc, ◌+◌, ◌<◌, ◌≤◌, Bool, true, false, List, [], ◌∷◌, ◌++◌, Option, Some, None, refl, sym, ap, subst, ◌∙◌, arith}
+use Rattle.std.proofs.Common.{◌≡◌, ℕ, zero, suc, ◌+◌, ◌<◌, ◌≤◌, Bool, true, false, List, [], ◌++◌, Option, Some, None, refl, sym, ap, subst, ◌∙◌, arith}
 use Rattle.std.specs.Prelude.{if◌then◌else◌}
 use Rattle.std.proofs.lemmas.List.{append-nil, append_assoc}
 use Rattle.std.specs.Prelude.{Ok, Err}
 use Rattle.behaviour.specs.Seen.{Standing, Ended, Going, Undefined, Stopped, Begins}
 use Rattle.values.specs.Written.{error_text}
-use Rattle.meaning.specs.Found.{Trap, Act, Error, IllTyped, Found}
+use Rattle.meaning.specs.Found.{Act, Error, IllTyped, Found}
 use Rattle.meaning.specs.Store.{Store}
-use Rattle.meaning.specs.Outcomes.{State, Outcome, Done, Over, Does, and_then, ◌>>=◌, ◌>>◌, give, raised, undefined, stuck, trapped, found, known, raised_if, spent, spending, looked, with_store, changed, printed, taking, ahead, is_installed, install}
+use Rattle.meaning.specs.Outcomes.{State, Outcome, Done, Over, Does, and_then, ◌>>=◌, ◌>>◌, give, raised, undefined, stuck, found, known, raised_if, spent, spending, looked, with_store, changed, printed, taking, ahead, is_installed, install}
 
 -- ---- two relations that are kept: turns fall, and what was written stays
 

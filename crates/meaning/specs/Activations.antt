@@ -12,10 +12,10 @@ use Rattle.typed_tree.specs.declared.units.Routine.{Routine}
 use Rattle.typed_tree.specs.declared.units.Unit.{Unit as TypedUnit}
 use Rattle.typed_tree.specs.declared.units.Program.{Program}
 use Rattle.well_formed.specs.Scopes.{variables_of}
-use Rattle.meaning.specs.Trees.{Key, Spot, Value, Ordinal, Text, Elements, Nil, Block, Code, Class, At, Void, Tree, holding}
-use Rattle.meaning.specs.Found.{Trap, Act, Error, IllTyped, Found, ◌>>=◌, known}
+use Rattle.meaning.specs.Trees.{Key, Spot, Value, Text, Class, At, Void, Tree, holding}
+use Rattle.meaning.specs.Found.{IllTyped, Found, ◌>>=◌, known}
 use Rattle.meaning.specs.Shapes.{new_tree, parts_at, class_place}
-use Rattle.meaning.specs.Store.{Object, Store, next_serial, with_new, tree_at, value_at, text_at, spot_of, class_of, number_of, routine_of, replaced, assigned_over, copied_over}
+use Rattle.meaning.specs.Store.{Object, Store, with_new, tree_at, value_at, text_at, spot_of, class_of, number_of, routine_of, replaced, assigned_over, copied_over}
 use Rattle.meaning.specs.Programs.{unit_named, key_of, Sort, definition, sort_in, global_serial, global_sort}
 
 -- a place, with the type that it has

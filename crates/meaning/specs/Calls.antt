@@ -1,7 +1,6 @@
 -- What a call does once its arguments are known.
-use Rattle.std.specs.Prelude.{ℕ, zero, suc, ℤ, if◌then◌else◌, ◌+◌, ◌-◌, ◌&&◌, not, nat_lt, Bool, true, false, List, [], ◌∷◌, ◌++◌, length, map, Option, Some, None, codes, pos, negsuc, Ok, Err}
+use Rattle.std.specs.Prelude.{ℕ, zero, suc, ℤ, if◌then◌else◌, ◌+◌, ◌&&◌, not, nat_lt, Bool, true, false, List, [], ◌∷◌, length, map, Option, Some, None, pos, negsuc, Ok}
 use Rattle.std.specs.Option.{option_map_or}
-use Rattle.type_layout.specs.declared.definitions.RoutineId.{RoutineId}
 use Rattle.type_layout.specs.Words.{same_bytes}
 use Rattle.typed_tree.specs.declared.expressions.Variable.{Variable}
 use Rattle.typed_tree.specs.declared.units.Program.{Program}
@@ -9,10 +8,10 @@ use Rattle.typed_tree.specs.Statements.{Statement, view_stmt}
 use Rattle.typed_tree.specs.Frames.{frame_of}
 use Rattle.values.specs.Strings.{upper}
 use Rattle.well_formed.specs.Scopes.{variables_of}
-use Rattle.meaning.specs.Trees.{Key, Spot, Value, Ordinal, Text, Block, Void}
-use Rattle.meaning.specs.Store.{Store, next_serial, without, bytes_of}
-use Rattle.meaning.specs.Programs.{is_overlaid, stack_of, overlay_file, overlay_name, integer_sort, overlay_result, is_overlay, dispatched}
-use Rattle.meaning.specs.Outcomes.{State, Does, ◌>>=◌, ◌>>◌, give, raised, undefined, stuck, found, known, raised_if, spending, looked, changed, is_installed, install}
+use Rattle.meaning.specs.Trees.{Key, Spot, Value, Ordinal, Text, Void}
+use Rattle.meaning.specs.Store.{next_serial, without}
+use Rattle.meaning.specs.Programs.{is_overlaid, stack_of, overlay_file, integer_sort, overlay_result, dispatched}
+use Rattle.meaning.specs.Outcomes.{Does, ◌>>=◌, ◌>>◌, give, raised, undefined, stuck, found, known, raised_if, looked, changed, is_installed, install}
 use Rattle.meaning.specs.Activations.{Reached, Level, Activation, whole, Callee, callee_of, opened, levels_around, class_set, class_at, result_of, assigned}
 
 -- how a statement ended: the next one follows, or the routine is left

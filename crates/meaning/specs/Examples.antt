@@ -1,24 +1,20 @@
 -- Words for small programs, which serve as examples: the statement of a main part over a unit's globals.
-use Rattle.std.specs.Prelude.{◌≡◌, ℕ, zero, suc, ◌+◌, Bool, true, false, ℤ, pos, negsuc, List, [], ◌∷◌, ◌++◌, map, Option, Some, None, codes}
-use Rattle.behaviour.specs.Seen.{Seen, Standing, Ended, Going, Undefined, Stopped}
+use Rattle.std.specs.Prelude.{ℕ, false, ℤ, pos, negsuc, List, [], ◌∷◌, ◌++◌, map, Some, None, codes}
+use Rattle.behaviour.specs.Seen.{Seen, Standing, Ended}
 use Rattle.type_layout.specs.declared.definitions.TypeId.{TypeId}
-use Rattle.type_layout.specs.declared.definitions.RoutineId.{RoutineId}
 use Rattle.type_layout.specs.declared.definitions.TypeDef.{TypeDef}
 use Rattle.type_layout.specs.declared.definitions.TypeDef.TheVariants as type
 use Rattle.type_layout.specs.declared.definitions.Host.TheVariants as host
 use Rattle.type_layout.specs.Table.{Table}
 use Rattle.typed_tree.specs.declared.expressions.Variable.{Variable}
 use Rattle.typed_tree.specs.declared.expressions.Value.TheVariants as constant
-use Rattle.typed_tree.specs.declared.expressions.UnaryOp.TheVariants as one
 use Rattle.typed_tree.specs.declared.expressions.BinaryOp.{BinaryOp}
-use Rattle.typed_tree.specs.declared.expressions.BinaryOp.TheVariants as two
 use Rattle.typed_tree.specs.declared.units.Global.{Global}
-use Rattle.typed_tree.specs.declared.units.Routine.{Routine}
 use Rattle.typed_tree.specs.declared.units.Unit.{Unit as TypedUnit}
 use Rattle.typed_tree.specs.declared.units.Program.{Program}
-use Rattle.typed_tree.specs.Expressions.{Expression, Const, Load, Unary, Binary, Convert, Range, SetOf, Call, Std, Place, Var, Deref, Index, FieldOf, NoReceiver, NoElements, One, Span, Arguments, NoArguments, ByValue, ByPlace}
-use Rattle.typed_tree.specs.Statements.{Statement, Written, Taken, Assign, CopyAll, Run, If, While, Repeat, Block, Case, For, With, WriteItems, ReadItems, Halt, Exit, Statements, NoStatements, Then, NoArms, Branch}
-use Rattle.meaning.specs.Outcomes.{Outcome, Done, Over, ◌>>=◌}
+use Rattle.typed_tree.specs.Expressions.{Expression, Const, Load, Binary, Std, Place, Var, Arguments}
+use Rattle.typed_tree.specs.Statements.{Statement, Written, Block, WriteItems, Statements, NoStatements, Then}
+use Rattle.meaning.specs.Outcomes.{Outcome, Done, Over}
 use Rattle.meaning.specs.Calls.{Do, Flow}
 use Rattle.meaning.specs.Meaning.{run, start_state, start_activation, seen_so}
 
@@ -132,7 +128,6 @@ all (one ∷ rest) = Then one (all rest)
 
 abbrev pub block : List Statement → Statement
 block parts = Block (all parts)
-
 
 abbrev pub call : ℕ → Arguments → Expression
 call n args = Std None n args

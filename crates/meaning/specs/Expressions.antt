@@ -1,26 +1,22 @@
 -- What expressions and places mean. Parts are evaluated from left to right, and a call's instance or variable before its
 -- arguments.
-use Rattle.std.specs.Prelude.{ℕ, Bool, true, false, if◌then◌else◌, ℤ, pos, ◌-ℤ◌, unsigned_abs, List, [], ◌∷◌, map, Option, Some, None, Ok, Err}
+use Rattle.std.specs.Prelude.{ℕ, Bool, true, false, if◌then◌else◌, ℤ, pos, ◌-ℤ◌, unsigned_abs, List, [], ◌∷◌, map, Option, Some, None, Ok}
 use Rattle.std.specs.Option.{option_map}
 use Rattle.type_layout.specs.declared.definitions.TypeId.{TypeId}
-use Rattle.type_layout.specs.declared.definitions.RoutineId.{RoutineId}
-use Rattle.type_layout.specs.declared.definitions.Host.{Host}
 use Rattle.type_layout.specs.declared.definitions.TypeDef.{TypeDef}
 use Rattle.type_layout.specs.declared.definitions.TypeDef.TheVariants as type
 use Rattle.type_layout.specs.Layouts.{bounds_at}
 use Rattle.typed_tree.specs.declared.expressions.Value.{Value as Constant}
 use Rattle.typed_tree.specs.declared.expressions.Value.TheVariants as constant
-use Rattle.typed_tree.specs.declared.expressions.Variable.{Variable}
 use Rattle.typed_tree.specs.declared.units.Program.{Program}
 use Rattle.typed_tree.specs.Expressions.{Expression, Const, RoutineValue, Load, Unary, Binary, Convert, Range, SetOf, Call, CallVirtual, CallThrough, Std, Make, Place, Var, Deref, Index, FieldOf, Receiver, NoReceiver, Own, Elements as Listed, NoElements, One, Span, Arguments, NoArguments, ByValue, ByPlace, type_of}
 use Rattle.values.specs.Sets.{with_range}
 use Rattle.well_formed.specs.Fits.{stored_as, field_type}
-use Rattle.meaning.specs.Trees.{Key, Spot, Value, Ordinal, Text, Elements, Nil, Block, Code, Class, At, Void}
-use Rattle.meaning.specs.Found.{Found, Act, Error, IllTyped}
+use Rattle.meaning.specs.Trees.{Key, Spot, Value, Ordinal, Text, Elements, Nil, Block, Code, Void}
 use Rattle.meaning.specs.Shapes.{parts_at, field_place}
-use Rattle.meaning.specs.Store.{Store, next_serial, followed, number_of}
+use Rattle.meaning.specs.Store.{next_serial, followed, number_of}
 use Rattle.meaning.specs.Programs.{routine_key, Sort, definition, beside, sort_in, class_key, is_overlay, char_sort}
-use Rattle.meaning.specs.Outcomes.{State, Does, ◌>>=◌, ◌>>◌, give, raised, undefined, stuck, found, known, spending, looked, changed, ahead}
+use Rattle.meaning.specs.Outcomes.{Does, ◌>>=◌, ◌>>◌, give, raised, undefined, stuck, found, known, spending, looked, changed, ahead}
 use Rattle.meaning.specs.Operators.{unary, binary, decided, converted, ranged, is_between, element_of}
 use Rattle.meaning.specs.Activations.{Reached, Activation, whole, inside, variable_at, is_self, loaded, held_routine}
 use Rattle.meaning.specs.Calls.{Runs, entered, method_of, overlay_called}

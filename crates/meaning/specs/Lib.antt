@@ -1,5 +1,3 @@
-pub mod Members
-pub mod Slots
 pub mod Trees
 pub mod Found
 pub mod Shapes
@@ -13,6 +11,7 @@ pub mod Standard
 pub mod Expressions
 pub mod Statements
 pub mod Meaning
+pub mod Laws
 pub mod Examples
 pub mod ShownStatements
 pub mod ShownParts

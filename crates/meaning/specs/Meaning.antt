@@ -1,16 +1,16 @@
 -- What a program means: what it writes and how it ends within a number of turns.
-use Rattle.std.specs.Prelude.{ℕ, zero, suc, List, [], ◌∷◌, ◌++◌, map, Option, Some, None, pos, false}
+use Rattle.std.specs.Prelude.{ℕ, zero, suc, List, [], ◌∷◌, map, Option, Some, None, pos, false}
 use Rattle.std.specs.List.{flat_map}
 use Rattle.behaviour.specs.Seen.{Standing, Ended, Going, Seen}
 use Rattle.typed_tree.specs.declared.units.Global.{Global}
 use Rattle.typed_tree.specs.declared.units.Unit.{Unit as TypedUnit}
 use Rattle.typed_tree.specs.declared.units.Program.{Program}
-use Rattle.meaning.specs.Trees.{Key, Value, Ordinal, Void, holding}
+use Rattle.meaning.specs.Trees.{Value, Ordinal, Void, holding}
 use Rattle.meaning.specs.Shapes.{first_tree}
 use Rattle.meaning.specs.Store.{Object, Store}
 use Rattle.meaning.specs.Outcomes.{State, Outcome, Done, Over, Does, ◌>>◌, give}
 use Rattle.meaning.specs.Activations.{Activation, variable_object}
-use Rattle.meaning.specs.Calls.{Flow, Task, Runs, entered}
+use Rattle.meaning.specs.Calls.{Runs, entered}
 use Rattle.meaning.specs.Statements.{task}
 
 -- ---- turns

@@ -1,5 +1,5 @@
 -- The operators, on values.
-use Rattle.std.specs.Prelude.{ℕ, ◌==◌, nat_lt, Bool, true, false, not, ◌&&◌, ◌||◌, if◌then◌else◌, ℤ, pos, negsuc, ◌+ℤ◌, ◌-ℤ◌, ◌*ℤ◌, neg_ℤ, int_le, int_lt, bit_and, bit_or, bit_xor, List, [], ◌∷◌, Option, Some, None, Ok, Err}
+use Rattle.std.specs.Prelude.{ℕ, ◌==◌, nat_lt, Bool, true, false, not, ◌&&◌, ◌||◌, if◌then◌else◌, ℤ, pos, negsuc, ◌+ℤ◌, ◌-ℤ◌, ◌*ℤ◌, neg_ℤ, int_le, bit_and, bit_or, bit_xor, List, [], ◌∷◌, Option, Some, None, Ok, Err}
 use Rattle.std.specs.declared.cmp.Ordering.{Ordering}
 use Rattle.std.specs.declared.cmp.Ordering.TheVariants as ordering
 use Rattle.std.specs.Ordering.{int_eq, int_cmp}
@@ -17,8 +17,8 @@ use Rattle.values.specs.declared.ordinals.IntegerType.{IntegerType}
 use Rattle.values.specs.Ordinals.{width_of, meant_by, kept, quotient, remainder, left_shift, right_shift}
 use Rattle.values.specs.Strings.{joined, compared}
 use Rattle.values.specs.Sets.{is_member, union, difference, intersection, is_subset, is_same}
-use Rattle.meaning.specs.Trees.{Key, Value, Ordinal, Text, Elements, Nil, Block, Code, Class, At, Void}
-use Rattle.meaning.specs.Found.{Trap, Act, Error, IllTyped, Found, ◌>>=◌, known}
+use Rattle.meaning.specs.Trees.{Value, Ordinal, Text, Elements, Nil, Block}
+use Rattle.meaning.specs.Found.{Act, Error, IllTyped, Found, ◌>>=◌, known}
 use Rattle.meaning.specs.Shapes.{stored_among, kept_as}
 use Rattle.meaning.specs.Store.{Store, if_there, object_at, number_of}
 

@@ -1,6 +1,6 @@
 -- What the names and numbers in the units of a program lead to.
-use Rattle.std.specs.Prelude.{ℕ, zero, suc, ◌+◌, ◌%◌, ◌==◌, ◌&&◌, min, Bool, true, false, if◌then◌else◌, pos, negsuc, List, [], ◌∷◌, ◌++◌, length, map, slice_get, position, Option, Some, None, option_and_then, codes}
-use Rattle.std.specs.List.{list_any, flat_map}
+use Rattle.std.specs.Prelude.{ℕ, ◌+◌, ◌%◌, ◌==◌, ◌&&◌, min, Bool, false, if◌then◌else◌, pos, negsuc, List, [], ◌∷◌, ◌++◌, length, slice_get, position, Option, Some, None, option_and_then, codes}
+use Rattle.std.specs.List.{list_any}
 use Rattle.std.specs.Option.{option_map}
 use Rattle.type_layout.specs.declared.definitions.TypeId.{TypeId}
 use Rattle.type_layout.specs.declared.definitions.RoutineId.{RoutineId}
@@ -13,11 +13,10 @@ use Rattle.type_layout.specs.Words.{same_bytes}
 use Rattle.type_layout.specs.Table.{Table}
 use Rattle.type_layout.specs.Layouts.{size_of}
 use Rattle.typed_tree.specs.declared.units.Global.{Global}
-use Rattle.typed_tree.specs.declared.units.Routine.{Routine}
 use Rattle.typed_tree.specs.declared.units.Unit.{Unit as TypedUnit}
 use Rattle.typed_tree.specs.declared.units.Program.{Program}
-use Rattle.meaning.specs.Members.{members_of, members_in}
-use Rattle.meaning.specs.Slots.{method_at}
+use Rattle.object_vmt.specs.Members.{members_of, members_in}
+use Rattle.object_vmt.specs.Slots.{method_at}
 use Rattle.meaning.specs.Trees.{Key}
 
 -- ---- units

@@ -1,5 +1,5 @@
 -- The trees of new variables, and of those that begin with a value.
-use Rattle.std.specs.Prelude.{ℕ, zero, suc, ◌+◌, ◌*◌, ◌/◌, ◌%◌, ◌==◌, Bool, true, false, not, ◌&&◌, if◌then◌else◌, ℤ, pos, unsigned_abs, List, [], ◌∷◌, ◌++◌, map, take, drop, get_or, slice_get, Option, Some, None}
+use Rattle.std.specs.Prelude.{ℕ, zero, suc, ◌+◌, ◌*◌, ◌/◌, ◌%◌, ◌==◌, Bool, true, false, not, ◌&&◌, if◌then◌else◌, ℤ, unsigned_abs, List, [], ◌∷◌, ◌++◌, map, take, drop, get_or, Option, Some, None}
 use Rattle.std.specs.Option.{option_map}
 use Rattle.type_layout.specs.declared.definitions.TypeId.{TypeId}
 use Rattle.type_layout.specs.declared.definitions.Host.{Host}
@@ -13,7 +13,7 @@ use Rattle.values.specs.declared.ordinals.IntegerType.{IntegerType}
 use Rattle.values.specs.declared.ordinals.IntegerType.TheVariants as integer
 use Rattle.values.specs.Ordinals.{meant_by, kept}
 use Rattle.values.specs.Sets.{byte_of}
-use Rattle.meaning.specs.Trees.{Value, Ordinal, Elements, Class, Tree, Tip, Fork, unset, holding, chain, many}
+use Rattle.meaning.specs.Trees.{Ordinal, Elements, Class, Tree, Tip, Fork, unset, holding, chain, many}
 
 -- ---- ordinals
 

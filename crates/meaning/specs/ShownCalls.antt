@@ -1,7 +1,7 @@
 -- Examples of calls, frames, objects and the unit Overlay.
-use Rattle.std.specs.Prelude.{◌≡◌, ℕ, ◌+◌, ◌++◌, Bool, true, false, pos, negsuc, List, [], ◌∷◌, map, Option, Some, None, codes, Box}
+use Rattle.std.specs.Prelude.{◌≡◌, ℕ, ◌++◌, Bool, true, false, pos, List, [], ◌∷◌, map, Option, Some, None, codes, Box}
 use Rattle.std.proofs.Common.{Global as Heap}
-use Rattle.behaviour.specs.Seen.{Seen, Ended, Going, Undefined, Stopped}
+use Rattle.behaviour.specs.Seen.{Seen, Ended, Going, Undefined}
 use Rattle.type_layout.specs.declared.definitions.TypeId.{TypeId}
 use Rattle.type_layout.specs.declared.definitions.RoutineId.{RoutineId}
 use Rattle.type_layout.specs.declared.definitions.Param.{Param}
@@ -9,7 +9,6 @@ use Rattle.type_layout.specs.declared.definitions.Header.{Header}
 use Rattle.type_layout.specs.declared.definitions.Method.{Method}
 use Rattle.type_layout.specs.declared.definitions.Kind.{Kind}
 use Rattle.type_layout.specs.declared.definitions.Kind.TheVariants as kind
-use Rattle.type_layout.specs.declared.definitions.Host.TheVariants as host
 use Rattle.type_layout.specs.declared.definitions.TypeDef.{TypeDef}
 use Rattle.type_layout.specs.declared.definitions.TypeDef.TheVariants as type
 use Rattle.typed_tree.specs.declared.expressions.Value.TheVariants as constant
@@ -20,16 +19,15 @@ use Rattle.typed_tree.specs.declared.expressions.PlaceExpr.TheVariants as place
 use Rattle.typed_tree.specs.declared.expressions.Variable.{Variable}
 use Rattle.typed_tree.specs.declared.statements.Stmt.{Stmt}
 use Rattle.typed_tree.specs.declared.statements.Stmt.TheVariants as stmt
-use Rattle.typed_tree.specs.declared.units.Global.{Global}
 use Rattle.typed_tree.specs.declared.units.Routine.{Routine}
 use Rattle.typed_tree.specs.declared.units.Unit.{Unit as TypedUnit}
 use Rattle.typed_tree.specs.declared.units.Program.{Program}
-use Rattle.typed_tree.specs.Expressions.{Expression, Const, Load, Call, CallVirtual, CallThrough, RoutineValue, Make, Std, Deref, FieldOf, Var, Own, NoReceiver, Arguments, NoArguments, ByValue, ByPlace}
-use Rattle.typed_tree.specs.Statements.{Statement, Assign, CopyAll, Run}
+use Rattle.typed_tree.specs.Expressions.{Expression, Load, Call, CallVirtual, CallThrough, RoutineValue, Make, Std, Deref, FieldOf, Var, Own, NoReceiver, NoArguments, ByValue, ByPlace}
+use Rattle.typed_tree.specs.declared.statements.Destructor.TheVariants as destructor
+use Rattle.typed_tree.specs.Statements.{Statement, Assign, CopyAll, Run, Unmake}
 use Rattle.meaning.specs.Calls.{Do}
-use Rattle.meaning.specs.Activations.{Activation}
-use Rattle.meaning.specs.Meaning.{run, start_state}
-use Rattle.meaning.specs.Examples.{types, integer, boolean, id, global, seen, ends, error_line, var, load, int, number, chars, write, block, gives}
+use Rattle.meaning.specs.Meaning.{run, start_state, mean}
+use Rattle.meaning.specs.Examples.{types, integer, id, global, seen, ends, error_line, var, load, int, number, on, chars, write, block, gives}
 
 abbrev pub Boxed : Type 0
 Boxed = Box (Unit {0}) Heap
@@ -46,7 +44,7 @@ method name kind result is_virtual number = record { name = name; header = heade
 abbrev pub all_types : List TypeDef
 all_types = types ++ (
     type.ObjectOf None true ((record { name = codes "N"; ty = integer }) ∷ [])
-        (method (codes "INIT") kind.Constructor None false 3 ∷ method (codes "V") kind.Function (Some integer) true 4 ∷ [])
+    (method (codes "INIT") kind.Constructor None false 3 ∷ method (codes "V") kind.Function (Some integer) true 4 ∷ [])
     ∷ type.ObjectOf (Some (id 13)) false ((record { name = codes "M"; ty = integer }) ∷ []) (method (codes "V") kind.Function (Some integer) true 5 ∷ [])
     ∷ type.PointerTo (id 13)
     ∷ type.PointerTo (id 14)
@@ -89,6 +87,16 @@ routines b =
     ∷ routine kind.Function [] (Some integer) (Some (id 13)) (stmt.Assign (place.Var (local 1)) (expr.Const integer (constant.Number (pos 1))))
     -- 5: function U.V: 2
     ∷ routine kind.Function [] (Some integer) (Some (id 14)) (stmt.Assign (place.Var (local 1)) (expr.Const integer (constant.Number (pos 2))))
+    -- 6: procedure (a, b)
+    ∷ routine kind.Procedure (param false ∷ param false ∷ []) None None stmt.Exit
+    -- 7: destructor T.Done
+    ∷ routine kind.Destructor [] None (Some (id 13)) stmt.Exit
+    -- 8: a procedure with a variable, and 9: one inside it that makes the variable 6
+    ∷ record (routine kind.Procedure [] None None stmt.Exit) { locals = integer ∷ [] }
+    ∷ record (routine kind.Procedure [] None None (stmt.Assign (place.Var (record { unit = 0; level = 2; number = 0 })) (expr.Const integer (constant.Number (pos 6))))) { outer = Some 8 }
+    -- 10: an initialisation part that makes a global 5, and 11: a main part that ends with it
+    ∷ routine kind.Procedure [] None None (stmt.Assign (place.Var (record { unit = 0; level = 0; number = 0 })) (expr.Const integer (constant.Number (pos 5))))
+    ∷ routine kind.Procedure [] None None (stmt.Halt (expr.Load' integer b (place.Var (record { unit = 1; level = 0; number = 0 }))))
     ∷ []
 
 -- ---- a program
@@ -193,6 +201,37 @@ making b = shown b (id 15 ∷ []) (block (
     ∷ Run (Std None 25 (ByValue (load (id 15) 0) NoArguments))
     ∷ [])) 2
 
+-- Dispose(p, Done) frees the size of the class that the instance has, which New(P, Init) gave it, and not that of p's type
+abbrev pub unmaking : Boxed → Statement → Seen
+unmaking b make = shown b (id 15 ∷ []) (block (
+    make
+    ∷ Unmake (load (id 15) 0) (destructor.Routine (routine_id 7)) NoArguments
+    ∷ write (chars (codes "d") ∷ [])
+    ∷ Assign (FieldOf (Deref (load (id 15) 0)) 0) (number (pos 1))
+    ∷ [])) 2
+
+-- ---- order
+
+-- P(1 div 0, i), where i is unset: the first argument comes first
+abbrev pub arguments : Boxed → Seen
+arguments b = shown b (integer ∷ []) (Run (Call None (routine_id 6) NoReceiver (ByValue (on two.Divide (number (pos 1)) (number (pos 0))) (ByValue (int 0) NoArguments)))) 1
+
+-- a procedure is called from the one round it, whose variable is global 0 here
+abbrev pub nested : Boxed → Seen
+nested b =
+    let unit = unit_with b (integer ∷ []) in
+    let outer = record (routine kind.Procedure [] None None stmt.Exit) { locals = integer ∷ [] } in
+    seen (run (record { units = unit ∷ []; start = 0 }) (Do (block (Run (Call None (routine_id 9) NoReceiver NoArguments) ∷ write (int 0 ∷ []) ∷ [])))
+    (record { unit = unit; levels = (record { number = 8; routine = outer; first = 1 }) ∷ []; withs = []; sum = 0 })
+    (start_state (record { units = unit ∷ []; start = 0 }) [] 1))
+
+-- unit A begins before the program C
+abbrev pub starting : Boxed → List (List ℕ) → Seen
+starting b overlaid =
+    let a = record (unit_with b (integer ∷ [])) { initial = Some 10 } in
+    let c = record (unit_with b []) { name = codes "C"; names = codes "C" ∷ codes "A" ∷ []; initial = Some 11; overlaid = overlaid } in
+    mean (record { units = a ∷ c ∷ []; start = 1 }) [] 0
+
 -- ---- the unit Overlay
 
 abbrev pub init_overlay : List ℕ → Statement
@@ -219,5 +258,11 @@ pub record CallExamples (b : Boxed) : Type 0 where
   pub classless : classless b ≡ ends (Undefined 4) [] []
   pub assigning : assigning b ≡ ends (Ended 0) (codes "19") []
   pub making : making b ≡ ends (Undefined 5) (codes "2") []
+  pub unmade : unmaking b (Assign (var 0) (Make (id 16) (routine_id 3) NoArguments)) ≡ ends (Undefined 2) (codes "d") []
+  pub unmaking : unmaking b (Run (Std None 24 (ByPlace (var 0) NoArguments))) ≡ ends (Undefined 1) [] []
+  pub arguments : arguments b ≡ ends (Ended 200) [] (error_line (codes "200"))
+  pub nested : nested b ≡ ends (Ended 0) (codes "6") []
+  pub not_started : starting b (codes "A" ∷ []) ≡ ends (Ended 208) [] (error_line (codes "208"))
+  pub starting : starting b [] ≡ ends (Ended 5) [] []
   pub installed : overlaid_call b (init_overlay (codes "b.ovr") ∷ []) ≡ ends (Ended 0) (codes "06") []
   pub not_installed : overlaid_call b (init_overlay (codes "NO.OVR") ∷ []) ≡ ends (Ended 208) (codes "-2") (error_line (codes "208"))

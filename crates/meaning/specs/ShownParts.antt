@@ -1,11 +1,11 @@
 -- Examples of strings, sets, arrays, records, pointers, input and output.
-use Rattle.std.specs.Prelude.{◌≡◌, ℕ, ◌++◌, true, false, pos, negsuc, List, [], ◌∷◌, Some, None, codes}
-use Rattle.behaviour.specs.Seen.{Seen, Ended, Going, Undefined, Stopped}
+use Rattle.std.specs.Prelude.{◌≡◌, ℕ, ◌++◌, true, false, pos, List, [], ◌∷◌, codes}
+use Rattle.behaviour.specs.Seen.{Seen, Ended, Undefined}
 use Rattle.typed_tree.specs.declared.expressions.Value.TheVariants as constant
 use Rattle.typed_tree.specs.declared.expressions.BinaryOp.TheVariants as two
-use Rattle.typed_tree.specs.Expressions.{Expression, Const, Load, Binary, SetOf, Place, Index, FieldOf, Deref, NoElements, One, Span, Arguments, NoArguments, ByValue, ByPlace, Var}
-use Rattle.typed_tree.specs.Statements.{Statement, Assign, CopyAll, Run, For, With, WriteItems, ReadItems}
-use Rattle.meaning.specs.Examples.{integer, boolean, id, shown, ends, error_line, variable, var, load, int, number, on, chars, item, wide, write, block, call, gives, truth_of}
+use Rattle.typed_tree.specs.Expressions.{Expression, Const, Load, Binary, SetOf, Index, FieldOf, Deref, NoElements, One, Span, NoArguments, ByValue, ByPlace, Var}
+use Rattle.typed_tree.specs.Statements.{Statement, Assign, CopyAll, Run, With, WriteItems, ReadItems}
+use Rattle.meaning.specs.Examples.{integer, boolean, id, shown, ends, error_line, var, load, int, number, on, chars, item, wide, write, block, call, gives, truth_of}
 
 -- ---- strings
 
@@ -45,9 +45,9 @@ editing = shown (id 3 ∷ []) (block (
     ∷ Run (call 16 (ByPlace (var 0) (ByValue (number (pos 2)) (ByValue (number (pos 2)) NoArguments))))
     ∷ Run (call 17 (ByValue (chars (codes "xy")) (ByPlace (var 0) (ByValue (number (pos 2)) NoArguments))))
     ∷ write (load (id 3) 0 ∷ chars (codes " ")
-        ∷ gives integer 19 (ByValue (chars (codes "yd")) (ByValue (load (id 3) 0) NoArguments)) ∷ chars (codes " ")
-        ∷ gives (id 3) 15 (ByValue (load (id 3) 0) (ByValue (number (pos 2)) (ByValue (number (pos 9)) NoArguments))) ∷ chars (codes " ")
-        ∷ gives integer 14 (ByValue (load (id 3) 0) NoArguments) ∷ [])
+    ∷ gives integer 19 (ByValue (chars (codes "yd")) (ByValue (load (id 3) 0) NoArguments)) ∷ chars (codes " ")
+    ∷ gives (id 3) 15 (ByValue (load (id 3) 0) (ByValue (number (pos 2)) (ByValue (number (pos 9)) NoArguments))) ∷ chars (codes " ")
+    ∷ gives integer 14 (ByValue (load (id 3) 0) NoArguments) ∷ [])
     ∷ [])) [] 0
 
 -- Val('12x', i, c); Write(c, ' ', 'ab':4, '|', 'abc':2)

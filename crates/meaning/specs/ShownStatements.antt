@@ -1,11 +1,11 @@
 -- Examples of ordinals, operators and statements.
-use Rattle.std.specs.Prelude.{◌≡◌, ℕ, ◌++◌, true, false, pos, negsuc, List, [], ◌∷◌, Some, None, codes}
+use Rattle.std.specs.Prelude.{◌≡◌, ℕ, true, false, pos, negsuc, [], ◌∷◌, codes}
 use Rattle.behaviour.specs.Seen.{Seen, Ended, Going, Undefined, Stopped}
 use Rattle.typed_tree.specs.declared.expressions.Value.TheVariants as constant
 use Rattle.typed_tree.specs.declared.expressions.UnaryOp.TheVariants as one
 use Rattle.typed_tree.specs.declared.expressions.BinaryOp.TheVariants as two
-use Rattle.typed_tree.specs.Expressions.{Const, Load, Unary, Binary, Convert, Range}
-use Rattle.typed_tree.specs.Statements.{Statement, Assign, If, While, Repeat, Case, For, Halt, Exit, NoArms, Branch}
+use Rattle.typed_tree.specs.Expressions.{Const, Unary, Binary, Convert, Range}
+use Rattle.typed_tree.specs.Statements.{Assign, While, Repeat, Case, For, Halt, Exit, NoArms, Branch}
 use Rattle.meaning.specs.Examples.{integer, boolean, id, shown, ends, error_line, variable, var, load, int, number, on, chars, write, block, truth_of}
 
 -- i := -7; Write(i div 2, ' ', i mod 2); i := -32768; Write(' ', i div -1)

@@ -1,13 +1,10 @@
 -- The standard routines.
-use Rattle.std.specs.Prelude.{ℕ, zero, suc, option_and_then, ◌+◌, ◌%◌, ◌==◌, nat_lt, Bool, true, false, if◌then◌else◌, ℤ, pos, negsuc, ◌+ℤ◌, ◌-ℤ◌, ◌*ℤ◌, neg_ℤ, unsigned_abs, List, [], ◌∷◌, ◌++◌, length, slice_get, Option, Some, None, Ok, Err}
-use Rattle.std.specs.Option.{option_map_or}
+use Rattle.std.specs.Prelude.{ℕ, option_and_then, ◌%◌, ◌==◌, nat_lt, if◌then◌else◌, ℤ, pos, negsuc, ◌+ℤ◌, ◌-ℤ◌, ◌*ℤ◌, neg_ℤ, unsigned_abs, List, [], ◌∷◌, ◌++◌, length, slice_get, Option, Some, None, Ok, Err}
 use Rattle.integers.specs.Words.{w8, w16, word_of, low_byte, high_byte, word_from_bytes}
-use Rattle.type_layout.specs.declared.definitions.TypeId.{TypeId}
 use Rattle.type_layout.specs.declared.definitions.Host.{Host}
 use Rattle.type_layout.specs.declared.definitions.Host.TheVariants as host
 use Rattle.type_layout.specs.declared.definitions.TypeDef.{TypeDef}
 use Rattle.type_layout.specs.declared.definitions.TypeDef.TheVariants as type
-use Rattle.type_layout.specs.Storage.{storage_of}
 use Rattle.typed_tree.specs.declared.units.Program.{Program}
 use Rattle.values.specs.Strings.{longest, copied, deleted, inserted, joined, position_of, upper}
 use Rattle.values.specs.Numerals.{val_of}
@@ -15,10 +12,10 @@ use Rattle.values.specs.Written.{padded, integer_text, boolean_text}
 use Rattle.values.specs.Input.{is_eof, is_eoln}
 use Rattle.values.specs.Blocks.{rounded, block_sum, with_block}
 use Rattle.well_formed.specs.Fits.{stored_as}
-use Rattle.meaning.specs.Trees.{Key, Value, Ordinal, Text, Elements, Nil, Block, Code, Class, At, Void}
-use Rattle.meaning.specs.Found.{Trap, Act, Error, IllTyped, Found, ◌>>=◌, known}
+use Rattle.meaning.specs.Trees.{Key, Value, Ordinal, Text, Nil, Block, At}
+use Rattle.meaning.specs.Found.{Act, Error, IllTyped, Found, ◌>>=◌, known}
 use Rattle.meaning.specs.Shapes.{new_tree, kept_as, parts_at, class_place}
-use Rattle.meaning.specs.Store.{Store, next_serial, with_new, value_at, text_at, number_of, bytes_of, disposed}
+use Rattle.meaning.specs.Store.{Store, next_serial, text_at, number_of, bytes_of, disposed}
 use Rattle.meaning.specs.Programs.{Sort, definition, beside, size_in, heap_of, class_size}
 use Rattle.meaning.specs.Operators.{truth, truth_number, is_true}
 use Rattle.meaning.specs.Activations.{Reached, assigned, class_at, number_in}

@@ -1,10 +1,9 @@
 -- What statements mean.
-use Rattle.std.specs.Prelude.{ℕ, zero, suc, ◌+◌, ◌&&◌, Bool, true, false, if◌then◌else◌, ℤ, pos, negsuc, ◌+ℤ◌, int_lt, List, [], ◌∷◌, ◌++◌, map, Option, Some, None, Ok, Err}
+use Rattle.std.specs.Prelude.{ℕ, Bool, true, false, if◌then◌else◌, ℤ, pos, negsuc, ◌+ℤ◌, int_lt, List, [], ◌∷◌, ◌++◌, map, Option, Some, None, Err}
 use Rattle.std.specs.List.{list_any}
 use Rattle.std.specs.Ordering.{int_eq}
 use Rattle.behaviour.specs.Seen.{Ended}
 use Rattle.integers.specs.Words.{w8, word_of}
-use Rattle.type_layout.specs.declared.definitions.TypeId.{TypeId}
 use Rattle.type_layout.specs.declared.definitions.Host.{Host}
 use Rattle.type_layout.specs.declared.definitions.Host.TheVariants as host
 use Rattle.type_layout.specs.declared.definitions.TypeDef.{TypeDef}
@@ -20,10 +19,10 @@ use Rattle.typed_tree.specs.Statements.{Written, Taken, Statement, Assign, CopyA
 use Rattle.values.specs.Written.{line_end}
 use Rattle.values.specs.Input.{char_read, string_read, number_read, after_line}
 use Rattle.meaning.specs.Trees.{Key, Value, Ordinal, Text, Nil, unset}
-use Rattle.meaning.specs.Found.{Found, Act, Error, IllTyped}
+use Rattle.meaning.specs.Found.{Found, Error}
 use Rattle.meaning.specs.Store.{Store, followed, number_of, replaced, disposed}
-use Rattle.meaning.specs.Programs.{Sort, definition, sort_in, routine_key}
-use Rattle.meaning.specs.Outcomes.{State, Outcome, Over, Does, ◌>>=◌, ◌>>◌, give, raised, stuck, found, known, spending, looked, changed, printed, taking}
+use Rattle.meaning.specs.Programs.{definition, sort_in, routine_key}
+use Rattle.meaning.specs.Outcomes.{Over, Does, ◌>>=◌, ◌>>◌, give, raised, stuck, found, known, spending, looked, changed, printed, taking}
 use Rattle.meaning.specs.Operators.{is_true, within, is_between}
 use Rattle.meaning.specs.Activations.{Reached, Activation, whole, variable_at, assigned, copied, number_in}
 use Rattle.meaning.specs.Calls.{Flow, Next, Left, Task, Do, Turns, Runs, entered, is_range_checked, method_of}
@@ -148,7 +147,7 @@ turned program again f variable last down body = do
   at ← counter program f variable
   z ← looked (number_in at)
   chosen (int_eq z last) (counted program f variable)
-    (changed (number_assigned at (z +ℤ step down)) >> again (Turns variable last down body) f)
+      (changed (number_assigned at (z +ℤ step down)) >> again (Turns variable last down body) f)
 
 -- a turn of a `for`, whose body does this
 abbrev pub turn : Program → Runs → Activation → Variable → ℤ → Bool → Statement → Does Flow → Does Flow

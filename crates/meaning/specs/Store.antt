@@ -1,5 +1,5 @@
 -- The store: objects, which are globals, variables of live activations, and blocks of the heap.
-use Rattle.std.specs.Prelude.{ℕ, zero, suc, ◌+◌, ◌==◌, nat_le, if◌then◌else◌, ℤ, pos, List, [], ◌∷◌, ◌++◌, length, take, slice_get, slice_set, Option, Some, None, Result, Ok, Err}
+use Rattle.std.specs.Prelude.{ℕ, zero, suc, ◌+◌, ◌==◌, nat_le, if◌then◌else◌, ℤ, pos, List, [], ◌∷◌, ◌++◌, length, take, slice_get, slice_set, Option, Some, None, Ok, Err}
 use Rattle.std.specs.Option.{option_flatten}
 use Rattle.type_layout.specs.declared.definitions.TypeId.{TypeId}
 use Rattle.type_layout.specs.declared.definitions.TypeDef.{TypeDef}
@@ -9,8 +9,8 @@ use Rattle.std.specs.Prelude.{unsigned_abs}
 use Rattle.values.specs.declared.blocks.Row.{Row}
 use Rattle.values.specs.Blocks.{rounded, without_block}
 use Rattle.values.specs.Sets.{assigned}
-use Rattle.meaning.specs.Trees.{Key, Spot, Value, Ordinal, Text, Elements, Nil, Block, Code, Class, At, Void, Tree, Leaf, Tip, Fork, holding, part_count, part_at, with_part}
-use Rattle.meaning.specs.Found.{Trap, Act, Error, IllTyped, Found, ◌>>=◌, known}
+use Rattle.meaning.specs.Trees.{Key, Spot, Value, Ordinal, Text, Elements, Nil, Block, Code, Class, At, Tree, Leaf, Tip, Fork, holding, part_count, part_at, with_part}
+use Rattle.meaning.specs.Found.{Act, IllTyped, Found, ◌>>=◌, known}
 use Rattle.meaning.specs.Shapes.{Part, FieldPart, ClassPart, parts_at}
 
 -- what an object holds, and the bytes by which it was made
