@@ -5,3 +5,4 @@ pub mod Shown
 pub mod Stores
 pub mod Numbers
 pub mod Steps
+pub mod Loops

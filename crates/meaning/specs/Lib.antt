@@ -12,6 +12,7 @@ pub mod Expressions
 pub mod Statements
 pub mod Meaning
 pub mod Laws
+pub mod ForLaws
 pub mod Examples
 pub mod ShownStatements
 pub mod ShownParts

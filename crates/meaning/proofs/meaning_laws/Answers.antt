@@ -2,6 +2,7 @@ use Rattle.meaning.proofs.Bodies.{mean-IsRun}
 use Rattle.meaning.proofs.Steps.{run_laws}
 use Rattle.meaning.proofs.Stores.{store_laws, text_laws, heap_laws}
 use Rattle.meaning.proofs.Numbers.{whole_number_laws}
+use Rattle.meaning.proofs.Loops.{for_laws}
 use Rattle.meaning.proofs.Shown.{statement_examples, part_examples, call_examples}
 use Rattle.meaning.proofs.meaning_laws.Goals as goal
 
@@ -31,3 +32,6 @@ returns-clause-parts c = part_examples
 
 pub returns-clause-calls : goal.returns-clause-calls
 returns-clause-calls c = call_examples
+
+pub returns-clause-for_loops : goal.returns-clause-for_loops
+returns-clause-for_loops c = for_laws
