@@ -53,7 +53,7 @@ pub entered-in : (e : Environment) (rest blocks : List OpenBlock) (block : OpenB
     → (let new : Environment = record e { blocks = blocks } in new) ≡ cond is_new (with_name e name entry) e
 entered-in e rest blocks block symbols name entry true is now entered =
     let last : with_own (innermost e.blocks) name entry ≡ (record { kind = block.kind; symbols = block.symbols ++ (name, entry) ∷ [] }) ∷ [] =
-        ap (λ (o : Option OpenBlock). with_own o name entry) (innermost-of e.blocks rest block is) in
+    ap (λ (o : Option OpenBlock). with_own o name entry) (innermost-of e.blocks rest block is) in
     let these : blocks ≡ outer e.blocks ++ with_own (innermost e.blocks) name entry = rw (now, entered, last, ← outer-of e.blocks rest block is) refl in
     ap (λ (b : List OpenBlock). (let new : Environment = record e { blocks = b } in new)) these
 entered-in e rest blocks block symbols name entry false is now entered =

@@ -1,5 +1,5 @@
 -- A table that was grown stays so as it grows.
-use Rattle.std.proofs.Common.{◌≡◌, ℕ, zero, suc, ◌+◌, ◌<◌, ◌≤◌, List, [], ◌∷◌, ◌++◌, length, get_or, take, Option, Some, None, cond, refl, arith, sym, ap, subst, ◌∙◌, append_assoc, length-append, append-nil, add-one}
+use Rattle.std.proofs.Common.{◌≡◌, ℕ, zero, suc, ◌+◌, ◌<◌, ◌≤◌, List, [], ◌∷◌, ◌++◌, length, get_or, take, Option, Some, None, refl, arith, sym, ap, subst, ◌∙◌, length-append, append-nil}
 use Rattle.std.specs.Prelude.{Result, Ok, Err, IfOk, OnErr, All, slice_get, position}
 use Rattle.std.proofs.lemmas.List.Elements.{All-push, All-weaker}
 use Rattle.std.proofs.lemmas.List.{get_or_append_left, take_all}
@@ -101,7 +101,7 @@ additions-with_type table origin number one h =
     let o : Origin = record { unit = place_of table.units origin; number = number } in
     let pushed = additions_in-push (with_unit table.units origin) table.types table.origins one o h.paired in
     let more : additions_in (with_unit table.units origin) table.types table.origins ≡ additions_in table.units table.types table.origins =
-        rw p.grows (additions_in-more table.units p.more table.types table.origins h.known) in
+    rw p.grows (additions_in-more table.units p.more table.types table.origins h.known) in
     pushed ∙ ap (λ (l : List Addition). l ++ addition_of (with_unit table.units origin) one o ∷ []) more
     ∙ ap (λ (n : List ℕ). additions table ++ (let a : Addition = record { origin = n; number = number; one = one } in a) ∷ []) p.named
 

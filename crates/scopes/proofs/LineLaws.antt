@@ -1,13 +1,13 @@
 -- In a well-formed table a line ends within as many types as there are.
-use Rattle.std.proofs.Common.{◌≡◌, ℕ, zero, suc, ◌+◌, ◌<◌, ◌≤◌, List, [], ◌∷◌, ◌++◌, length, Option, Some, None, refl, arith, sym, ap, ◌∙◌, length-append}
+use Rattle.std.proofs.Common.{◌≡◌, ℕ, zero, suc, ◌+◌, ◌<◌, ◌≤◌, List, [], ◌∷◌, ◌++◌, length, Option, Some, None, refl, arith, ap, ◌∙◌, length-append}
 use Rattle.std.specs.Prelude.{slice_get}
 use Rattle.type_layout.specs.declared.definitions.TypeId.{TypeId}
 use Rattle.type_layout.specs.declared.definitions.TypeDef.{TypeDef}
 use Rattle.type_layout.specs.declared.definitions.TypeDef.TheVariants.{Ordinal, Str, SetOf, ArrayOf, RecordOf, PointerTo, ObjectOf, Procedural}
 use Rattle.type_layout.specs.Table.{Table, IsWellFormed, IsObject, IsDefinedOver, AllDefined}
 use Rattle.scopes.specs.declared.members.Member.{Member}
-use Rattle.scopes.specs.Members.{first_of, definition, parent_of, own_fields, own_member, fields_within, member_within, member_of}
-use Rattle.scopes.specs.Lines.{fields_of, IsLineSearch}
+use Rattle.scopes.specs.Members.{first_of, parent_of, own_fields, own_member, fields_within, member_within}
+use Rattle.scopes.specs.Lines.{IsLineSearch}
 
 object-below : (types : List TypeDef) (place : ℕ) → IsObject (slice_get types place) → place < length types
 object-below [] zero object = absurd object
@@ -140,7 +140,7 @@ member-next types name h (suc room) ty one at below =
     let b = parent-within types h ty one room at (omega arith) in
     let w = parent-within types h ty one (suc room) at (omega arith) in
     rw at (member-parts types name room (suc room) ty one (fields-stable types h room (suc room) (parent_of (Some one)) b w)
-        (member-stable types name h room (suc room) (parent_of (Some one)) b w))
+    (member-stable types name h room (suc room) (parent_of (Some one)) b w))
 
 pub line_search : (table : Table) → IsWellFormed table → IsLineSearch table.types
 line_search table well =

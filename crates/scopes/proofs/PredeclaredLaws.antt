@@ -1,8 +1,8 @@
 -- The predeclared types can be added one after the other.
-use Rattle.std.proofs.Common.{◌≡◌, ℕ, zero, suc, ◌+◌, List, [], ◌∷◌, Option, Some, None, refl, arith, sym, ap, ◌∙◌, rules}
+use Rattle.std.proofs.Common.{◌≡◌, ℕ, zero, suc, ◌+◌, List, [], ◌∷◌, Some, refl, arith, ap, ◌∙◌, rules}
 use Rattle.std.specs.Prelude.{slice_get}
 use Rattle.type_layout.specs.declared.definitions.TypeDef.{TypeDef}
-use Rattle.scopes.specs.Growth.{Addition, empty, grown, AreAddable, IsGrown}
+use Rattle.scopes.specs.Growth.{Addition, empty, AreAddable, IsGrown}
 use Rattle.scopes.specs.Predeclared.{system, type_list, of_system, type_table}
 use Rattle.scopes.proofs.GrowthLaws.{grown-all, grown-empty}
 

@@ -1,12 +1,12 @@
 -- Tables of names as they are copied.
-use Rattle.std.proofs.Common.{◌≡◌, ℕ, zero, suc, ◌+◌, Bool, true, false, cond, not, List, [], ◌∷◌, ◌++◌, take, Option, Some, None, is_some, refl, arith, sym, ap, ◌∙◌}
+use Rattle.std.proofs.Common.{◌≡◌, ℕ, zero, suc, Bool, true, false, List, [], ◌∷◌, take, Option, Some, None, is_some, refl, sym}
 use Rattle.std.specs.Prelude.{slice_get}
 use Rattle.std.specs.List.{AllByRecursion, IsDistinct}
-use Rattle.std.specs.Map.{lookup, keys_of}
+use Rattle.std.specs.Map.{keys_of}
 use Rattle.std.specs.Cmp.Lexicographic.{bytes_decides}
 use Rattle.type_layout.specs.Words.{same_bytes}
 use Rattle.scopes.specs.declared.entries.Entry.{Entry}
-use Rattle.scopes.specs.Symbols.{SymbolList, entry_of, has}
+use Rattle.scopes.specs.Symbols.{SymbolList, entry_of}
 
 other_way : (a b : List ℕ) → same_bytes a b ≡ false → same_bytes b a ≡ false
 other_way a b differ = by (same_bytes b a) refl

@@ -1,5 +1,5 @@
 -- Members of records and objects, by their names.
-use Rattle.std.specs.Prelude.{◌≡◌, ℕ, zero, suc, ◌+◌, ◌<◌, min, false, true, List, Option, Some, None, length, slice_get, position, option_map}
+use Rattle.std.specs.Prelude.{ℕ, zero, suc, ◌+◌, min, false, true, List, Option, Some, None, length, slice_get, position, option_map}
 use Rattle.type_layout.specs.declared.definitions.TypeId.{TypeId}
 use Rattle.type_layout.specs.declared.definitions.Field.{Field}
 use Rattle.type_layout.specs.declared.definitions.Method.{Method}

@@ -1,5 +1,5 @@
 -- What is known without a declaration.
-use Rattle.std.specs.Prelude.{ℕ, ◌+◌, pos, negsuc, ℤ, Bool, ◌&&◌, not, cond, codes, List, [], ◌∷◌, ◌++◌}
+use Rattle.std.specs.Prelude.{ℕ, ◌+◌, pos, ℤ, ◌&&◌, not, cond, codes, List, [], ◌∷◌, ◌++◌}
 use Rattle.type_layout.specs.declared.definitions.TypeId.{TypeId}
 use Rattle.type_layout.specs.declared.definitions.Host.{Host}
 use Rattle.type_layout.specs.declared.definitions.Host.TheVariants as host

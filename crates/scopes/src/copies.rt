@@ -34,7 +34,10 @@ pub(crate) fn copied_tables(alloc: Global, tables: &[Symbols]) -> Result<Tables,
 }
 
 /// A copy of open blocks.
-pub(crate) fn copied_blocks(alloc: Global, blocks: &[OpenBlock]) -> Result<Vec<OpenBlock>, AllocError>
+pub(crate) fn copied_blocks(
+    alloc: Global,
+    blocks: &[OpenBlock],
+) -> Result<Vec<OpenBlock>, AllocError>
     ensures { IfOk result (λ copy. copy.items ≡ blocks.now) }
 {
     let mut copy = Sequence::new(alloc);

@@ -45,7 +45,7 @@ pub enum BlockKind {
 /// What a search finds, and in which block: 0 is that of the predeclared names, then come the used units in order of
 /// the clauses, then the open blocks from the outermost. The number of a field counts those of the ancestors first,
 /// that of a method counts those of `class` alone.
-#[derive(Debug)]
+#[derive(Debug, Drop)]
 pub enum Found<'a> {
     Named {
         block: u32,

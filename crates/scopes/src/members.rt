@@ -91,9 +91,13 @@ fn own_member(before: u32, class: TypeId, one: Option<&TypeDef>, name: &Name) ->
 {
     match one {
         Some(TypeDef::RecordOf { fields }) => field_of(0, class, fields.as_slice(), name),
-        Some(TypeDef::ObjectOf {
-            fields, methods, ..
-        }) => match field_of(before, class, fields.as_slice(), name) {
+        Some(
+            TypeDef::ObjectOf {
+                fields,
+                methods,
+                ..
+            },
+        ) => match field_of(before, class, fields.as_slice(), name) {
             Some(member) => Some(member),
             None => method_of(class, methods.as_slice(), name),
         },

@@ -12,17 +12,25 @@ use typed_tree::Value;
 /// The predeclared types, by their ids in the table of each scope. Their origins are in the unit SYSTEM, with the same
 /// numbers.
 pub const SHORT_INT: TypeId = TypeId(0);
+
 pub const BYTE: TypeId = TypeId(1);
+
 pub const INTEGER: TypeId = TypeId(2);
+
 pub const WORD: TypeId = TypeId(3);
+
 pub const LONG_INT: TypeId = TypeId(4);
+
 pub const CHAR: TypeId = TypeId(5);
+
 pub const BOOLEAN: TypeId = TypeId(6);
 /// `string`, the texts of at most 255 bytes.
 pub const STRING: TypeId = TypeId(7);
 /// The sets of 0..255, of Char and of Boolean.
 pub const SET_OF_BYTE: TypeId = TypeId(8);
+
 pub const SET_OF_CHAR: TypeId = TypeId(9);
+
 pub const SET_OF_BOOLEAN: TypeId = TypeId(10);
 
 // How many types are predeclared.
@@ -41,38 +49,10 @@ const TYPE_NAMES: [&[u8]; 7] = [
 
 // The standard routines, by their numbers.
 const STANDARD: [&[u8]; 32] = [
-    b"ABS",
-    b"SQR",
-    b"ODD",
-    b"ORD",
-    b"CHR",
-    b"SUCC",
-    b"PRED",
-    b"INC",
-    b"DEC",
-    b"HI",
-    b"LO",
-    b"SWAP",
-    b"SIZEOF",
-    b"UPCASE",
-    b"LENGTH",
-    b"COPY",
-    b"DELETE",
-    b"INSERT",
-    b"CONCAT",
-    b"POS",
-    b"STR",
-    b"VAL",
-    b"WRITE",
-    b"WRITELN",
-    b"READ",
-    b"READLN",
-    b"EOF",
-    b"EOLN",
-    b"NEW",
-    b"DISPOSE",
-    b"HALT",
-    b"EXIT",
+    b"ABS", b"SQR", b"ODD", b"ORD", b"CHR", b"SUCC", b"PRED", b"INC", b"DEC", b"HI", b"LO",
+    b"SWAP", b"SIZEOF", b"UPCASE", b"LENGTH", b"COPY", b"DELETE", b"INSERT", b"CONCAT", b"POS",
+    b"STR", b"VAL", b"WRITE", b"WRITELN", b"READ", b"READLN", b"EOF", b"EOLN", b"NEW", b"DISPOSE",
+    b"HALT", b"EXIT",
 ];
 
 fn system() -> Name

@@ -37,12 +37,7 @@ pub(crate) fn in_symbols<'a>(number: u32, symbols: &'a Symbols, name: &Name) -> 
     }
 }
 
-fn in_block<'a>(
-    types: &Types,
-    number: u32,
-    block: &'a OpenBlock,
-    name: &Name,
-) -> Option<Found<'a>>
+fn in_block<'a>(types: &Types, number: u32, block: &'a OpenBlock, name: &Name) -> Option<Found<'a>>
     ensures { option_map shown result ≡ in_block types.now.types number block.now name.now }
 {
     if let Some(found) = in_symbols(number, &block.symbols, name) {
@@ -79,11 +74,7 @@ pub(crate) fn in_blocks<'a>(
 }
 
 /// The names of these units, which are numbered from a number on: the last one that has the name.
-pub(crate) fn in_units<'a>(
-    number: u32,
-    units: &'a [Symbols],
-    name: &Name,
-) -> Option<Found<'a>>
+pub(crate) fn in_units<'a>(number: u32, units: &'a [Symbols], name: &Name) -> Option<Found<'a>>
     requires { number + length units.now < 2 ^ 32 }
     ensures { option_map shown result ≡ in_units number units.now name.now }
 {

@@ -135,12 +135,14 @@ fn told(scope: &Scope, name: &[u8]) -> (u32, u8, u32) {
     };
     match scope.find(&name) {
         None => (0, b'-', 0),
-        Some(Found::Member {
-            block,
-            number,
-            method,
-            ..
-        }) => (block, if method { b'm' } else { b'f' }, number),
+        Some(
+            Found::Member {
+                block,
+                number,
+                method,
+                ..
+            },
+        ) => (block, if method { b'm' } else { b'f' }, number),
         Some(Found::Named { block, entry }) => match entry {
             Entry::Var { number, .. } => (block, b'v', *number),
             Entry::Std { number } => (block, b's', *number),
@@ -152,7 +154,8 @@ fn told(scope: &Scope, name: &[u8]) -> (u32, u8, u32) {
 }
 
 fn are_told(scope: &Scope, rows: &[(&[u8], (u32, u8, u32))]) -> bool {
-    rows.iter().all(|(name, wanted)| told(scope, name) == *wanted)
+    rows.iter()
+        .all(|(name, wanted)| told(scope, name) == *wanted)
 }
 
 // Two used units, then the unit itself with two variables.
@@ -207,7 +210,12 @@ fn blocks_hide(alloc: Global) -> Result<bool, AllocError> {
     let ancestor = add_object(alloc, &mut scope, None, &[b"X", b"Y"], &[b"RUN"])?;
     let class = add_object(alloc, &mut scope, Some(ancestor), &[b"Z"], &[b"GO", b"RUN"])?;
     let owner = Some(class);
-    open(&mut scope, BlockKind::Routine { number: 0, owner }, 30, &[b"A", b"Y"])?;
+    open(
+        &mut scope,
+        BlockKind::Routine { number: 0, owner },
+        30,
+        &[b"A", b"Y"],
+    )?;
     open(
         &mut scope,
         BlockKind::Routine {
@@ -282,13 +290,15 @@ fn counts(alloc: Global) -> Result<bool, AllocError> {
     let mut scope = sample(alloc)?;
     let new = scope.unit(named(b"Q")?)?;
     let known = scope.unit(named(b"P")?)?;
-    Ok(new == 1
-        && known == 0
-        && scope.units().len() == 2
-        && scope.blocks() == 4
-        && scope.block(2) == None
-        && scope.block(3) == Some(&BlockKind::Part)
-        && scope.block(4) == None)
+    Ok(
+        new == 1
+            && known == 0
+            && scope.units().len() == 2
+            && scope.blocks() == 4
+            && scope.block(2) == None
+            && scope.block(3) == Some(&BlockKind::Part)
+            && scope.block(4) == None,
+    )
 }
 
 #[test]

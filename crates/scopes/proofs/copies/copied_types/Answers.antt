@@ -1,7 +1,7 @@
-use Rattle.std.proofs.Common.{◌≡◌, ◌∙◌, ap, sym, arith, take, length, get_or, Some, ℕ, ◌+◌}
+use Rattle.std.proofs.Common.{◌≡◌, ◌∙◌, ap, sym, arith, take, length, get_or, Some, ℕ}
 use Rattle.std.specs.Prelude.{slice_get}
 use Rattle.type_layout.specs.declared.definitions.Origin.{Origin}
-use Rattle.type_layout.specs.Table.{Table, IsAddable, with_type}
+use Rattle.type_layout.specs.Table.{Table, with_type}
 use Rattle.scopes.specs.Growth.{empty, grown, additions}
 use Rattle.scopes.proofs.GrowthLaws.{copy-step, copy-end}
 use Rattle.scopes.proofs.copies.copied_types.Goals as goal
@@ -12,7 +12,7 @@ add-requires c =
     let from : Origin = record { unit = c.origin-unit.result.0; number = c.origin-unit.result.1 } in
     let stands : slice_get types.types c.loop-number.number ≡ Some c.in_ok-one.one = c.get.ensures ∙ ap Some (sym c.in_ok-one.ensures) in
     let named : c.copied-origin.result ≡ get_or types.units from.unit c.copied-origin.result =
-        rw c.copied-origin.ensures (rw (← c.units.ensures) c.index-units-unit.is) in
+    rw c.copied-origin.ensures (rw (← c.units.ensures) c.index-units-unit.is) in
     let step = copy-step types c.loop-number.number c.in_ok-one.one from c.copied-origin.result c.requires stands c.origin-unit.ensures named in
     rw c.loop-number.invariant step.0
 
@@ -22,7 +22,7 @@ loop-number-preserved c =
     let from : Origin = record { unit = c.origin-unit.result.0; number = c.origin-unit.result.1 } in
     let stands : slice_get types.types c.loop-number.number ≡ Some c.in_ok-one.one = c.get.ensures ∙ ap Some (sym c.in_ok-one.ensures) in
     let named : c.copied-origin.result ≡ get_or types.units from.unit c.copied-origin.result =
-        rw c.copied-origin.ensures (rw (← c.units.ensures) c.index-units-unit.is) in
+    rw c.copied-origin.ensures (rw (← c.units.ensures) c.index-units-unit.is) in
     let step = copy-step types c.loop-number.number c.in_ok-one.one from c.copied-origin.result c.requires stands c.origin-unit.ensures named in
     c.in-Ok.ensures.ok.1
     ∙ ap (λ (t : Table). with_type t c.copied-origin.result c.origin-unit.result.1 c.in_ok-one.one) c.loop-number.invariant ∙ sym step.1

@@ -1,4 +1,4 @@
-use Rattle.std.proofs.Common.{◌≡◌, ◌∙◌, sym}
+use Rattle.std.proofs.Common.{◌∙◌, sym}
 use Rattle.scopes.specs.Growth.{Addition, empty}
 use Rattle.scopes.specs.Predeclared.{system, type_list, of_system}
 use Rattle.scopes.proofs.GrowthLaws.{addable-at, grown-next}

@@ -10,7 +10,7 @@ use Rattle.scopes.proofs.scope.Scope.add_type.Goals as goal
 pub invariant_of-self : goal.invariant_of-self
 invariant_of-self c =
     let addable : IsAddable c.self.inside.types c.args.origin c.args.one =
-        subst (λ (e : Environment). IsAddable e.types c.args.origin c.args.one) (sym c.self.view_is) c.requires in
+    subst (λ (e : Environment). IsAddable e.types c.args.origin c.args.one) (sym c.self.view_is) c.requires in
     record {
       few_blocks = c.self.invariant.few_blocks;
       few_units = c.self.invariant.few_units;
@@ -21,5 +21,5 @@ invariant_of-self c =
 pub returns-clause-too_large : goal.returns-clause-too_large
 returns-clause-too_large c =
     subst (λ (e : Environment). (bytes : ℕ) → (c.add.result ≡ Err (TooLarge bytes))
-        ↔ ((65520 < size_over e.types.types c.args.one) × (bytes ≡ min (size_over e.types.types c.args.one) (2 ^ 64 - 1))))
+    ↔ ((65520 < size_over e.types.types c.args.one) × (bytes ≡ min (size_over e.types.types c.args.one) (2 ^ 64 - 1))))
     c.self.view_is c.add.ensures.too_large

@@ -1,4 +1,4 @@
-use Rattle.std.proofs.Common.{◌≡◌, ap, sym, is_some, List, ℕ}
+use Rattle.std.proofs.Common.{ap, sym, is_some, List, ℕ}
 use Rattle.scopes.specs.declared.entries.Entry.{Entry}
 use Rattle.scopes.proofs.BlockLaws.{take-next}
 use Rattle.scopes.proofs.SymbolLaws.{new_at}
