@@ -2,3 +2,5 @@ pub mod CircleLaws
 pub mod VisitLaws
 pub mod OrderLaws
 pub mod NeededLaws
+pub mod MergeLaws
+pub mod ResolveLaws

@@ -1,0 +1,5 @@
+mod GrowthLaws
+mod SymbolLaws
+mod BlockLaws
+mod PredeclaredLaws
+mod LineLaws
