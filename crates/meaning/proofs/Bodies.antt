@@ -25,7 +25,7 @@ use Rattle.meaning.specs.Operators.{is_true}
 use Rattle.meaning.specs.Activations.{Reached, Activation, whole, variable_at, assigned, copied, number_in}
 use Rattle.meaning.specs.Calls.{Flow, Next, Left, Task, Do, Turns, Runs}
 use Rattle.meaning.specs.Standard.{Operand, handed, field_text, text_of, number_assigned, target, size_freed}
-use Rattle.meaning.specs.Statements.{then_next, chosen, number, condition, covers, checked, width_of, written, line_written, numeral_or_error, number_taken, char_taken, text_taken, ordinal_taken, taken_as, read, line_read, is_past, step, counted, turned, turn, block_of, destructor_of, freed, unmade, halted, with_held, statement, statements, branches, task}
+use Rattle.meaning.specs.Statements.{then_next, chosen, number, condition, covers, tested, width_of, written, line_written, numeral_or_error, number_taken, char_taken, text_taken, ordinal_taken, taken_as, read, line_read, is_past, step, counted, turned, turn, block_of, destructor_of, freed, unmade, halted, with_held, statement, statements, branches, task}
 use Rattle.meaning.specs.Meaning.{run_by, run, start_state, start_activation, started, all_started, seen_so, seen_of, mean}
 use Rattle.meaning.proofs.Turns.{After, Falls, Grows, begins_itself, More, Like, like_weaker, like_bind, like_then, like_spending, like_give, like_stuck, like_raised, like_found, like_known, like_looked, like_changed, like_printed, like_taking}
 use Rattle.meaning.proofs.Parts.{Alike, like_entered, like_method_of, like_sort_of, like_value, like_place, like_operands}
@@ -46,8 +46,9 @@ like_number alike program f e = like_bind (like_value alike program f e) (λ v. 
 like_condition : {k m n : ℕ} {A B : Runs} → Alike k m n A B → (program : Program) (f : Activation) (e : Expression) → Like k (suc m) (suc n) (condition program A f e) (condition program B f e)
 like_condition alike program f e = like_bind (like_number alike program f e) (λ z. like_give (is_true z))
 
-like_checked : {k m n : ℕ} (ty : Option TypeDef) (z : ℤ) → Like k m n (checked ty z) (checked ty z)
-like_checked ty z = like_give z
+like_tested : {k m n : ℕ} (checked : Bool) (ty : Option TypeDef) (z : ℤ) → Like k m n (tested checked ty z) (tested checked ty z)
+like_tested true ty z = like_found _
+like_tested false ty z = like_give z
 
 -- ---- Write and Read
 
@@ -72,11 +73,11 @@ like_numeral : {k m n : ℕ} (z : Option ℤ) → Like k m n (numeral_or_error z
 like_numeral None = like_raised 106
 like_numeral (Some z) = like_give z
 
-like_number_taken : {k m n : ℕ} (at : Reached) (ty : Option TypeDef) → Like k m n (number_taken at ty) (number_taken at ty)
-like_number_taken at ty =
+like_number_taken : {k m n : ℕ} (checked : Bool) (at : Reached) (ty : Option TypeDef) → Like k m n (number_taken checked at ty) (number_taken checked at ty)
+like_number_taken checked at ty =
     like_bind (like_taking number_read) (λ numeral.
     like_bind (like_numeral numeral) (λ z.
-    like_bind (like_checked ty z) (λ w. like_changed (number_assigned at w))))
+    like_bind (like_tested checked ty z) (λ w. like_changed (number_assigned at w))))
 
 like_char_taken : {k m n : ℕ} (at : Reached) → Like k m n (char_taken at) (char_taken at)
 like_char_taken at = like_bind (like_taking char_read) (λ byte. like_changed (assigned at (Ordinal (pos byte))))
@@ -84,26 +85,26 @@ like_char_taken at = like_bind (like_taking char_read) (λ byte. like_changed (a
 like_text_taken : {k m n : ℕ} (at : Reached) (size : ℕ) → Like k m n (text_taken at size) (text_taken at size)
 like_text_taken at size = like_bind (like_taking (string_read size)) (λ text. like_changed (assigned at (Text text)))
 
-like_ordinal_taken : {k m n : ℕ} (at : Reached) (h : Host) (ty : Option TypeDef) → Like k m n (ordinal_taken at h ty) (ordinal_taken at h ty)
-like_ordinal_taken at host.ShortInt ty = like_number_taken at ty
-like_ordinal_taken at host.Byte ty = like_number_taken at ty
-like_ordinal_taken at host.Integer ty = like_number_taken at ty
-like_ordinal_taken at host.Word ty = like_number_taken at ty
-like_ordinal_taken at host.LongInt ty = like_number_taken at ty
-like_ordinal_taken at host.Char ty = like_char_taken at
-like_ordinal_taken at host.Boolean ty = like_stuck
-like_ordinal_taken at host.Enumeration ty = like_stuck
+like_ordinal_taken : {k m n : ℕ} (checked : Bool) (at : Reached) (h : Host) (ty : Option TypeDef) → Like k m n (ordinal_taken checked at h ty) (ordinal_taken checked at h ty)
+like_ordinal_taken checked at host.ShortInt ty = like_number_taken checked at ty
+like_ordinal_taken checked at host.Byte ty = like_number_taken checked at ty
+like_ordinal_taken checked at host.Integer ty = like_number_taken checked at ty
+like_ordinal_taken checked at host.Word ty = like_number_taken checked at ty
+like_ordinal_taken checked at host.LongInt ty = like_number_taken checked at ty
+like_ordinal_taken checked at host.Char ty = like_char_taken at
+like_ordinal_taken checked at host.Boolean ty = like_stuck
+like_ordinal_taken checked at host.Enumeration ty = like_stuck
 
-like_taken_as : {k m n : ℕ} (at : Reached) (ty : Option TypeDef) → Like k m n (taken_as at ty) (taken_as at ty)
-like_taken_as at (Some (type.Ordinal h low high)) = like_ordinal_taken at h (Some (type.Ordinal h low high))
-like_taken_as at (Some (type.Str max)) = like_text_taken at max
-like_taken_as at _ = like_stuck
+like_taken_as : {k m n : ℕ} (checked : Bool) (at : Reached) (ty : Option TypeDef) → Like k m n (taken_as checked at ty) (taken_as checked at ty)
+like_taken_as checked at (Some (type.Ordinal h low high)) = like_ordinal_taken checked at h (Some (type.Ordinal h low high))
+like_taken_as checked at (Some (type.Str max)) = like_text_taken at max
+like_taken_as checked at _ = like_stuck
 
 like_read : {k m n : ℕ} {A B : Runs} → Alike k m n A B → (program : Program) (f : Activation) (items : List Taken) → Like k (suc m) (suc n) (read program A f items) (read program B f items)
 like_read alike program f [] = like_give tt
 like_read alike program f (item ∷ items) =
     like_bind (like_place alike program f item.at) (λ at.
-    like_then (like_taken_as at (definition (sort_in f.unit item.ty))) (like_read alike program f items))
+    like_then (like_taken_as item.checked at (definition (sort_in f.unit item.ty))) (like_read alike program f items))
 
 like_line_read : {k m n : ℕ} (line : Bool) → Like k m n (line_read line) (line_read line)
 like_line_read true = like_taking (λ input. (Next, after_line input))
@@ -131,7 +132,7 @@ like_turn alike program f variable last down body p =
 
 like_destructor_of : {k m n : ℕ} (program : Program) (f : Activation) (at : Reached) (with : Destructor) → Like k m n (destructor_of program f at with) (destructor_of program f at with)
 like_destructor_of program f at (destructor.Routine routine) = like_known (routine_key f.unit routine)
-like_destructor_of program f at (destructor.Slot slot) = like_method_of program at slot
+like_destructor_of program f at (destructor.Slot slot checked) = like_method_of program at slot checked
 
 like_freed : {k m n : ℕ} {A B : Runs} → Alike k m n A B → (program : Program) (f : Activation) (with : Destructor) (args : List Operand) (serial : ℕ) (at : Reached) → Like k (suc m) (suc n) (freed program A f with args serial at) (freed program B f with args serial at)
 like_freed alike program f with args serial at =
@@ -177,12 +178,12 @@ mutual
   like_statement alike program f (Block parts) = like_statements alike program f parts
   like_statement alike program f (Case selector arms other) =
       like_bind (like_number alike program f selector) (λ z. like_branches alike program f arms z (like_statement alike program f other))
-  like_statement alike program f (For variable ty from to down body) =
+  like_statement alike program f (For variable ty from to down checked body) =
       like_bind (like_number alike program f from) (λ first.
       like_bind (like_number alike program f to) (λ last.
       like_chosen (is_past down first last) (like_counted program f variable) (
-      like_bind (like_checked (definition (sort_in f.unit ty)) first) (λ low.
-      like_bind (like_checked (definition (sort_in f.unit ty)) last) (λ high.
+      like_bind (like_tested checked (definition (sort_in f.unit ty)) first) (λ low.
+      like_bind (like_tested checked (definition (sort_in f.unit ty)) last) (λ high.
       like_bind (like_looked (variable_at program f variable)) (λ at.
       like_then (like_changed (assigned at (Ordinal low)))
       (like_turn alike program f variable high down body (like_statement alike program f body))))))))

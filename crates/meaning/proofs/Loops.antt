@@ -25,7 +25,7 @@ use Rattle.meaning.specs.Outcomes.{State, Outcome, Done, Over, Does, and_then, �
 use Rattle.meaning.specs.Activations.{Reached, Activation, variable_at, number_in, assigned}
 use Rattle.meaning.specs.Standard.{number_assigned}
 use Rattle.meaning.specs.Calls.{Flow, Next, Turns}
-use Rattle.meaning.specs.Statements.{then_next, chosen, checked, counter, counted, step, is_past, turned, turn, number, statement}
+use Rattle.meaning.specs.Statements.{then_next, chosen, tested, counter, counted, step, is_past, turned, turn, number, statement}
 use Rattle.meaning.specs.Meaning.{run}
 use Rattle.meaning.specs.ForLaws.{IsCounter, LeavesAlone, HasBounds, EndsAfter, GoesOn, ForLaws}
 use Rattle.meaning.proofs.Stores.{store_laws}
@@ -276,8 +276,8 @@ past a b p = grind (arith, ints, p)
 
 abbrev begun : Program → Activation → Variable → TypeId → Bool → Statement → ℤ → ℤ → Does Flow
 begun program f variable ty down body first last s =
-    and_then (checked (definition (sort_in f.unit ty)) first s) (λ low s.
-    and_then (checked (definition (sort_in f.unit ty)) last s) (λ high s.
+    and_then (tested false (definition (sort_in f.unit ty)) first s) (λ low s.
+    and_then (tested false (definition (sort_in f.unit ty)) last s) (λ high s.
     and_then (counter program f variable s) (λ at s.
     and_then (changed (assigned at (Ordinal low)) s) (λ _.
     turn program (run program) f variable high down body (statement program (run program) f body)))))
@@ -285,7 +285,7 @@ begun program f variable ty down body first last s =
 abbrev bounded : Program → Activation → Variable → TypeId → Bool → Statement → ℤ → ℤ → Does Flow
 bounded program f variable ty down body first last = chosen (is_past down first last) (counted program f variable) (begun program f variable ty down body first last)
 
-for_is : (program : Program) (f : Activation) (variable : Variable) (ty : TypeId) (down : Bool) (body : Statement) (at : Reached) (first last : ℤ) (from to : Expression) (s : State) → HasBounds program f at from to first last s → statement program (run program) f (For variable ty from to down body) s ≡ bounded program f variable ty down body first last s
+for_is : (program : Program) (f : Activation) (variable : Variable) (ty : TypeId) (down : Bool) (body : Statement) (at : Reached) (first last : ℤ) (from to : Expression) (s : State) → HasBounds program f at from to first last s → statement program (run program) f (For variable ty from to down false body) s ≡ bounded program f variable ty down body first last s
 for_is program f variable ty down body at first last from to s bounds =
     ap (λ (o : Outcome ℤ). and_then o (λ first s. and_then (number program (run program) f to s) (bounded program f variable ty down body first))) bounds.first_is
     ∙ ap (λ (o : Outcome ℤ). and_then o (bounded program f variable ty down body first)) bounds.last_is
@@ -293,7 +293,7 @@ for_is program f variable ty down body at first last from to s bounds =
 -- where the last value isn't passed, the variable takes the first one, and the turns follow
 record Begins (program : Program) (f : Activation) (variable : Variable) (ty : TypeId) (down : Bool) (body : Statement) (at : Reached) (first last : ℤ) (from to : Expression) (s : State) : Type 0 where
   after : State
-  is : statement program (run program) f (For variable ty from to down body) s ≡ run program (Turns variable last down body) f after
+  is : statement program (run program) f (For variable ty from to down false body) s ≡ run program (Turns variable last down body) f after
   number : number_in at after.store ≡ Ok first
   spent : after.turns ≡ s.turns
 
@@ -314,19 +314,19 @@ begins program f variable ty down body at host first last from to s counter boun
       spent = refl;
     }
 
-ends_after : (program : Program) (f : Activation) (variable : Variable) (ty : TypeId) (down : Bool) (body : Statement) (at : Reached) (host : Host) (n : ℕ) (first last : ℤ) (from to : Expression) (s : State) → IsCounter program f variable at host → LeavesAlone program f at body → HasBounds program f at from to first last s → is_past down first last ≡ false → Reaches host down n first last → n + 1 ≤ s.turns → EndsAfter program f (For variable ty from to down body) s (n + 1)
+ends_after : (program : Program) (f : Activation) (variable : Variable) (ty : TypeId) (down : Bool) (body : Statement) (at : Reached) (host : Host) (n : ℕ) (first last : ℤ) (from to : Expression) (s : State) → IsCounter program f variable at host → LeavesAlone program f at body → HasBounds program f at from to first last s → is_past down first last ≡ false → Reaches host down n first last → n + 1 ≤ s.turns → EndsAfter program f (For variable ty from to down false body) s (n + 1)
 ends_after program f variable ty down body at host n first last from to s counter alone bounds p r l =
     let b = begins program f variable ty down body at host first last from to s counter bounds p in
     let done = all_turns program f variable last down body at host n first b.after counter alone r b.number (omega (arith, l, b.spent)) in
     record { end = done.end; is = b.is ∙ done.is; spent = omega (arith, done.spent, b.spent) }
 
-goes_on : (program : Program) (f : Activation) (variable : Variable) (ty : TypeId) (down : Bool) (body : Statement) (at : Reached) (host : Host) (n : ℕ) (first last : ℤ) (from to : Expression) (s : State) → IsCounter program f variable at host → LeavesAlone program f at body → HasBounds program f at from to first last s → is_past down first last ≡ false → Reaches host down n first last → s.turns ≤ n → GoesOn program f (For variable ty from to down body) s
+goes_on : (program : Program) (f : Activation) (variable : Variable) (ty : TypeId) (down : Bool) (body : Statement) (at : Reached) (host : Host) (n : ℕ) (first last : ℤ) (from to : Expression) (s : State) → IsCounter program f variable at host → LeavesAlone program f at body → HasBounds program f at from to first last s → is_past down first last ≡ false → Reaches host down n first last → s.turns ≤ n → GoesOn program f (For variable ty from to down false body) s
 goes_on program f variable ty down body at host n first last from to s counter alone bounds p r l =
     let b = begins program f variable ty down body at host first last from to s counter bounds p in
     let done = few_turns program f variable last down body at host n s.turns first b.after counter alone r b.number b.spent l in
     record { end = done.end; is = b.is ∙ done.is }
 
-no_turns : (program : Program) (f : Activation) (variable : Variable) (ty : TypeId) (down : Bool) (body : Statement) (at : Reached) (host : Host) (first last : ℤ) (from to : Expression) (s : State) → IsCounter program f variable at host → HasBounds program f at from to first last s → is_past down first last ≡ true → EndsAfter program f (For variable ty from to down body) s 0
+no_turns : (program : Program) (f : Activation) (variable : Variable) (ty : TypeId) (down : Bool) (body : Statement) (at : Reached) (host : Host) (first last : ℤ) (from to : Expression) (s : State) → IsCounter program f variable at host → HasBounds program f at from to first last s → is_past down first last ≡ true → EndsAfter program f (For variable ty from to down false body) s 0
 no_turns program f variable ty down body at host first last from to s counter bounds p =
     let done = counted_ends program f variable at bounds.cell s (counter.place s.store) bounds.there in
     record {

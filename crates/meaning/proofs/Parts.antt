@@ -49,15 +49,16 @@ like_entered alike program f key own class args =
     like_then (like_raised_if (is_too_deep program callee f.sum) 202)
     (like_activated alike callee f own class args))))
 
-like_without_class : {k m n : ℕ} → Like k m n without_class without_class
-like_without_class = like_undefined 4
+like_without_class : {k m n : ℕ} (checked : Bool) → Like k m n (without_class checked) (without_class checked)
+like_without_class true = like_raised 210
+like_without_class false = like_undefined 4
 
-pub like_dispatched_by : {k m n : ℕ} (program : Program) (slot : ℕ) (class : Option Key) → Like k m n (dispatched_by program slot class) (dispatched_by program slot class)
-like_dispatched_by program slot None = like_without_class
-like_dispatched_by program slot (Some class) = like_known (dispatched program class slot)
+pub like_dispatched_by : {k m n : ℕ} (program : Program) (slot : ℕ) (checked : Bool) (class : Option Key) → Like k m n (dispatched_by program slot checked class) (dispatched_by program slot checked class)
+like_dispatched_by program slot checked None = like_without_class checked
+like_dispatched_by program slot checked (Some class) = like_known (dispatched program class slot)
 
-pub like_method_of : {k m n : ℕ} (program : Program) (at : Reached) (slot : ℕ) → Like k m n (method_of program at slot) (method_of program at slot)
-like_method_of program at slot = like_bind (like_looked (class_at at)) (like_dispatched_by program slot)
+pub like_method_of : {k m n : ℕ} (program : Program) (at : Reached) (slot : ℕ) (checked : Bool) → Like k m n (method_of program at slot checked) (method_of program at slot checked)
+like_method_of program at slot checked = like_bind (like_looked (class_at at)) (like_dispatched_by program slot checked)
 
 like_result : {k m n : ℕ} (z : ℤ) → Like k m n (with_overlay_result z) (with_overlay_result z)
 like_result z = like_then (like_changed (assigned overlay_variable (Ordinal z))) (like_give Void)
@@ -77,9 +78,9 @@ like_called alike program f key instance args =
     like_if (is_overlay key.unit) (like_overlay_called program key.number (map handed args))
     (like_spending (like_entered alike program f key instance.own instance.class (map handed args)))
 
-pub like_called_by_class : {k m n : ℕ} {A B : Runs} → Alike k m n A B → (program : Program) (f : Activation) (at : Reached) (slot : ℕ) (args : List Operand) → Like k (suc m) (suc n) (called_by_class program A f at slot args) (called_by_class program B f at slot args)
-like_called_by_class alike program f at slot args =
-    like_spending (like_bind (like_method_of program at slot) (λ key. like_entered alike program f key (Some at.spot) None (map handed args)))
+pub like_called_by_class : {k m n : ℕ} {A B : Runs} → Alike k m n A B → (program : Program) (f : Activation) (at : Reached) (slot : ℕ) (checked : Bool) (args : List Operand) → Like k (suc m) (suc n) (called_by_class program A f at slot checked args) (called_by_class program B f at slot checked args)
+like_called_by_class alike program f at slot checked args =
+    like_spending (like_bind (like_method_of program at slot checked) (λ key. like_entered alike program f key (Some at.spot) None (map handed args)))
 
 pub like_called_through : {k m n : ℕ} {A B : Runs} → Alike k m n A B → (program : Program) (f : Activation) (at : Reached) (args : List Operand) → Like k (suc m) (suc n) (called_through program A f at args) (called_through program B f at args)
 like_called_through alike program f at args =
@@ -140,10 +141,10 @@ mutual
       like_bind (like_operands alike program f args) (λ xs.
       like_bind (like_known (routine_key f.unit routine)) (λ key.
       like_called alike program f key instance xs)))
-  like_value alike program f (CallVirtual ty own slot args) =
+  like_value alike program f (CallVirtual ty own slot checked args) =
       like_bind (like_place alike program f own) (λ at.
       like_bind (like_operands alike program f args) (λ xs.
-      like_called_by_class alike program f at slot xs))
+      like_called_by_class alike program f at slot checked xs))
   like_value alike program f (CallThrough ty through args) =
       like_bind (like_place alike program f through) (λ at.
       like_bind (like_operands alike program f args) (λ xs.

@@ -64,22 +64,18 @@ entered program again f key own class args = do
   raised_if (is_too_deep program callee f.sum) 202
   activated again callee f own class args
 
--- whether {$R+} holds at a call by class, a `for`, a Read or a Dispose by class: the tree does not tell it yet, and this
--- stands in its place
-abbrev pub is_range_checked : Bool
-is_range_checked = false
+-- An instance without class has no virtual method. Under range checks that is error 210.
+abbrev pub without_class : Bool → Does Key
+without_class true = raised 210
+without_class false = undefined 4
 
--- an instance without class has no virtual method
-abbrev pub without_class : Does Key
-without_class = if is_range_checked then raised 210 else undefined 4
-
-abbrev pub dispatched_by : Program → ℕ → Option Key → Does Key
-dispatched_by program slot None = without_class
-dispatched_by program slot (Some class) = known (dispatched program class slot)
+abbrev pub dispatched_by : Program → ℕ → Bool → Option Key → Does Key
+dispatched_by program slot checked None = without_class checked
+dispatched_by program slot checked (Some class) = known (dispatched program class slot)
 
 -- the routine that the class of an instance has for a slot
-abbrev pub method_of : Program → Reached → ℕ → Does Key
-method_of program at slot = looked (class_at at) >>= dispatched_by program slot
+abbrev pub method_of : Program → Reached → ℕ → Bool → Does Key
+method_of program at slot checked = looked (class_at at) >>= dispatched_by program slot checked
 
 -- ---- the unit Overlay: its calls spend no turn and have no activation
 

@@ -86,9 +86,9 @@ called program again f key instance args =
     else spending (entered program again f key instance.own instance.class (map handed args))
 
 -- a call by class
-abbrev pub called_by_class : Program → Runs → Activation → Reached → ℕ → List Operand → Does Value
-called_by_class program again f at slot args = spending do
-  key ← method_of program at slot
+abbrev pub called_by_class : Program → Runs → Activation → Reached → ℕ → Bool → List Operand → Does Value
+called_by_class program again f at slot checked args = spending do
+  key ← method_of program at slot checked
   entered program again f key (Some at.spot) None (map handed args)
 
 -- the routine that a variable holds is known behind the arguments
@@ -144,10 +144,10 @@ abbrev mutual
     xs ← operands program again f args
     key ← known (routine_key f.unit routine)
     called program again f key instance xs
-  value program again f (CallVirtual ty own slot args) = do
+  value program again f (CallVirtual ty own slot checked args) = do
     at ← place program again f own
     xs ← operands program again f args
-    called_by_class program again f at slot xs
+    called_by_class program again f at slot checked xs
   value program again f (CallThrough ty through args) = do
     at ← place program again f through
     xs ← operands program again f args

@@ -1,4 +1,4 @@
--- How often a `for` loop turns whose body leaves the loop alone.
+-- How often a `for` loop turns whose body leaves the loop alone, where range checks don't hold.
 use Rattle.std.specs.Prelude.{◌≡◌, ℕ, ◌+◌, ◌≤◌, true, false, ℤ, pos, ◌+ℤ◌, ◌<ℤ◌, Some, Ok}
 use Rattle.behaviour.specs.Seen.{Going}
 use Rattle.type_layout.specs.declared.definitions.TypeId.{TypeId}
@@ -50,17 +50,17 @@ pub record GoesOn (program : Program) (f : Activation) (loop : Statement) (s : S
 pub record ForLaws (program : Program) (f : Activation) (variable : Variable) (ty : TypeId) (body : Statement) (at : Reached) (host : Host) : Type 0 where
   pub up : (first last : ℤ) (n : ℕ) (from to : Expression) (s : State) → HasBounds program f at from to first last s
       → IsValueOf (stored_among host) first → IsValueOf (stored_among host) last → last ≡ first +ℤ pos n → n + 1 ≤ s.turns
-      → EndsAfter program f (For variable ty from to false body) s (n + 1)
+      → EndsAfter program f (For variable ty from to false false body) s (n + 1)
   pub down : (first last : ℤ) (n : ℕ) (from to : Expression) (s : State) → HasBounds program f at from to first last s
       → IsValueOf (stored_among host) first → IsValueOf (stored_among host) last → first ≡ last +ℤ pos n → n + 1 ≤ s.turns
-      → EndsAfter program f (For variable ty from to true body) s (n + 1)
+      → EndsAfter program f (For variable ty from to true false body) s (n + 1)
   pub up_on : (first last : ℤ) (n : ℕ) (from to : Expression) (s : State) → HasBounds program f at from to first last s
       → IsValueOf (stored_among host) first → IsValueOf (stored_among host) last → last ≡ first +ℤ pos n → s.turns ≤ n
-      → GoesOn program f (For variable ty from to false body) s
+      → GoesOn program f (For variable ty from to false false body) s
   pub down_on : (first last : ℤ) (n : ℕ) (from to : Expression) (s : State) → HasBounds program f at from to first last s
       → IsValueOf (stored_among host) first → IsValueOf (stored_among host) last → first ≡ last +ℤ pos n → s.turns ≤ n
-      → GoesOn program f (For variable ty from to true body) s
+      → GoesOn program f (For variable ty from to true false body) s
   pub up_none : (first last : ℤ) (from to : Expression) (s : State) → HasBounds program f at from to first last s
-      → last <ℤ first → EndsAfter program f (For variable ty from to false body) s 0
+      → last <ℤ first → EndsAfter program f (For variable ty from to false false body) s 0
   pub down_none : (first last : ℤ) (from to : Expression) (s : State) → HasBounds program f at from to first last s
-      → first <ℤ last → EndsAfter program f (For variable ty from to true body) s 0
+      → first <ℤ last → EndsAfter program f (For variable ty from to true false body) s 0

@@ -170,7 +170,7 @@ abbrev pub init : ℕ → Statement
 init n = Run (Call None (routine_id 3) (Own (var n)) NoArguments)
 
 abbrev pub by_class : ℕ → Expression
-by_class n = CallVirtual (Some integer) (var n) 0 NoArguments
+by_class n = CallVirtual (Some integer) (var n) 0 false NoArguments
 
 -- T's constructor on a variable of type U; then its function, its field and its size
 abbrev pub dispatching : Boxed → Seen
@@ -182,6 +182,10 @@ dispatching b = shown b (id 14 ∷ []) (block (
 -- x without class
 abbrev pub classless : Boxed → Seen
 classless b = shown b (id 13 ∷ []) (write (by_class 0 ∷ [])) 1
+
+-- the same where range checks hold
+abbrev pub classless_checked : Boxed → Seen
+classless_checked b = shown b (id 13 ∷ []) (write (CallVirtual (Some integer) (var 0) 0 true NoArguments ∷ [])) 1
 
 -- x: T and y: U made by Init; x := y; the field is copied and the class isn't
 abbrev pub assigning : Boxed → Seen
@@ -197,8 +201,8 @@ assigning b = shown b (id 13 ∷ id 14 ∷ []) (block (
 abbrev pub making : Boxed → Seen
 making b = shown b (id 15 ∷ []) (block (
     Assign (var 0) (Make (id 16) (routine_id 3) NoArguments)
-    ∷ write (CallVirtual (Some integer) (Deref (load (id 15) 0)) 0 NoArguments ∷ [])
-    ∷ Run (Std None 25 (ByValue (load (id 15) 0) NoArguments))
+    ∷ write (CallVirtual (Some integer) (Deref (load (id 15) 0)) 0 false NoArguments ∷ [])
+    ∷ Run (Std None 29 (ByValue (load (id 15) 0) NoArguments))
     ∷ [])) 2
 
 -- Dispose(p, Done) frees the size of the class that the instance has, which New(P, Init) gave it, and not that of p's type
@@ -256,10 +260,11 @@ pub record CallExamples (b : Boxed) : Type 0 where
   pub no_room : at_depth b 499 ≡ ends (Ended 202) [] (error_line (codes "202"))
   pub dispatching : dispatching b ≡ ends (Ended 0) (codes "276") []
   pub classless : classless b ≡ ends (Undefined 4) [] []
+  pub classless_checked : classless_checked b ≡ ends (Ended 210) [] (error_line (codes "210"))
   pub assigning : assigning b ≡ ends (Ended 0) (codes "19") []
   pub making : making b ≡ ends (Undefined 5) (codes "2") []
   pub unmade : unmaking b (Assign (var 0) (Make (id 16) (routine_id 3) NoArguments)) ≡ ends (Undefined 2) (codes "d") []
-  pub unmaking : unmaking b (Run (Std None 24 (ByPlace (var 0) NoArguments))) ≡ ends (Undefined 1) [] []
+  pub unmaking : unmaking b (Run (Std None 28 (ByPlace (var 0) NoArguments))) ≡ ends (Undefined 1) [] []
   pub arguments : arguments b ≡ ends (Ended 200) [] (error_line (codes "200"))
   pub nested : nested b ≡ ends (Ended 0) (codes "6") []
   pub not_started : starting b (codes "A" ∷ []) ≡ ends (Ended 208) [] (error_line (codes "208"))

@@ -1,10 +1,11 @@
 -- Examples of strings, sets, arrays, records, pointers, input and output.
-use Rattle.std.specs.Prelude.{◌≡◌, ℕ, ◌++◌, true, false, pos, List, [], ◌∷◌, codes}
+use Rattle.std.specs.Prelude.{◌≡◌, ℕ, ◌++◌, Bool, true, false, pos, List, [], ◌∷◌, codes}
 use Rattle.behaviour.specs.Seen.{Seen, Ended, Undefined}
+use Rattle.type_layout.specs.declared.definitions.TypeId.{TypeId}
 use Rattle.typed_tree.specs.declared.expressions.Value.TheVariants as constant
 use Rattle.typed_tree.specs.declared.expressions.BinaryOp.TheVariants as two
 use Rattle.typed_tree.specs.Expressions.{Expression, Const, Load, Binary, SetOf, Index, FieldOf, Deref, NoElements, One, Span, NoArguments, ByValue, ByPlace, Var}
-use Rattle.typed_tree.specs.Statements.{Statement, Assign, CopyAll, Run, With, WriteItems, ReadItems}
+use Rattle.typed_tree.specs.Statements.{Taken, Statement, Assign, CopyAll, Run, With, WriteItems, ReadItems}
 use Rattle.meaning.specs.Examples.{integer, boolean, id, shown, ends, error_line, var, load, int, number, on, chars, item, wide, write, block, call, gives, truth_of}
 
 -- ---- strings
@@ -104,10 +105,10 @@ abbrev pub pointer : ℕ → Expression
 pointer n = load (id 11) n
 
 abbrev pub new : ℕ → Statement
-new n = Run (call 24 (ByPlace (var n) NoArguments))
+new n = Run (call 28 (ByPlace (var n) NoArguments))
 
 abbrev pub dispose : ℕ → Statement
-dispose n = Run (call 25 (ByValue (pointer n) NoArguments))
+dispose n = Run (call 29 (ByValue (pointer n) NoArguments))
 
 -- New(p); p^ := 3; q := p; Write(q^, p = q)
 abbrev pub pointing : Seen
@@ -150,28 +151,38 @@ twice = shown (id 11 ∷ []) (block (new 0 ∷ dispose 0 ∷ dispose 0 ∷ [])) 
 
 -- ---- input
 
+abbrev pub taken : ℕ → TypeId → Taken
+taken n ty = record { at = var n; ty = ty; checked = false }
+
+-- Read(i); Write(i), where i is of 1..3
+abbrev pub read_between : Bool → List ℕ → Seen
+read_between checked input = shown (id 9 ∷ []) (block (
+    ReadItems ((record { at = var 0; ty = id 9; checked = checked }) ∷ []) false
+    ∷ write (load (id 9) 0 ∷ [])
+    ∷ [])) input 0
+
 -- Read(i, j); Write(i + j)
 abbrev pub reading : List ℕ → Seen
 reading input = shown (integer ∷ integer ∷ []) (block (
-    ReadItems ((record { at = var 0; ty = integer }) ∷ (record { at = var 1; ty = integer }) ∷ []) false
+    ReadItems ((taken 0 integer) ∷ (taken 1 integer) ∷ []) false
     ∷ write (on two.Add (int 0) (int 1) ∷ [])
     ∷ [])) input 0
 
 -- Write(Eof); Read(c); Write(Ord(c)); Read(i); Write(i)
 abbrev pub at_eof : List ℕ → Seen
 at_eof input = shown (id 2 ∷ integer ∷ []) (block (
-    write (gives boolean 22 NoArguments ∷ [])
-    ∷ ReadItems ((record { at = var 0; ty = id 2 }) ∷ []) false
+    write (gives boolean 26 NoArguments ∷ [])
+    ∷ ReadItems ((taken 0 (id 2)) ∷ []) false
     ∷ write (gives integer 3 (ByValue (load (id 2) 0) NoArguments) ∷ [])
-    ∷ ReadItems ((record { at = var 1; ty = integer }) ∷ []) false
+    ∷ ReadItems ((taken 1 integer) ∷ []) false
     ∷ write (int 1 ∷ [])
     ∷ [])) input 0
 
 -- ReadLn(t); Read(c); Write(t, c), where t is a string[3]
 abbrev pub lines : List ℕ → Seen
 lines input = shown (id 6 ∷ id 2 ∷ []) (block (
-    ReadItems ((record { at = var 0; ty = id 6 }) ∷ []) true
-    ∷ ReadItems ((record { at = var 1; ty = id 2 }) ∷ []) false
+    ReadItems ((taken 0 (id 6)) ∷ []) true
+    ∷ ReadItems ((taken 1 (id 2)) ∷ []) false
     ∷ write (load (id 6) 0 ∷ load (id 2) 1 ∷ [])
     ∷ [])) input 0
 
@@ -197,5 +208,7 @@ pub record PartExamples : Type 0 where
   pub twice : twice ≡ ends (Undefined 2) [] []
   pub no_numeral : reading (codes "12 x") ≡ ends (Ended 106) [] (error_line (codes "106"))
   pub reading : reading (codes " 12 -5") ≡ ends (Ended 0) (codes "7") []
+  pub read_outside : read_between true (codes "4") ≡ ends (Ended 201) [] (error_line (codes "201"))
+  pub read_unchecked : read_between false (codes "4") ≡ ends (Ended 0) (codes "4") []
   pub at_eof : at_eof (26 ∷ 65 ∷ []) ≡ ends (Ended 0) (codes "TRUE260") []
   pub lines : lines (codes "abcd" ++ 13 ∷ 10 ∷ codes "x") ≡ ends (Ended 0) (codes "abcx") []

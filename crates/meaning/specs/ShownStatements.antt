@@ -1,5 +1,5 @@
 -- Examples of ordinals, operators and statements.
-use Rattle.std.specs.Prelude.{◌≡◌, ℕ, true, false, pos, negsuc, [], ◌∷◌, codes}
+use Rattle.std.specs.Prelude.{◌≡◌, ℕ, true, false, ℤ, pos, negsuc, [], ◌∷◌, codes}
 use Rattle.behaviour.specs.Seen.{Seen, Ended, Going, Undefined, Stopped}
 use Rattle.typed_tree.specs.declared.expressions.Value.TheVariants as constant
 use Rattle.typed_tree.specs.declared.expressions.UnaryOp.TheVariants as one
@@ -69,15 +69,19 @@ unset_read = shown (integer ∷ []) (block (write (chars (codes "q") ∷ []) ∷
 
 -- for i := 1 to 3 do Write(i)
 abbrev pub counting : ℕ → Seen
-counting turns = shown (integer ∷ []) (For (variable 0) integer (number (pos 1)) (number (pos 3)) false (write (int 0 ∷ []))) [] turns
+counting turns = shown (integer ∷ []) (For (variable 0) integer (number (pos 1)) (number (pos 3)) false false (write (int 0 ∷ []))) [] turns
 
 -- for i := 2 downto 1 do Write(i); Write(i)
 abbrev pub after_loop : Seen
-after_loop = shown (integer ∷ []) (block (For (variable 0) integer (number (pos 2)) (number (pos 1)) true (write (int 0 ∷ [])) ∷ write (int 0 ∷ []) ∷ [])) [] 9
+after_loop = shown (integer ∷ []) (block (For (variable 0) integer (number (pos 2)) (number (pos 1)) true false (write (int 0 ∷ [])) ∷ write (int 0 ∷ []) ∷ [])) [] 9
 
 -- up to the greatest Integer, behind which the variable isn't stepped
 abbrev pub to_the_end : Seen
-to_the_end = shown (integer ∷ []) (For (variable 0) integer (number (pos 32766)) (number (pos 32767)) false (write (int 0 ∷ []))) [] 9
+to_the_end = shown (integer ∷ []) (For (variable 0) integer (number (pos 32766)) (number (pos 32767)) false false (write (int 0 ∷ []))) [] 9
+
+-- for i := a to b do Write(i), where i is of 1..3 and range checks hold
+abbrev pub counting_checked : ℤ → ℤ → Seen
+counting_checked first last = shown (id 9 ∷ []) (For (variable 0) (id 9) (number first) (number last) false true (write (load (id 9) 0 ∷ []))) [] 9
 
 -- i := 0; while i < 2 do i := i + 1; Write(i)
 abbrev pub whiling : ℕ → Seen
@@ -124,6 +128,9 @@ pub record StatementExamples : Type 0 where
   pub counted : counting 3 ≡ ends (Ended 0) (codes "123") []
   pub counting : counting 2 ≡ ends Going (codes "12") []
   pub after_loop : after_loop ≡ ends (Undefined 1) (codes "21") []
+  pub counted_checked : counting_checked (pos 2) (pos 3) ≡ ends (Ended 0) (codes "23") []
+  pub bound_outside : counting_checked (pos 2) (pos 4) ≡ ends (Ended 201) [] (error_line (codes "201"))
+  pub bound_of_no_turn : counting_checked (pos 4) (pos 3) ≡ ends (Ended 0) [] []
   pub to_the_end : to_the_end ≡ ends (Ended 0) (codes "3276632767") []
   pub whiled : whiling 2 ≡ ends (Ended 0) (codes "2") []
   pub whiling : whiling 1 ≡ ends Going [] []

@@ -1,5 +1,5 @@
 -- The standard routines.
-use Rattle.std.specs.Prelude.{ℕ, option_and_then, ◌%◌, ◌==◌, nat_lt, if◌then◌else◌, ℤ, pos, negsuc, ◌+ℤ◌, ◌-ℤ◌, ◌*ℤ◌, neg_ℤ, unsigned_abs, List, [], ◌∷◌, ◌++◌, length, slice_get, Option, Some, None, Ok, Err}
+use Rattle.std.specs.Prelude.{ℕ, option_and_then, ◌%◌, ◌==◌, nat_lt, if◌then◌else◌, ℤ, pos, negsuc, ◌+ℤ◌, ◌-ℤ◌, ◌*ℤ◌, neg_ℤ, unsigned_abs, List, [], ◌∷◌, ◌++◌, length, map, slice_get, Option, Some, None, Ok, Err}
 use Rattle.integers.specs.Words.{w8, w16, word_of, low_byte, high_byte, word_from_bytes}
 use Rattle.type_layout.specs.declared.definitions.Host.{Host}
 use Rattle.type_layout.specs.declared.definitions.Host.TheVariants as host
@@ -48,12 +48,15 @@ pub data Standard : Type 0 where
   New : Standard
   Dispose : Standard
 
--- by their numbers
-abbrev pub standards : List Standard
-standards = Abs ∷ Sqr ∷ Odd ∷ Ord ∷ Chr ∷ Succ ∷ Pred ∷ Inc ∷ Dec ∷ Hi ∷ Lo ∷ Swap ∷ SizeOf ∷ UpCase ∷ Length ∷ Copy ∷ Delete ∷ Insert ∷ Concat ∷ Pos ∷ Str ∷ Val ∷ Eof ∷ Eoln ∷ New ∷ Dispose ∷ []
+-- By their numbers, as the predeclared names have them. The four behind Val are Write, WriteLn, Read and ReadLn, which have
+-- statements of their own.
+abbrev pub standards : List (Option Standard)
+standards =
+    map Some (Abs ∷ Sqr ∷ Odd ∷ Ord ∷ Chr ∷ Succ ∷ Pred ∷ Inc ∷ Dec ∷ Hi ∷ Lo ∷ Swap ∷ SizeOf ∷ UpCase ∷ Length ∷ Copy ∷ Delete ∷ Insert ∷ Concat ∷ Pos ∷ Str ∷ Val ∷ [])
+    ++ None ∷ None ∷ None ∷ None ∷ map Some (Eof ∷ Eoln ∷ New ∷ Dispose ∷ [])
 
 abbrev pub standard : ℕ → Option Standard
-standard number = slice_get standards number
+standard number = option_flatten (slice_get standards number)
 
 -- an argument: a value with its type, or the place of a variable
 pub data Operand : Type 0 where

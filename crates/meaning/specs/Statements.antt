@@ -25,7 +25,7 @@ use Rattle.meaning.specs.Programs.{definition, sort_in, routine_key}
 use Rattle.meaning.specs.Outcomes.{Over, Does, ◌>>=◌, ◌>>◌, give, raised, stuck, found, known, spending, looked, changed, printed, taking}
 use Rattle.meaning.specs.Operators.{is_true, within, is_between}
 use Rattle.meaning.specs.Activations.{Reached, Activation, whole, variable_at, assigned, copied, number_in}
-use Rattle.meaning.specs.Calls.{Flow, Next, Left, Task, Do, Turns, Runs, entered, is_range_checked, method_of}
+use Rattle.meaning.specs.Calls.{Flow, Next, Left, Task, Do, Turns, Runs, entered, method_of}
 use Rattle.meaning.specs.Standard.{Operand, handed, field_text, text_of, number_assigned, target, size_freed}
 use Rattle.meaning.specs.Expressions.{value, place, operands, sort_of}
 
@@ -50,8 +50,9 @@ abbrev pub covers : ℤ → LabelRange → Bool
 covers z label = is_between label.low label.high z
 
 -- under range checks a value must lie in the bounds of a type
-abbrev pub checked : Option TypeDef → ℤ → Does ℤ
-checked ty z = if is_range_checked then found (within (bounds_of ty).0 (bounds_of ty).1 z) else give z
+abbrev pub tested : Bool → Option TypeDef → ℤ → Does ℤ
+tested true ty z = found (within (bounds_of ty).0 (bounds_of ty).1 z)
+tested false ty z = give z
 
 -- ---- Write and Read: one item after another
 
@@ -79,11 +80,11 @@ abbrev pub numeral_or_error : Option ℤ → Does ℤ
 numeral_or_error None = raised 106
 numeral_or_error (Some z) = give z
 
-abbrev pub number_taken : Reached → Option TypeDef → Does (Unit {0})
-number_taken at ty = do
+abbrev pub number_taken : Bool → Reached → Option TypeDef → Does (Unit {0})
+number_taken checked at ty = do
   numeral ← taking number_read
   z ← numeral_or_error numeral
-  w ← checked ty z
+  w ← tested checked ty z
   changed (number_assigned at w)
 
 abbrev pub char_taken : Reached → Does (Unit {0})
@@ -92,28 +93,28 @@ char_taken at = taking char_read >>= λ byte. changed (assigned at (Ordinal (pos
 abbrev pub text_taken : Reached → ℕ → Does (Unit {0})
 text_taken at size = taking (string_read size) >>= λ text. changed (assigned at (Text text))
 
-abbrev pub ordinal_taken : Reached → Host → Option TypeDef → Does (Unit {0})
-ordinal_taken at host.ShortInt ty = number_taken at ty
-ordinal_taken at host.Byte ty = number_taken at ty
-ordinal_taken at host.Integer ty = number_taken at ty
-ordinal_taken at host.Word ty = number_taken at ty
-ordinal_taken at host.LongInt ty = number_taken at ty
-ordinal_taken at host.Char ty = char_taken at
-ordinal_taken at host.Boolean ty = stuck
-ordinal_taken at host.Enumeration ty = stuck
+abbrev pub ordinal_taken : Bool → Reached → Host → Option TypeDef → Does (Unit {0})
+ordinal_taken checked at host.ShortInt ty = number_taken checked at ty
+ordinal_taken checked at host.Byte ty = number_taken checked at ty
+ordinal_taken checked at host.Integer ty = number_taken checked at ty
+ordinal_taken checked at host.Word ty = number_taken checked at ty
+ordinal_taken checked at host.LongInt ty = number_taken checked at ty
+ordinal_taken checked at host.Char ty = char_taken at
+ordinal_taken checked at host.Boolean ty = stuck
+ordinal_taken checked at host.Enumeration ty = stuck
 
 -- a place is filled by its type
-abbrev pub taken_as : Reached → Option TypeDef → Does (Unit {0})
-taken_as at (Some (type.Ordinal h low high)) = ordinal_taken at h (Some (type.Ordinal h low high))
-taken_as at (Some (type.Str max)) = text_taken at max
-taken_as at _ = stuck
+abbrev pub taken_as : Bool → Reached → Option TypeDef → Does (Unit {0})
+taken_as checked at (Some (type.Ordinal h low high)) = ordinal_taken checked at h (Some (type.Ordinal h low high))
+taken_as checked at (Some (type.Str max)) = text_taken at max
+taken_as checked at _ = stuck
 
 -- a place is evaluated, and then it is filled
 abbrev pub read : Program → Runs → Activation → List Taken → Does (Unit {0})
 read program again f [] = give tt
 read program again f (item ∷ items) = do
   at ← place program again f item.at
-  taken_as at (definition (sort_in f.unit item.ty))
+  taken_as item.checked at (definition (sort_in f.unit item.ty))
   read program again f items
 
 abbrev pub line_read : Bool → Does Flow
@@ -162,7 +163,7 @@ block_of v store = followed store v
 
 abbrev pub destructor_of : Program → Activation → Reached → Destructor → Does Key
 destructor_of program f at (destructor.Routine routine) = known (routine_key f.unit routine)
-destructor_of program f at (destructor.Slot slot) = method_of program at slot
+destructor_of program f at (destructor.Slot slot checked) = method_of program at slot checked
 
 -- the destructor is called, and then the size of the class that the instance has is freed
 abbrev pub freed : Program → Runs → Activation → Destructor → List Operand → ℕ → Reached → Does Flow
@@ -216,12 +217,12 @@ abbrev mutual
   statement program again f (Case selector arms other) = do
     z ← number program again f selector
     branches program again f arms z (statement program again f other)
-  statement program again f (For variable ty from to down body) = do
+  statement program again f (For variable ty from to down checked body) = do
     first ← number program again f from
     last ← number program again f to
     chosen (is_past down first last) (counted program f variable) do
-      low ← checked (definition (sort_in f.unit ty)) first
-      high ← checked (definition (sort_in f.unit ty)) last
+      low ← tested checked (definition (sort_in f.unit ty)) first
+      high ← tested checked (definition (sort_in f.unit ty)) last
       at ← counter program f variable
       changed (assigned at (Ordinal low))
       turn program again f variable high down body (statement program again f body)
