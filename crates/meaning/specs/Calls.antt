@@ -1,5 +1,5 @@
 -- What a call does once its arguments are known.
-use Rattle.std.specs.Prelude.{ℕ, zero, suc, ℤ, if◌then◌else◌, ◌+◌, ◌&&◌, not, nat_lt, Bool, true, false, List, [], ◌∷◌, length, map, Option, Some, None, pos, negsuc, Ok}
+use Rattle.std.specs.Prelude.{ℕ, zero, suc, ℤ, ◌+◌, ◌&&◌, not, nat_lt, Bool, true, false, List, [], ◌∷◌, length, map, Option, Some, None, pos, negsuc, Ok}
 use Rattle.std.specs.Option.{option_map_or}
 use Rattle.type_layout.specs.Words.{same_bytes}
 use Rattle.typed_tree.specs.declared.expressions.Variable.{Variable}

@@ -1,5 +1,6 @@
 -- The standard routines.
 use Rattle.std.specs.Prelude.{ℕ, option_and_then, ◌%◌, ◌==◌, nat_lt, if◌then◌else◌, ℤ, pos, negsuc, ◌+ℤ◌, ◌-ℤ◌, ◌*ℤ◌, neg_ℤ, unsigned_abs, List, [], ◌∷◌, ◌++◌, length, map, slice_get, Option, Some, None, Ok, Err}
+use Rattle.std.specs.Option.{option_flatten}
 use Rattle.integers.specs.Words.{w8, w16, word_of, low_byte, high_byte, word_from_bytes}
 use Rattle.type_layout.specs.declared.definitions.Host.{Host}
 use Rattle.type_layout.specs.declared.definitions.Host.TheVariants as host
