@@ -155,10 +155,10 @@ code-written m bytes s pending seats small same sound standing steps = λ v entr
     (omega (arith, there, same, length-table m.ring.room m.ring.seats 0 m.stubs)) (omega (arith, there, same, length-table m.ring.room seats 0 m.stubs)) found some
     (stand-apart m.ring.room m.entries m.stubs seats v entry small same sound found some) whole
     (λ kept.
-        let place : (overlay_at old v).load ≡ load = kept-place (overlay_at old v) (overlay_at new v) kept some in
-        subst (λ (load : ℕ). Stands s.memory load (code_of bytes entry)) place (standing.code v entry found (λ none. some (sym place ∙ none)))) in
+    let place : (overlay_at old v).load ≡ load = kept-place (overlay_at old v) (overlay_at new v) kept some in
+    subst (λ (load : ℕ). Stands s.memory load (code_of bytes entry)) place (standing.code v entry found (λ none. some (sym place ∙ none)))) in
     stands-from (written_of m s pending seats loaded) loaded load (code_of bytes entry)
     (λ k below.
-        let length_code = length-code_of bytes entry sizes.0 whole in
-        let at : address load k ≡ 16 * load + k = omega (arith, below, length_code, it.load_is, it.inside) in
-        buffer-kept m s pending seats loaded steps (address load k) (omega (arith, at, it.load_is), omega (arith, at, below, length_code, it.load_is, it.inside))) stands
+    let length_code = length-code_of bytes entry sizes.0 whole in
+    let at : address load k ≡ 16 * load + k = omega (arith, below, length_code, it.load_is, it.inside) in
+    buffer-kept m s pending seats loaded steps (address load k) (omega (arith, at, it.load_is), omega (arith, at, below, length_code, it.load_is, it.inside))) stands

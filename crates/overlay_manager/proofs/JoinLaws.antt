@@ -74,7 +74,7 @@ made m trap s room stubs seats_old old old_seen live live_seen ring seats_new ne
     let legal : IsTable (map paragraphs_of m.entries) m.ring.room (table_of (seats_after m trap s)) =
     subst (λ (sizes : List ℕ). IsTable sizes m.ring.room (table_of (seats_after m trap s))) same_sizes
     (subst (λ (room : ℕ). IsTable ring.sizes room (table_of (seats_after m trap s))) same_room
-        (subst (λ (seats : List Seat). IsTable ring.sizes ring.room (table_of seats)) seats_is chosen.legal)) in
+    (subst (λ (seats : List Seat). IsTable ring.sizes ring.room (table_of seats)) seats_is chosen.legal)) in
     let small : m.ring.room ≤ 40848 = omega (arith, chosen.room_is, chosen.small) in
     record {
       old_is = old_is;
@@ -141,6 +141,7 @@ stop-joined m trap s t old new ring later stop it sound others within later_is e
   where
     cut : IsCutShort m trap s t later
     cut = record { sound = sound; machine = others; buffer = within (16 * buffer_segment m.ring.room) 0xA0000 it.lie; seats = later_is ∙ it.later }
+
     by : (stop : ServiceStop) → IsLoadStop stop → StopsServing m trap s t later stop
     by (stops.NoStub cs ip) either = either
     by (stops.BadChain bp) either = absurd either

@@ -83,7 +83,7 @@ all-shown memory table whole (Into v offset ∷ items) met found inside returns 
     ap₂ (λ (item : Denoted) (others : List Denoted). item ∷ others)
     (denoted-shown memory table v (met stub) offset found inside.0 returns.0 (λ out unmet. saves v offset inside.0 out (sym (to_come v inside.0 unmet) ∙ first)))
     (all-shown memory table whole items (met_too stub met) found inside.1 returns.1 saves
-        (λ w there unmet. later w (overlay_at table w).stub refl ((overlay_at table w).stub == stub) refl unmet (to_come w there)))
+    (λ w there unmet. later w (overlay_at table w).stub refl ((overlay_at table w).stub == stub) refl unmet (to_come w there)))
   where
     later : (w other : ℕ) → (overlay_at table w).stub ≡ other → (same : Bool) → (other == (overlay_at table v).stub) ≡ same → cond same true (met other) ≡ false → (met other ≡ false → topmost_into table other (Into v offset ∷ items) ≡ topmost_into table other whole)
         → topmost_into table other items ≡ topmost_into table other whole

@@ -63,6 +63,7 @@ whole-next (Some held) now_known name entries old new k entry was now same there
   where
     W : OvrEntry → Type 0
     W entry = 0 < entry.size → IsWhole (bytes_of held name) entry
+
     by : (v : ℕ) (here : Bool) → (v == k) ≡ here → v < k + 1 → IsTrue (is_moved (overlay_at old v) (overlay_at new v)) → IfSome (slice_get entries v) W
     by v true here below moved =
         let is : v ≡ k = eqb-true v k here in
@@ -127,14 +128,17 @@ lie-within room entries stubs seats old small same sound v moved = by (slice_get
   where
     new : List Loaded
     new = table_from room seats 0 stubs
+
     by : (entry : Option OvrEntry) → slice_get entries v ≡ entry → IfSome entry (λ entry. LiesWithin (16 * buffer_segment room) 0xA0000 (overlay_at new v).load entry.size)
     by None none = tt
     by (Some entry) found = placed (place_of v seats) refl
       where
         there : v < length entries
         there = slice_get_within entries v entry found
+
         load_is : (overlay_at new v).load ≡ load_segment room seats v
         load_is = let number : 0 + v ≡ v = omega arith in overlay-at room seats 0 stubs v (omega (arith, there, same)) ∙ ap (load_segment room seats) number
+
         placed : (at : Option ℕ) → place_of v seats ≡ at → LiesWithin (16 * buffer_segment room) 0xA0000 (overlay_at new v).load entry.size
         placed None none = absurd (moved_some (overlay_at old v) (overlay_at new v) moved (load_is ∙ segment-of room seats v None none))
         placed (Some at) is_there =

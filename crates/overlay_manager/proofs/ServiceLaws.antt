@@ -100,9 +100,9 @@ pub stub-word-kept : (room : ℕ) (first memory other : List ℕ) (offset : ℕ)
 stub-word-kept room first memory other offset stubs small same off_it =
     each-then (StubOffBuffer room first) (λ stub. load_word memory stub offset ≡ load_word other stub offset) stubs
     (λ stub bytes.
-        let next : next_offset offset ≡ offset + 1 = omega arith in
-        let high : IsOffBuffer room (address stub (next_offset offset)) = subst (λ (at : ℕ). IsOffBuffer room (address stub at)) (sym next) (bytes (offset + 1) (omega arith)) in
-        word-same memory other stub offset (same (address stub offset) (bytes offset (omega arith))) (same (address stub (next_offset offset)) high)) off_it
+    let next : next_offset offset ≡ offset + 1 = omega arith in
+    let high : IsOffBuffer room (address stub (next_offset offset)) = subst (λ (at : ℕ). IsOffBuffer room (address stub at)) (sym next) (bytes (offset + 1) (omega arith)) in
+    word-same memory other stub offset (same (address stub offset) (bytes offset (omega arith))) (same (address stub (next_offset offset)) high)) off_it
 
 -- the memory as live pairs followed, where the chain is sound
 followed-is : (s : State) (pending : Bool) (old new : List Loaded) (links : List ℕ) → chain_of s ≡ Ok links → followed s pending old new ≡ repaired_memory s pending old new links

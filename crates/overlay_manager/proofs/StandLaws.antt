@@ -219,8 +219,8 @@ loads-stand bytes (first ∷ entries) (was ∷ old) (now ∷ new) memory zero en
     let same : with_load bytes first was now memory ≡ moved = ap (λ entry. with_load bytes entry was now memory) is in
     subst (λ (memory : List ℕ). Stands (with_loads bytes entries old new memory) now.load (code_of bytes entry)) (sym same)
     (stands-from (with_loads bytes entries old new moved) moved now.load (code_of bytes entry)
-        (λ k below. rest (address now.load k) (behind bytes first entries now new loads)
-            (λ w other found_other some_other. outside-other now.load entry.size (overlay_at new w).load other.size k inside (omega (arith, below, length-code_of bytes entry small.0 whole)) (apart (suc w) other found_other some_other (λ same. omega arith)))) here)
+    (λ k below. rest (address now.load k) (behind bytes first entries now new loads)
+    (λ w other found_other some_other. outside-other now.load entry.size (overlay_at new w).load other.size k inside (omega (arith, below, length-code_of bytes entry small.0 whole)) (apart (suc w) other found_other some_other (λ same. omega arith)))) here)
   where
     one : (moved : Bool) → is_moved was now ≡ moved → Stands (cond moved (with_code memory now.load entry bytes) memory) now.load (code_of bytes entry)
     one true moved = code-stands memory now.load entry bytes length_is (loads.inside 0 entry found some) (loads.small 0 entry found).1 (loads.small 0 entry found).0 whole
@@ -231,6 +231,6 @@ loads-stand bytes (first ∷ entries) (was ∷ old) (now ∷ new) memory (suc v)
     loads-stand bytes entries old new moved v entry (length-load bytes first was now memory (loads.inside 0 first refl) (loads.small 0 first refl).1 ∙ length_is) (behind bytes first entries now new loads) (omega arith) (omega arith) found some
     (λ w other found_other some_other differ. apart (suc w) other found_other some_other (λ same. differ (omega arith))) whole
     (λ kept. stands-from moved memory (overlay_at new v).load (code_of bytes entry)
-        (λ k below. load-elsewhere bytes first was now memory (address (overlay_at new v).load k) (loads.inside 0 first refl) (loads.small 0 first refl).1
-            (λ is_moved_first. outside-other (overlay_at new v).load entry.size now.load first.size k (loads.inside (suc v) entry found some) (omega (arith, below, length-code_of bytes entry small.0 whole)) (apart 0 first refl (moved_some was now is_moved_first) (λ same. omega arith))))
-        (before kept))
+    (λ k below. load-elsewhere bytes first was now memory (address (overlay_at new v).load k) (loads.inside 0 first refl) (loads.small 0 first refl).1
+    (λ is_moved_first. outside-other (overlay_at new v).load entry.size now.load first.size k (loads.inside (suc v) entry found some) (omega (arith, below, length-code_of bytes entry small.0 whole)) (apart 0 first refl (moved_some was now is_moved_first) (λ same. omega arith))))
+    (before kept))

@@ -21,9 +21,9 @@ pub pairs-off-each : (memory : List ℕ) (ss : ℕ) (places stubs : List ℕ) �
 pairs-off-each memory ss places [] off_it = tt
 pairs-off-each memory ss places (stub ∷ stubs) off_it = (
   λ k inside. each-then (λ place. AllByRecursion (IsOffStubs memory (stub ∷ stubs)) (pair_bytes ss place)) (λ place. IsElsewhere (address stub k) (pair_bytes ss place)) places
-  (λ place bytes. each-then (IsOffStubs memory (stub ∷ stubs)) (λ byte. address stub k ≢ byte) (pair_bytes ss place) (λ byte is_off same. is_off.0 k inside (sym same)) bytes) off_it,
+      (λ place bytes. each-then (IsOffStubs memory (stub ∷ stubs)) (λ byte. address stub k ≢ byte) (pair_bytes ss place) (λ byte is_off same. is_off.0 k inside (sym same)) bytes) off_it,
   pairs-off-each memory ss places stubs
-  (each-then (λ place. AllByRecursion (IsOffStubs memory (stub ∷ stubs)) (pair_bytes ss place)) (λ place. AllByRecursion (IsOffStubs memory stubs) (pair_bytes ss place)) places
+      (each-then (λ place. AllByRecursion (IsOffStubs memory (stub ∷ stubs)) (pair_bytes ss place)) (λ place. AllByRecursion (IsOffStubs memory stubs) (pair_bytes ss place)) places
       (λ place bytes. each-then (IsOffStubs memory (stub ∷ stubs)) (IsOffStubs memory stubs) (pair_bytes ss place) (λ byte is_off. is_off.1) bytes) off_it),
 )
 
@@ -54,10 +54,10 @@ entries-followed m s pending seats loaded steps =
     λ at pairs saved. differ.others at pairs (each-overlay (λ other. IsElsewhere at (word_bytes other 2)) (table_by m seats) (tabled (λ other. IsElsewhere at (word_bytes other 2)) m seats saved)) in
     each-then (λ stub. (OffPairs stub × Counts stub) × Loads stub) (SameEntries final s.memory) m.stubs
     (λ stub known.
-        word-same final loaded stub 12
-        (byte (address stub 12) (known.0.0 12 (omega arith)) (each-then (CountOffSaved stub) (λ other. IsElsewhere (address stub 12) (word_bytes other 2)) m.stubs (λ other it. it.0) known.0.1))
-        (byte (address stub 13) (known.0.0 13 (omega arith)) (each-then (CountOffSaved stub) (λ other. IsElsewhere (address stub 13) (word_bytes other 2)) m.stubs (λ other it. it.1) known.0.1))
-        ∙ known.1)
+    word-same final loaded stub 12
+    (byte (address stub 12) (known.0.0 12 (omega arith)) (each-then (CountOffSaved stub) (λ other. IsElsewhere (address stub 12) (word_bytes other 2)) m.stubs (λ other it. it.0) known.0.1))
+    (byte (address stub 13) (known.0.0 13 (omega arith)) (each-then (CountOffSaved stub) (λ other. IsElsewhere (address stub 13) (word_bytes other 2)) m.stubs (λ other it. it.1) known.0.1))
+    ∙ known.1)
     (both-each (λ stub. OffPairs stub × Counts stub) Loads m.stubs (both-each OffPairs Counts m.stubs off_pairs counts) loaded_same)
 
 -- writing the stubs leaves what is off what is written
@@ -88,8 +88,8 @@ follow-written m s pending seats loaded steps =
     let saves = each-two (SavedOffWritten s.memory) s.memory m.stubs (saved-own s.memory) (saved-one s.memory) (saved-two s.memory) steps.orderly.stubs_fit steps.orderly.stubs_apart in
     let saved_written = each-then (λ stub. AllByRecursion (SavedOffWritten s.memory stub) m.stubs) (λ stub. saved_at final stub ≡ saved_at between stub) m.stubs
     (λ stub off_it. word-same final between stub 2
-        (written-elsewhere m s pending seats loaded steps (address stub 2) (each-then (SavedOffWritten s.memory stub) (λ other. IsOffWritten s.memory other (address stub 2)) m.stubs (λ other it. it.0) off_it))
-        (written-elsewhere m s pending seats loaded steps (address stub 3) (each-then (SavedOffWritten s.memory stub) (λ other. IsOffWritten s.memory other (address stub 3)) m.stubs (λ other it. it.1) off_it))) saves in
+    (written-elsewhere m s pending seats loaded steps (address stub 2) (each-then (SavedOffWritten s.memory stub) (λ other. IsOffWritten s.memory other (address stub 2)) m.stubs (λ other it. it.0) off_it))
+    (written-elsewhere m s pending seats loaded steps (address stub 3) (each-then (SavedOffWritten s.memory stub) (λ other. IsOffWritten s.memory other (address stub 3)) m.stubs (λ other it. it.1) off_it))) saves in
     follow-carried s.memory loaded between final ss places old new (followed_count (loaded_of s loaded) pending old new)
     pairs_loaded (tabled (λ stub. saved_at s.memory stub ≡ saved_at loaded stub) m m.ring.seats saved_loaded) (tabled (λ stub. saved_at s.memory stub ≡ saved_at loaded stub) m seats saved_loaded)
     (follow-loaded m s pending seats loaded steps) pairs_written (tabled (λ stub. saved_at final stub ≡ saved_at between stub) m seats saved_written)

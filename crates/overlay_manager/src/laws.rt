@@ -17,5 +17,4 @@ pub fn return_law()
         HaveSameStubs first second → HaveSameStubs second third → IsFound second → IsFound third →
         AreReturns second (denotations memory ss first places) → AreReturns third (denotations memory ss first places) →
         TwoServices memory between later after ss places first second third → DenoteSame memory after ss places first third }
-{
-}
+{}

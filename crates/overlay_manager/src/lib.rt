@@ -6,12 +6,12 @@ mod laws;
 mod loading;
 mod ovr;
 mod program;
+#[cfg(test)]
+mod run_tests;
 mod serving;
 mod stubbing;
 mod tables;
 mod tally;
-#[cfg(test)]
-mod run_tests;
 #[cfg(test)]
 mod tests;
 mod traps;

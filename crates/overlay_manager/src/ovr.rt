@@ -189,7 +189,8 @@ impl Ovr {
         let stubs = self.program.stubs.as_slice();
         set_table(self.room, self.ring.list(), stubs, &mut self.tables.old);
         live(machine, trap.call, &self.tables.old, &mut self.tables.live)?;
-        self.ring.wanted_retry(trap.overlay, &self.tables.live, self.retry);
+        self.ring
+            .wanted_retry(trap.overlay, &self.tables.live, self.retry);
         set_table(self.room, self.ring.list(), stubs, &mut self.tables.new);
         match bring(
             machine,

@@ -1,6 +1,6 @@
 //! Programs on the machine: two overlays whose routines call each other, and three of which one moves.
 
-ghost use Rattle.std.specs.Prelude.{◌<◌, ◌≤◌, ◌×◌, IsTrue};
+ghost use Rattle.std.specs.Prelude.{◌<◌, ◌≤◌, IsTrue};
 ghost use Rattle.std.specs.List.{All};
 ghost use Rattle.overlay_manager.specs.Manager.{paragraphs_of};
 
@@ -168,9 +168,18 @@ fn two_overlays_take_turns_in_one_place(rt: HostRuntime) -> Result<(), Fail> {
     let mut machine = machine_with(alloc, &CALLS_A, &stubs)?;
     let traps = run(&mut machine, &mut ovr, &mut files);
     assert_eq!(rt; traps, Ok(5));
-    assert_eq!(rt; ovr.tally(), Tally { loads: 5, patched: 4 });
+    assert_eq!(rt;
+        ovr.tally(),
+        Tally {
+            loads: 5,
+            patched: 4
+        }
+    );
     assert_eq!(rt; state(&machine), [0x0100, 7, 0x0200, 0, 0x1234]);
-    assert_eq!(rt; stub_at(&machine, 0x0200), [0x9FFF, 0, 0x00EA, 0xFF00, 0x9F]);
+    assert_eq!(rt;
+        stub_at(&machine, 0x0200),
+        [0x9FFF, 0, 0x00EA, 0xFF00, 0x9F]
+    );
     assert_eq!(rt; stub_at(&machine, 0x0210), [0, 0, 0x3FCD, 0, 0]);
     Ok(())
 }
@@ -193,12 +202,24 @@ fn three(alloc: Global, retry: u16) -> Result<(u32, Tally, [u16; 5]), Fail> {
 fn a_reprieved_overlay_moves(rt: HostRuntime) -> Result<(), Fail> {
     let (traps, tally, at_end) = three(rt.alloc(), 0)?;
     assert_eq!(rt; traps, 4);
-    assert_eq!(rt; tally, Tally { loads: 4, patched: 1 });
+    assert_eq!(rt;
+        tally,
+        Tally {
+            loads: 4,
+            patched: 1
+        }
+    );
     assert_eq!(rt; at_end, [0x0100, 12, 0x0200, 3, 0x1234]);
 
     let (traps, tally, at_end) = three(rt.alloc(), 1)?;
     assert_eq!(rt; traps, 3);
-    assert_eq!(rt; tally, Tally { loads: 4, patched: 1 });
+    assert_eq!(rt;
+        tally,
+        Tally {
+            loads: 4,
+            patched: 1
+        }
+    );
     assert_eq!(rt; at_end, [0x0100, 12, 0x0200, 3, 0x1234]);
     Ok(())
 }

@@ -201,7 +201,14 @@ pub fn bring<F: Files>(
     ensures failed { result ≡ Err ServiceStop.FilesFault → HasRisen (F.faults files.old) (F.faults files.new) }
 {
     let name = program.name.as_str();
-    load_all(machine, files, name, program.entries.as_slice(), tables, block)?;
+    load_all(
+        machine,
+        files,
+        name,
+        program.entries.as_slice(),
+        tables,
+        block,
+    )?;
     let changed = follow(machine, pending, &tables.old, &tables.new);
     set_stubs(machine, seats, &program.stubs, &tables.old, &tables.new);
     Ok(changed)
