@@ -4,3 +4,4 @@ pub mod OrderLaws
 pub mod NeededLaws
 pub mod MergeLaws
 pub mod ResolveLaws
+pub mod ScopeLaws

@@ -76,7 +76,7 @@ fn is_repeated(uses: &[Name], place: usize, name: &Name) -> bool
     requires { place ≤ length uses.now }
     ensures { result ≡ is_repeated (take place uses.now) name.now }
 {
-    name.as_bytes() == b"SYSTEM" || stands_before(uses, place, name)
+    name.as_bytes() == b"SYSTEM".as_slice() || stands_before(uses, place, name)
 }
 
 // The first fault of the uses, if there is one.
