@@ -2,5 +2,3 @@ pub mod CircleLaws
 pub mod VisitLaws
 pub mod OrderLaws
 pub mod NeededLaws
-pub mod MergeLaws
-pub mod ResolveLaws

@@ -1,7 +1,0 @@
-use Rattle.std.proofs.Common.{◌≡◌, ◌∙◌, arith, sym}
-use Rattle.scopes.specs.Symbols.{has}
-use Rattle.unit_interface.proofs.MergeLaws.{items-step, items-end, new-by}
-use Rattle.unit_interface.proofs.merge.symbols_of.Goals as goal
-
-pub returns : goal.returns
-returns c = items-end c.args.ids.now c.args.unit c.args.items.now c.loop-item.symbols c.loop-item.item-index c.loop-item-test.false c.loop-item.invariant
