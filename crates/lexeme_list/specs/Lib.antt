@@ -1,0 +1,3 @@
+pub mod Words
+pub mod Phases
+pub mod Lexemes
