@@ -1,14 +1,14 @@
 -- Live pairs follow also where memory is not the same, but the pairs and the saved offsets are.
-use Rattle.std.proofs.Common.{◌≡◌, ◌≢◌, ℕ, zero, suc, ◌+◌, ◌*◌, ◌%◌, ◌<◌, ◌≤◌, Bool, true, false, cond, List, [], ◌∷◌, length, map, get_or, Option, Some, None, refl, sym, ap, ap₂, subst, ◌∙◌, arith}
-use Rattle.std.specs.Prelude.{slice_index, slice_index_or, position, unwrap_or, ◌==◌, ◌&&◌}
+use Rattle.std.proofs.Common.{◌≡◌, ℕ, zero, suc, ◌+◌, ◌%◌, ◌<◌, cond, List, [], ◌∷◌, length, Option, Some, None, refl, sym, ap, ap₂, ◌∙◌, arith}
+use Rattle.std.specs.Prelude.{slice_index, unwrap_or, ◌==◌, ◌&&◌}
 use Rattle.std.specs.List.{AllByRecursion}
 use Rattle.std.proofs.lemmas.List.Quantifiers.{position-Some}
 use Rattle.cpu_8086.specs.declared.registers.Far.{Far}
 use Rattle.return_repair.specs.declared.table.Loaded.{Loaded}
-use Rattle.return_repair.specs.Pairs.{pair_at, owner, has_segment, is_out, denoted_offset, saved_at}
+use Rattle.return_repair.specs.Pairs.{pair_at, owner, has_segment, is_out, saved_at}
 use Rattle.return_repair.specs.Repair.{no_overlay}
 use Rattle.return_repair.specs.Follows.{Denoted, Into, denoted, denoted_by, denotations, overlay_at, pairs_at, shown, none_met, topmost_into, differing, saved_after, Follow, pair_bytes}
-use Rattle.overlay_manager.specs.Kept.{stubs_of, SamePairs, SameSaved}
+use Rattle.overlay_manager.specs.Kept.{SamePairs, SameSaved}
 use Rattle.overlay_manager.proofs.StubLaws.{word-same}
 
 -- what holds of each holds of each, if the one implies the other

@@ -1,8 +1,7 @@
 -- After a service the code of each loaded overlay stands.
-use Rattle.std.proofs.Common.{◌≡◌, ◌≢◌, ◌⊎◌, inl, inr, ℕ, zero, suc, ◌+◌, ◌-◌, ◌*◌, ◌/◌, ◌%◌, ◌<◌, ◌≤◌, Bool, true, false, cond, List, [], ◌∷◌, length, map, Option, Some, None, refl, sym, ap, ap₂, subst, ◌∙◌, arith}
-use Rattle.std.specs.Prelude.{slice_get, slice_index, IsOk, IsTrue, ◌==◌}
+use Rattle.std.proofs.Common.{◌≡◌, ◌≢◌, ◌⊎◌, inl, inr, ℕ, suc, ◌+◌, ◌*◌, ◌/◌, ◌<◌, ◌≤◌, Bool, true, false, List, [], ◌∷◌, length, map, Option, Some, None, refl, sym, ap, subst, ◌∙◌, arith}
+use Rattle.std.specs.Prelude.{slice_get, slice_index, ◌==◌}
 use Rattle.std.specs.List.{AllByRecursion}
-use Rattle.std.specs.Option.{option_map_or}
 use Rattle.std.proofs.lemmas.Bool.{eqb-true}
 use Rattle.std.proofs.lemmas.Bool.Decides.{nat_tests}
 use Rattle.std.proofs.lemmas.Option.{slice_get_within}
@@ -15,16 +14,16 @@ use Rattle.overlay_ring.specs.Seats.{entry_of, table_of, place_of}
 use Rattle.return_repair.specs.declared.table.Loaded.{Loaded}
 use Rattle.return_repair.specs.Follows.{overlay_at, IsElsewhere, word_bytes, pair_bytes}
 use Rattle.overlay_manager.specs.Code.{code_of, Stands}
-use Rattle.overlay_manager.specs.Loading.{OnlyWithin, IsWhole, is_moved, with_loads}
+use Rattle.overlay_manager.specs.Loading.{is_moved, with_loads}
 use Rattle.overlay_manager.specs.Manager.{Manager, paragraphs_of, buffer_segment, load_segment, table_from, table_by}
-use Rattle.overlay_manager.specs.Orderly.{stub_size, IsOffBuffer, IsOffPairs, StubOffBuffer, places_of, IsOrderlyFor}
+use Rattle.overlay_manager.specs.Orderly.{IsOffBuffer, IsOffPairs, StubOffBuffer, places_of}
 use Rattle.overlay_manager.specs.Serves.{CodeStands, HaveSizes, IsStanding, table_before}
 use Rattle.overlay_manager.proofs.CarriedLaws.{each-then}
 use Rattle.overlay_manager.proofs.LoadLaws.{overlay-at, seat-inside, segment-of, size_of_entry}
 use Rattle.overlay_manager.proofs.ServiceLaws.{each-overlay, Steps, only-pairs}
 use Rattle.overlay_manager.proofs.StandLaws.{Loads, StandApart, loads-stand, stands-from, length-code_of}
 use Rattle.overlay_manager.proofs.StubLaws.{IsOffWritten}
-use Rattle.overlay_manager.proofs.WholeLaws.{written_of, written-elsewhere, tabled, followed_of}
+use Rattle.overlay_manager.proofs.WholeLaws.{written_of, written-elsewhere, tabled}
 
 -- a seat apart from those behind it
 apart-later : (sizes : List ℕ) (e : Entry) (w : ℕ) (seats : List Seat) (at : ℕ) → AllByRecursion (AreApart sizes e) (table_of seats) → place_of w seats ≡ Some at → (end_of sizes e ≤ at) ⊎ (at + slice_index sizes w ≤ e.at)

@@ -1,5 +1,5 @@
 -- The steps of a service as they are called, one after another.
-use Rattle.std.proofs.Common.{◌≡◌, ℕ, ◌+◌, ◌*◌, ◌<◌, ◌≤◌, Bool, false, List, [], length, map, cond, Option, Some, None, Result, Ok, Err, IfSome, refl, sym, ap, ap₂, subst, ◌∙◌, arith}
+use Rattle.std.proofs.Common.{◌≡◌, ℕ, ◌+◌, ◌*◌, ◌≤◌, Bool, false, List, length, map, cond, Option, Some, None, Result, Ok, Err, IfSome, refl, sym, ap, ap₂, subst, ◌∙◌, arith}
 use Rattle.std.specs.Prelude.{slice_index_or, IsOk, OnOk, MatchOption}
 use Rattle.cpu_8086.specs.Memory.{load_word}
 use Rattle.cpu_8086.specs.State.{State}
@@ -17,13 +17,12 @@ use Rattle.overlay_manager.specs.declared.serving.ServiceStop.TheVariants as sto
 use Rattle.overlay_manager.specs.declared.traps.Trap.{Trap}
 use Rattle.overlay_manager.specs.Loading.{load_count, OnlyWithin}
 use Rattle.overlay_manager.specs.Manager.{Manager, paragraphs_of, buffer_segment, load_segment, table_from, table_by, with_stubs, with_seats, with_more}
-use Rattle.overlay_manager.specs.Orderly.{IsOrderlyFor}
-use Rattle.overlay_manager.specs.Serves.{Serves, CodeStands, IsStanding, table_before, table_after}
+use Rattle.overlay_manager.specs.Serves.{table_before, table_after}
 use Rattle.overlay_manager.specs.Service.{seats_after, followed, followed_count, loaded_state, served, served_manager, serviced, serviced_manager}
-use Rattle.overlay_manager.specs.Stops.{IsLoadStop, StopsLoading, StopsServing, StopsShort, IsCutShort, IsShortAt, AreWhole, FileHas, LieWithin}
+use Rattle.overlay_manager.specs.Stops.{IsLoadStop, StopsLoading, StopsServing, StopsShort, IsCutShort, AreWhole, FileHas, LieWithin}
 use Rattle.overlay_manager.specs.Traps.{resumed, is_refused, refused}
 use Rattle.overlay_manager.proofs.LoadLaws.{lie-within}
-use Rattle.overlay_manager.proofs.ServeLaws.{flags-are, served-told, manager-told, serves-told, code-told}
+use Rattle.overlay_manager.proofs.ServeLaws.{flags-are, served-told, manager-told}
 
 -- the tables and the ring, as the calls make them
 pub record Chosen (m : Manager) (trap : Trap) (s : State) (room : ℕ) (stubs : List ℕ) (seats_old : List Seat) (old old_seen : List Loaded) (live live_seen : List Bool) (ring : Buffer) (seats_new : List Seat) (new : List Loaded) : Type 0 where

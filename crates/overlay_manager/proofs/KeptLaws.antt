@@ -1,6 +1,6 @@
 -- Live pairs denote the same after a service.
-use Rattle.std.proofs.Common.{◌≡◌, ◌≢◌, ℕ, zero, suc, ◌+◌, ◌<◌, ◌≤◌, Bool, true, false, cond, eqb, List, [], ◌∷◌, length, map, get_or, Option, Some, None, refl, sym, ap, ap₂, subst, ◌∙◌, arith}
-use Rattle.std.specs.Prelude.{slice_index_or, unwrap_or, ◌==◌, ◌&&◌}
+use Rattle.std.proofs.Common.{◌≡◌, ◌≢◌, ℕ, zero, suc, ◌<◌, Bool, true, false, cond, List, [], ◌∷◌, length, map, Option, Some, None, refl, sym, ap, ap₂, subst, ◌∙◌, arith}
+use Rattle.std.specs.Prelude.{unwrap_or, ◌==◌}
 use Rattle.std.specs.List.{AllByRecursion}
 use Rattle.std.proofs.lemmas.Bool.Decides.{nat_tests}
 use Rattle.std.proofs.lemmas.List.Quantifiers.{position-Some}
@@ -9,7 +9,7 @@ use Rattle.return_repair.specs.declared.table.Loaded.{Loaded}
 use Rattle.return_repair.specs.Pairs.{pair_at, owner, has_segment, is_out, denoted_offset, shown_pair, saved_at, HaveSameStubs}
 use Rattle.return_repair.specs.Repair.{no_overlay}
 use Rattle.return_repair.specs.Follows.{Denoted, Stays, Into, denoted, denoted_by, denotations, overlay_at, pairs_at, shown, none_met, met_too, topmost_into, saved_after, Follow}
-use Rattle.overlay_manager.specs.Kept.{shown_segment, IsFound, IsReturn, AreReturns, DenoteSame, TwoServices}
+use Rattle.overlay_manager.specs.Kept.{shown_segment, IsFound, AreReturns, DenoteSame, TwoServices}
 use Rattle.overlay_manager.proofs.CarriedLaws.{denotations-same}
 
 -- overlays that are denoted are the table's

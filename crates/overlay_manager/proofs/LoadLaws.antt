@@ -1,6 +1,6 @@
 -- Loading the overlays that come or move, one after another; and where their code lies.
-use Rattle.std.proofs.Common.{◌≡◌, ◌≢◌, ℕ, zero, suc, ◌+◌, ◌-◌, ◌*◌, ◌/◌, ◌%◌, ◌<◌, ◌≤◌, Bool, true, false, cond, eq-eqb, List, [], ◌∷◌, length, get_or, map, drop, add-one, Option, Some, None, IfSome, refl, sym, ap, ap₂, subst, ◌∙◌, arith}
-use Rattle.std.specs.Prelude.{slice_get, slice_index, slice_index_or, IsTrue, ◌==◌, ◌&&◌, not, unwrap_or}
+use Rattle.std.proofs.Common.{◌≡◌, ◌≢◌, ℕ, zero, suc, ◌+◌, ◌*◌, ◌/◌, ◌%◌, ◌<◌, ◌≤◌, Bool, true, false, eq-eqb, List, [], ◌∷◌, length, get_or, map, drop, Option, Some, None, IfSome, refl, sym, ap, ap₂, subst, ◌∙◌, arith}
+use Rattle.std.specs.Prelude.{slice_get, slice_index, IsTrue, ◌==◌, ◌&&◌, not}
 use Rattle.std.specs.Option.{option_map_or}
 use Rattle.std.proofs.Math.Seq.{drop-cons}
 use Rattle.std.proofs.lemmas.Option.{slice_get_read, slice_get_within, get_or_from_slice_get}
@@ -15,7 +15,7 @@ use Rattle.overlay_ring.specs.Seats.{table_of, place_of}
 use Rattle.return_repair.specs.declared.table.Loaded.{Loaded}
 use Rattle.return_repair.specs.Repair.{no_overlay}
 use Rattle.return_repair.specs.Follows.{overlay_at}
-use Rattle.overlay_manager.specs.Loading.{is_moved, with_load, with_loads, load_count, IsWhole, LiesWithin}
+use Rattle.overlay_manager.specs.Loading.{is_moved, with_load, with_loads, IsWhole, LiesWithin}
 use Rattle.overlay_manager.specs.Manager.{paragraphs_of, buffer_segment, load_segment, table_from}
 use Rattle.overlay_manager.specs.Stops.{LieWithin}
 

@@ -1,7 +1,7 @@
 -- Parts of a file, one after another.
-use Rattle.std.proofs.Common.{◌≡◌, ℕ, zero, suc, ◌+◌, ◌-◌, ◌*◌, ◌%◌, ◌<◌, ◌≤◌, List, [], ◌∷◌, ◌++◌, length, get_or, take, drop, Option, Some, None, IfSome, refl, sym, ap, ap₂, subst, ◌∙◌, length-take, length-drop, length-append, arith}
-use Rattle.std.proofs.Math.Seq.{take-add, take-length}
-use Rattle.std.proofs.lemmas.List.{drop-drop, take-append-le, take_all, take_at, drop_at, get_or-take, get_or-drop}
+use Rattle.std.proofs.Common.{◌≡◌, ℕ, zero, suc, ◌+◌, ◌-◌, ◌*◌, ◌%◌, ◌<◌, ◌≤◌, List, [], ◌∷◌, ◌++◌, length, get_or, take, drop, Option, Some, None, IfSome, refl, sym, ap, ap₂, subst, ◌∙◌, length-take, length-drop, arith}
+use Rattle.std.proofs.Math.Seq.{take-add}
+use Rattle.std.proofs.lemmas.List.{drop-drop, take-append-le, take_at, drop_at, get_or-take, get_or-drop}
 use Rattle.cpu_8086.specs.Memory.{next_offset, store_byte}
 use Rattle.cpu_8086.specs.Process.{with_bytes}
 use Rattle.cpu_8086.specs.State.{State}

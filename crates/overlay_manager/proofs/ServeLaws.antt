@@ -1,5 +1,5 @@
 -- A service, joined from its steps.
-use Rattle.std.proofs.Common.{◌≡◌, ℕ, zero, suc, ◌+◌, ◌*◌, ◌<◌, ◌≤◌, Bool, true, false, cond, List, [], ◌∷◌, length, map, Option, Some, None, IfSome, refl, sym, ap, ap₂, subst, ◌∙◌, arith}
+use Rattle.std.proofs.Common.{◌≡◌, ℕ, suc, ◌+◌, ◌*◌, ◌≤◌, Bool, true, false, cond, List, [], ◌∷◌, length, map, Option, Some, None, IfSome, refl, sym, ap, ap₂, subst, ◌∙◌, arith}
 use Rattle.std.specs.Prelude.{slice_index, slice_index_or, IsOk}
 use Rattle.cpu_8086.specs.State.{State}
 use Rattle.tp_outside.specs.Folder.{Folder, bytes_of}
@@ -11,11 +11,10 @@ use Rattle.return_repair.specs.Chain.{chain_of}
 use Rattle.return_repair.specs.Live.{is_live}
 use Rattle.return_repair.specs.Pairs.{saved_at}
 use Rattle.return_repair.specs.Follows.{Follow}
-use Rattle.overlay_manager.specs.declared.tally.Tally.{Tally}
 use Rattle.overlay_manager.specs.declared.traps.Trap.{Trap}
 use Rattle.overlay_manager.specs.Loading.{load_count, OnlyWithin}
 use Rattle.overlay_manager.specs.Manager.{Manager, paragraphs_of, buffer_segment, load_segment, table_by, with_stubs, with_seats, with_more}
-use Rattle.overlay_manager.specs.Orderly.{IsOffStubs, IsOffBuffer, IsOffPairs, places_of, IsOrderlyFor}
+use Rattle.overlay_manager.specs.Orderly.{places_of, IsOrderlyFor}
 use Rattle.overlay_manager.specs.Serves.{Serves, CodeStands, IsStanding, table_before, table_after, changed_count}
 use Rattle.overlay_manager.specs.Service.{flags_from, seats_after, followed, followed_count, loaded_state, memory_after, served, served_manager}
 use Rattle.overlay_manager.specs.Traps.{trap_place, resumed}

@@ -1,26 +1,25 @@
 -- A service in an orderly state: live pairs follow, and all else but the buffer and the stubs is as it was.
-use Rattle.std.proofs.Common.{◌≡◌, ◌≢◌, ◌⊎◌, inl, inr, ℕ, zero, suc, ◌+◌, ◌*◌, ◌%◌, ◌<◌, ◌≤◌, Bool, true, false, cond, List, [], ◌∷◌, length, map, Result, Ok, Err, refl, sym, ap, ap₂, subst, ◌∙◌, arith}
+use Rattle.std.proofs.Common.{◌≡◌, ℕ, ◌+◌, ◌*◌, ◌<◌, Bool, List, [], ◌∷◌, Ok, refl, sym, ap, subst, ◌∙◌, arith}
 use Rattle.std.specs.Prelude.{slice_index, IsOk, IsTrue}
 use Rattle.std.specs.List.{AllByRecursion}
 use Rattle.cpu_8086.specs.Memory.{address, next_offset, load_word}
 use Rattle.cpu_8086.specs.State.{State}
-use Rattle.overlay_file.specs.Stubs.{entry_offset}
 use Rattle.overlay_ring.specs.declared.seat.Seat.{Seat}
 use Rattle.return_repair.specs.declared.table.Loaded.{Loaded}
 use Rattle.return_repair.specs.Chain.{chain, chain_of, links_of, live_places, are_clear}
-use Rattle.return_repair.specs.Pairs.{pair_at, saved_at, HaveSameStubs}
+use Rattle.return_repair.specs.Pairs.{pair_at, HaveSameStubs}
 use Rattle.return_repair.specs.Repair.{repaired_memory, repaired_count}
 use Rattle.return_repair.specs.Follows.{IsOrderly, IsOrderlyState, Follow, OnlyPairsDiffer, IsElsewhere, word_bytes, pair_bytes}
 use Rattle.return_repair.proofs.ChainLaws.{chain-kept, ok_links}
 use Rattle.return_repair.proofs.FollowLaws.{follow_state}
 use Rattle.return_repair.proofs.SafeLaws.{safe}
-use Rattle.overlay_manager.specs.Loading.{OnlyWithin, with_loads}
-use Rattle.overlay_manager.specs.Kept.{stubs_of, SamePairs, SameSaved}
-use Rattle.overlay_manager.specs.Manager.{Manager, buffer_segment, table_from, table_by, with_stubs}
-use Rattle.overlay_manager.specs.Orderly.{stub_size, IsOffStub, IsOffStubs, IsOffBuffer, IsOffPairs, AreApartStubs, StubsApart, FitsSegment, StubOffBuffer, EachPairByte, EachLinkByte, places_of, IsOrderlyFor}
-use Rattle.overlay_manager.specs.Service.{followed, followed_by, followed_count, followed_count_by, loaded_state, memory_after}
-use Rattle.overlay_manager.proofs.CarriedLaws.{each-then, SameBytes, pair-same, follow-carried}
-use Rattle.overlay_manager.proofs.StubLaws.{word-same, IsOffWritten, SameEntries, stubs-elsewhere}
+use Rattle.overlay_manager.specs.Loading.{OnlyWithin}
+use Rattle.overlay_manager.specs.Kept.{stubs_of, SamePairs}
+use Rattle.overlay_manager.specs.Manager.{Manager, buffer_segment, table_from, table_by}
+use Rattle.overlay_manager.specs.Orderly.{IsOffBuffer, AreApartStubs, StubsApart, FitsSegment, StubOffBuffer, EachPairByte, EachLinkByte, places_of, IsOrderlyFor}
+use Rattle.overlay_manager.specs.Service.{followed, followed_by, followed_count, followed_count_by}
+use Rattle.overlay_manager.proofs.CarriedLaws.{each-then, SameBytes, pair-same}
+use Rattle.overlay_manager.proofs.StubLaws.{word-same, IsOffWritten}
 use Rattle.overlay_manager.proofs.TableLaws.{stubs-table_from}
 
 -- the stubs of a table that seats make

@@ -1,5 +1,5 @@
 -- Where code that was loaded stands.
-use Rattle.std.proofs.Common.{◌≡◌, ◌≢◌, ◌⊎◌, inl, inr, ℕ, zero, suc, ◌+◌, ◌*◌, ◌%◌, ◌<◌, ◌≤◌, Bool, true, false, cond, eq-eqb, List, [], ◌∷◌, length, get_or, take, drop, length-take, length-drop, Option, Some, None, refl, sym, ap, ap₂, subst, ◌∙◌, arith}
+use Rattle.std.proofs.Common.{◌≡◌, ◌≢◌, ◌⊎◌, inl, inr, ℕ, zero, suc, ◌+◌, ◌*◌, ◌<◌, ◌≤◌, Bool, true, false, cond, List, [], ◌∷◌, length, drop, length-take, length-drop, Some, refl, sym, ap, ap₂, subst, ◌∙◌, arith}
 use Rattle.std.specs.Prelude.{nat_le, slice_get, slice_index, slice_set, IsTrue, ◌==◌}
 use Rattle.std.proofs.lemmas.List.{get_or-set_same, get_or-set_other}
 use Rattle.std.proofs.lemmas.Bool.{eqb-true}
@@ -7,17 +7,16 @@ use Rattle.std.proofs.lemmas.Bool.Decides.{nat_tests}
 use Rattle.std.proofs.Math.ListN.{length-set}
 use Rattle.cpu_8086.specs.Memory.{address, next_offset, load_byte, load_word, store_byte, store_word, low_byte, high_byte}
 use Rattle.cpu_8086.specs.Process.{with_bytes}
-use Rattle.cpu_8086.proofs.MemoryLaws.{length-store_byte, length-store_word, load_byte-store_byte_same, load_byte-store_byte_other, load_byte-store_word_other}
+use Rattle.cpu_8086.proofs.MemoryLaws.{length-store_byte, length-store_word, load_byte-store_byte_same, load_byte-store_byte_other}
 use Rattle.mz_file.specs.Load.{loaded_segment, with_loaded_segment}
 use Rattle.mz_file.specs.Words.{word_at, words_at, with_word}
 use Rattle.overlay_file.specs.declared.overlay.OvrEntry.{OvrEntry}
 use Rattle.overlay_manager.specs.Code.{with_fixup, with_fixups, part_of, fixups_at, with_code, with_fixup_made, with_fixups_made, code_of, Stands}
 use Rattle.return_repair.specs.declared.table.Loaded.{Loaded}
 use Rattle.return_repair.specs.Follows.{overlay_at}
-use Rattle.overlay_manager.specs.Loading.{OnlyWithin, LiesWithin, IsWhole, is_moved, with_load, with_loads}
+use Rattle.overlay_manager.specs.Loading.{OnlyWithin, IsWhole, is_moved, with_load, with_loads}
 use Rattle.overlay_manager.proofs.LoadLaws.{moved_some}
 use Rattle.overlay_manager.proofs.WithinLaws.{within-then, with_bytes-within, with_fixups-within}
-use Rattle.overlay_manager.proofs.PartLaws.{inside_file}
 
 -- the byte of a segment, and its address
 byte-at : (memory : List ℕ) (segment offset : ℕ) → load_byte memory segment offset ≡ slice_index memory (address segment offset)

@@ -1,6 +1,6 @@
 -- Where writing stubs leaves memory as it was.
-use Rattle.std.proofs.Common.{◌≡◌, ◌≢◌, ℕ, zero, suc, ◌+◌, ◌*◌, ◌%◌, ◌<◌, ◌≤◌, Bool, true, false, cond, List, [], ◌∷◌, length, refl, sym, ap, ap₂, subst, ◌∙◌, arith}
-use Rattle.std.specs.Prelude.{slice_index, slice_set, ◌==◌}
+use Rattle.std.proofs.Common.{◌≡◌, ◌≢◌, ℕ, zero, suc, ◌+◌, ◌*◌, ◌%◌, ◌<◌, ◌≤◌, Bool, true, false, cond, List, [], ◌∷◌, refl, sym, ap, ap₂, ◌∙◌, arith}
+use Rattle.std.specs.Prelude.{slice_index, ◌==◌}
 use Rattle.std.specs.List.{AllByRecursion}
 use Rattle.std.proofs.lemmas.List.{get_or-set_other}
 use Rattle.cpu_8086.specs.Memory.{address, next_offset, load_byte, load_word, store_byte, store_word, low_byte, high_byte}
@@ -10,7 +10,7 @@ use Rattle.return_repair.specs.declared.table.Loaded.{Loaded}
 use Rattle.overlay_manager.specs.Kept.{stubs_of}
 use Rattle.overlay_manager.specs.Stubbing.{routine_at, with_trap, with_jump, with_entry, with_entries, with_stub}
 use Rattle.overlay_manager.specs.Manager.{next_stub, with_stubs}
-use Rattle.overlay_manager.specs.Orderly.{stub_size, IsOffStub, AreApartStubs, StubsApart, FitsSegment}
+use Rattle.overlay_manager.specs.Orderly.{stub_size, AreApartStubs, StubsApart, FitsSegment}
 
 -- a byte that was not stored
 pub byte-elsewhere : (memory : List ℕ) (segment offset v at : ℕ) → at ≢ address segment offset → slice_index (store_byte memory segment offset v) at ≡ slice_index memory at

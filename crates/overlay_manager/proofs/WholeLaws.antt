@@ -1,16 +1,15 @@
 -- A whole service in an orderly state.
-use Rattle.std.proofs.Common.{◌≡◌, ◌≢◌, ◌⊎◌, inl, inr, ℕ, ◌+◌, ◌*◌, ◌%◌, ◌<◌, ◌≤◌, Bool, List, [], ◌∷◌, length, Ok, refl, sym, ap, ap₂, subst, ◌∙◌, arith}
-use Rattle.std.specs.Prelude.{slice_index, IsOk}
+use Rattle.std.proofs.Common.{◌≡◌, ◌≢◌, ℕ, ◌<◌, Bool, List, [], ◌∷◌, sym, subst, ◌∙◌, arith}
+use Rattle.std.specs.Prelude.{slice_index}
 use Rattle.std.specs.List.{AllByRecursion}
-use Rattle.cpu_8086.specs.Memory.{address, next_offset, load_word}
+use Rattle.cpu_8086.specs.Memory.{address, load_word}
 use Rattle.cpu_8086.specs.State.{State}
 use Rattle.overlay_ring.specs.declared.seat.Seat.{Seat}
-use Rattle.return_repair.specs.declared.table.Loaded.{Loaded}
-use Rattle.return_repair.specs.Pairs.{pair_at, saved_at}
-use Rattle.return_repair.specs.Follows.{Follow, OnlyPairsDiffer, IsElsewhere, word_bytes, pair_bytes}
-use Rattle.overlay_manager.specs.Kept.{stubs_of, SamePairs, SameSaved}
-use Rattle.overlay_manager.specs.Manager.{Manager, buffer_segment, table_by, with_stubs}
-use Rattle.overlay_manager.specs.Orderly.{stub_size, IsOffStub, IsOffStubs, IsOffBuffer, IsOffPairs, StubsApart, FitsSegment, StubOffBuffer, EachPairByte, places_of}
+use Rattle.return_repair.specs.Pairs.{saved_at}
+use Rattle.return_repair.specs.Follows.{Follow, IsElsewhere, word_bytes, pair_bytes}
+use Rattle.overlay_manager.specs.Kept.{stubs_of}
+use Rattle.overlay_manager.specs.Manager.{Manager, table_by, with_stubs}
+use Rattle.overlay_manager.specs.Orderly.{stub_size, IsOffStub, IsOffStubs, IsOffBuffer, IsOffPairs, StubsApart, FitsSegment, EachPairByte, places_of}
 use Rattle.overlay_manager.specs.Service.{followed, followed_count}
 use Rattle.overlay_manager.proofs.CarriedLaws.{each-then, follow-carried}
 use Rattle.overlay_manager.proofs.StubLaws.{word-same, IsOffWritten, SameEntries, stubs-elsewhere}

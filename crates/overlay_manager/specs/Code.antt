@@ -1,5 +1,5 @@
 -- Loading an overlay: its code at a segment, with its fixups made.
-use Rattle.std.specs.Prelude.{◌≡◌, ℕ, zero, suc, ◌+◌, ◌*◌, ◌<◌, ◌≤◌, nat_le, if◌then◌else◌, List, [], ◌∷◌, ◌++◌, length, take, drop, slice_index}
+use Rattle.std.specs.Prelude.{◌≡◌, ℕ, ◌+◌, ◌<◌, nat_le, if◌then◌else◌, List, [], ◌∷◌, length, take, drop, slice_index}
 use Rattle.cpu_8086.specs.Memory.{load_word, store_word, load_byte}
 use Rattle.cpu_8086.specs.Process.{with_bytes}
 use Rattle.mz_file.specs.Load.{loaded_segment, with_loaded_segment}

@@ -1,5 +1,5 @@
 -- What live pairs denote, over one service and over two.
-use Rattle.std.specs.Prelude.{◌≡◌, ◌≢◌, ℕ, ◌<◌, Bool, false, if◌then◌else◌, ◌==◌, List, [], ◌∷◌, length, Option, None, Some}
+use Rattle.std.specs.Prelude.{◌≡◌, ◌≢◌, ℕ, ◌<◌, false, if◌then◌else◌, ◌==◌, List, [], ◌∷◌, length, None, Some}
 use Rattle.std.specs.List.{AllByRecursion}
 use Rattle.return_repair.specs.declared.table.Loaded.{Loaded}
 use Rattle.return_repair.specs.Pairs.{pair_at, owner, is_out, saved_at}

@@ -1,8 +1,7 @@
 -- Which overlays a service loads, and what loading leaves as it was.
-use Rattle.std.specs.Prelude.{◌≡◌, ℕ, ◌+◌, ◌*◌, ◌<◌, ◌≤◌, ◌⊎◌, ◌==◌, ◌&&◌, not, Bool, if◌then◌else◌, IsTrue, List, [], ◌∷◌, length, slice_index, slice_index_or}
+use Rattle.std.specs.Prelude.{◌≡◌, ℕ, ◌+◌, ◌*◌, ◌<◌, ◌≤◌, ◌⊎◌, ◌==◌, ◌&&◌, not, Bool, if◌then◌else◌, List, [], ◌∷◌, length, slice_index}
 use Rattle.overlay_file.specs.declared.overlay.OvrEntry.{OvrEntry}
 use Rattle.return_repair.specs.declared.table.Loaded.{Loaded}
-use Rattle.return_repair.specs.Follows.{overlay_at}
 use Rattle.overlay_manager.specs.Code.{fixups_at, with_code}
 
 -- An overlay is loaded where it is to stand at a segment at which it did not stand.

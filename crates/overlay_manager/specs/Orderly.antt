@@ -1,5 +1,5 @@
 -- The states in which a service leaves all but its own as it was: live returns, links, stubs and the buffer lie apart.
-use Rattle.std.specs.Prelude.{◌≡◌, ◌≢◌, ℕ, ◌*◌, ◌<◌, ◌≤◌, ◌⊎◌, Bool, List, [], ◌∷◌, slice_index, length}
+use Rattle.std.specs.Prelude.{◌≢◌, ℕ, ◌*◌, ◌<◌, ◌≤◌, ◌⊎◌, Bool, List, [], ◌∷◌}
 use Rattle.std.specs.List.{AllByRecursion}
 use Rattle.cpu_8086.specs.Memory.{address, load_word}
 use Rattle.cpu_8086.specs.State.{State}

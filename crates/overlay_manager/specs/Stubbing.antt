@@ -1,5 +1,5 @@
 -- Stubs as they are written when overlays are loaded and sent out.
-use Rattle.std.specs.Prelude.{ℕ, zero, suc, ◌+◌, ◌%◌, ◌==◌, if◌then◌else◌, List, [], ◌∷◌}
+use Rattle.std.specs.Prelude.{ℕ, zero, suc, ◌+◌, ◌%◌, ◌==◌, if◌then◌else◌, List}
 use Rattle.cpu_8086.specs.Memory.{load_word, store_byte, store_word}
 
 -- the offset of the routine that an entry names, by the load segment by which it stands

@@ -17,7 +17,7 @@ pub struct Program {
 }
 
 /// The size of an overlay in paragraphs.
-fn paragraphs_of(entry: &OvrEntry) -> u16
+pub fn paragraphs_of(entry: &OvrEntry) -> u16
     ensures { result ≡ paragraphs_of entry.now }
 {
     let size = entry.size;

@@ -5,6 +5,7 @@ ghost use Rattle.std.specs.List.{All};
 ghost use Rattle.overlay_manager.specs.Manager.{paragraphs_of};
 
 use super::*;
+use crate::program::paragraphs_of;
 use cpu_8086::{Event, Far, Machine, Reg};
 use mz_file::{Block, Segments};
 use overlay_file::{OvrEntry, OvrIndex, read_ovr};
@@ -69,8 +70,8 @@ fn all_fit(index: &[OvrEntry], room: u16) -> bool
     ensures { IsTrue result → All (λ entry. (0 < paragraphs_of entry) × (paragraphs_of entry ≤ room)) index.now }
 {
     for entry in index {
-        let paragraphs = (u32::from(entry.size) + 15) / 16;
-        if paragraphs == 0 || paragraphs > u32::from(room) {
+        let paragraphs = paragraphs_of(entry);
+        if paragraphs == 0 || paragraphs > room {
             return false;
         }
     }

@@ -1,4 +1,4 @@
-use Rattle.std.proofs.Common.{ℕ, ◌+◌, ◌-◌, ◌++◌, ◌∙◌, take, length, length-take, length-append, IfSome, arith}
+use Rattle.std.proofs.Common.{◌+◌, ◌-◌, ◌++◌, ◌∙◌, take, length, length-take, length-append, IfSome, arith}
 use borrow.Rule.Slice.PartMut.{post_of}
 use Rattle.tp_outside.specs.Folder.{bytes_of, IsPartAt}
 use Rattle.overlay_manager.proofs.PartLaws.{filled-next}

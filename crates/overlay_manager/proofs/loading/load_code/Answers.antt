@@ -1,4 +1,4 @@
-use Rattle.std.proofs.Common.{◌≡◌, ℕ, ◌+◌, ◌<◌, ◌++◌, ◌∙◌, List, take, drop, length, length-take, length-append, length-drop, IfSome, sym, ap, subst, arith}
+use Rattle.std.proofs.Common.{◌≡◌, ℕ, ◌+◌, ◌++◌, ◌∙◌, List, take, drop, length, length-take, length-append, length-drop, IfSome, sym, ap, subst, arith}
 use Rattle.std.proofs.lemmas.List.{take_at}
 use Rattle.cpu_8086.specs.State.{State}
 use Rattle.cpu_8086.specs.Process.{with_bytes}

@@ -1,4 +1,4 @@
-use Rattle.std.proofs.Common.{◌≡◌, ◌+◌, ◌-◌, ◌*◌, List, ℕ, sym, ap, ◌∙◌}
+use Rattle.std.proofs.Common.{◌+◌, ◌-◌, ◌*◌, List, ℕ, sym, ap, ◌∙◌}
 use Rattle.cpu_8086.specs.State.{State}
 use Rattle.mz_file.specs.Words.{words_at}
 use Rattle.overlay_manager.specs.Code.{with_fixups}

@@ -1,5 +1,4 @@
 use Rattle.std.proofs.Common.{◌≡◌, drop}
-use Rattle.cpu_8086.specs.State.{State}
 use Rattle.cpu_8086.specs.Process.{with_bytes}
 use Rattle.overlay_manager.proofs.loading.put_bytes.Given as goal
 

@@ -1,5 +1,4 @@
-use Rattle.std.proofs.Common.{◌≡◌, ℕ, false, List, Option, Some, IfSome, sym, ap, subst, ◌∙◌}
-use Rattle.std.specs.Prelude.{OnOk, MatchOption}
+use Rattle.std.proofs.Common.{◌≡◌, ℕ, false, List, Some, sym, ap, subst, ◌∙◌}
 use Rattle.tp_outside.specs.Folder.{Folder, bytes_of}
 use Rattle.overlay_manager.specs.declared.traps.Trap.{Trap}
 use Rattle.overlay_manager.specs.Manager.{Manager}

@@ -1,4 +1,4 @@
-use Rattle.std.proofs.Common.{◌≡◌, ℕ, ◌+◌, ◌<◌, ◌≤◌, List, IfSome, length, sym, ap, subst, ◌∙◌, arith}
+use Rattle.std.proofs.Common.{◌∙◌, arith}
 use Rattle.overlay_manager.proofs.LoadLaws.{loads-next, whole-next, read-at, lies-at}
 use Rattle.overlay_manager.proofs.WithinLaws.{within-then, others-next}
 use Rattle.overlay_manager.proofs.serving.load_all.Goals as goal

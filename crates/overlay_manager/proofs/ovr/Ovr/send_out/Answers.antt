@@ -1,6 +1,5 @@
-use Rattle.std.proofs.Common.{◌≡◌, ◌+◌, ◌<◌, ◌≤◌, ℕ, List, [], length, map, sym, ap, ◌∙◌, arith}
+use Rattle.std.proofs.Common.{ℕ, List, [], length, map, sym, ap, ◌∙◌, arith}
 use Rattle.return_repair.specs.declared.table.Loaded.{Loaded}
-use Rattle.overlay_manager.specs.Manager.{table_from}
 use Rattle.overlay_manager.proofs.TableLaws.{stubs-table_from, length-table_from}
 use Rattle.overlay_manager.proofs.ovr.Ovr.send_out.Goals as goal
 

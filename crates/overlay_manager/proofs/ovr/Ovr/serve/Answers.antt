@@ -1,10 +1,10 @@
-use Rattle.std.proofs.Common.{◌≡◌, ◌+◌, ◌<◌, ◌≤◌, ℕ, List, [], length, drop, map, IfSome, refl, sym, ap, ap₂, subst, ◌∙◌, arith}
+use Rattle.std.proofs.Common.{◌≡◌, ℕ, List, length, drop, map, IfSome, refl, sym, ap, ap₂, subst, ◌∙◌, arith}
 use Rattle.std.proofs.lemmas.List.{take_at}
 use Rattle.tp_outside.specs.Folder.{bytes_of}
 use Rattle.return_repair.specs.declared.table.Loaded.{Loaded}
 use Rattle.overlay_manager.specs.declared.tally.Tally.{Tally}
 use Rattle.overlay_manager.specs.Loading.{load_count}
-use Rattle.overlay_manager.specs.Manager.{Manager, table_from, with_more}
+use Rattle.overlay_manager.specs.Manager.{Manager}
 use Rattle.overlay_manager.specs.Orderly.{IsOrderlyFor}
 use Rattle.overlay_manager.specs.Serves.{Serves, CodeStands, IsStanding, table_after}
 use Rattle.overlay_manager.specs.Service.{served, served_manager}
