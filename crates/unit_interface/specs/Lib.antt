@@ -1,3 +1,6 @@
 pub mod Uses
 pub mod Circles
 pub mod Order
+pub mod Merge
+pub mod Misfits
+pub mod Resolve

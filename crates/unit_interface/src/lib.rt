@@ -1,12 +1,22 @@
-//! What units see of one another. Today: the order in which they are initialised.
+//! What units see of one another: the scope of a unit that uses others, and the order in which units are initialised.
 #![tactic(auto)]
 
 mod circles;
 mod edges;
+mod interfaces;
+mod keys;
+mod merge;
 mod order;
+mod overlay;
+mod renumber;
+#[cfg(test)]
+mod resolve_tests;
+mod resolving;
 #[cfg(test)]
 mod tests;
 mod visits;
 
 pub use edges::UsesOf;
+pub use interfaces::Interface;
 pub use order::{Order, OrderError, initial_order};
+pub use resolving::{ResolveError, resolve};

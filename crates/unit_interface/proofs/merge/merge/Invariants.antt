@@ -1,0 +1,6 @@
+use Rattle.std.proofs.Common.{◌≡◌}
+use Rattle.unit_interface.specs.Merge.{merged}
+use Rattle.unit_interface.proofs.merge.merge.Given as goal
+
+abbrev pub invariant-loop-number : goal.invariant-loop-number
+invariant-loop-number l = l.scope ≡ record l.initial.scope { types = merged l.other l.ids l.initial.scope.types l.number }

@@ -1,0 +1,43 @@
+-- Types of an interface that can't stand in a table.
+use Rattle.std.specs.Prelude.{◌≡◌, ◌⊎◌, ℕ, ◌<◌, true, List, Some, slice_get}
+use Rattle.type_layout.specs.declared.definitions.TypeId.{TypeId}
+use Rattle.type_layout.specs.declared.definitions.Origin.{Origin}
+use Rattle.type_layout.specs.declared.definitions.TypeDef.{TypeDef}
+use Rattle.type_layout.specs.Layouts.{size_over}
+use Rattle.type_layout.specs.Table.{Table, IsAddable}
+use Rattle.unit_interface.specs.declared.merge.MergeError.{MergeError}
+use Rattle.unit_interface.specs.declared.merge.MergeError.TheVariants.{Mismatch, NoMemory}
+use Rattle.unit_interface.specs.Merge.{key_of, added_type, merged, is_new, ids_in}
+
+-- the types that a table has for the parts of a type are not of the right kind, or the type is too large
+abbrev pub IsMisfit : Table → List ℕ → TypeDef → Type 0
+IsMisfit table origin one = (IsAddable table origin one → ⊥) ⊎ (65520 < size_over table.types one)
+
+abbrev pub IsMisfitCause : Table → List ℕ → TypeDef → MergeError → Type 0
+IsMisfitCause table origin one Mismatch = IsMisfit table origin one
+IsMisfitCause table origin one NoMemory = Unit {0}
+
+-- The type of this number of another table is new in a table and can't stand there.
+pub record IsUnfit (ids : List TypeId) (table other : Table) (number : ℕ) : Type 0 where
+  pub one : TypeDef
+  pub origin : Origin
+  pub stands : slice_get other.types number ≡ Some one
+  pub declared : slice_get other.origins number ≡ Some origin
+  pub new : is_new ids table number ≡ true
+  pub misfit : IsMisfit table (key_of other.units origin).unit (added_type ids table (key_of other.units origin) one)
+
+abbrev pub IsMisfitAt : List TypeId → Table → Table → ℕ → MergeError → Type 0
+IsMisfitAt ids table other number Mismatch = IsUnfit ids table other number
+IsMisfitAt ids table other number NoMemory = Unit {0}
+
+-- one of the types of another table can't stand in a table, when those before it were added
+pub record IsMisfitting (ids : List TypeId) (table other : Table) : Type 0 where
+  pub number : ℕ
+  pub unfit : IsUnfit ids (merged other ids table number) other number
+
+abbrev pub IsCause : List TypeId → Table → Table → MergeError → Type 0
+IsCause ids table other Mismatch = IsMisfitting ids table other
+IsCause ids table other NoMemory = Unit {0}
+
+abbrev pub IsMergeCause : Table → Table → MergeError → Type 0
+IsMergeCause table other error = IsCause (ids_in table other) table other error

@@ -1,0 +1,224 @@
+//! The types and items of an interface, as they come into a scope.
+
+ghost use Rattle.std.specs.Prelude.{◌≡◌, ◌<◌, [], length, position, IfErr, IfOk, OnOk};
+ghost use Rattle.type_layout.specs.Table.{IsWellFormed, place_of, with_type};
+ghost use Rattle.type_layout.specs.Words.{same_bytes};
+ghost use Rattle.unit_interface.specs.Merge.{renumbered, is_new, with_merged, merged, name_of, entry_of, with_items, with_interface};
+ghost use Rattle.unit_interface.specs.Misfits.{IsMisfitCause, IsMisfitAt, IsCause, IsMergeCause};
+
+use crate::Interface;
+use crate::keys::ids_in;
+use crate::renumber::{header_of, new_id, type_of};
+use scopes::{Entry, Scope, Symbols};
+use std::alloc::{AllocError, Global};
+use type_layout::{Name, RoutineId, TypeDef, TypeError, TypeId, Types};
+use typed_tree::{Item, Value};
+
+/// Why the types of an interface don't come into a table.
+#[derive(Debug, Drop)]
+pub(crate) enum MergeError {
+    /// A type can't stand on those that the table has for its parts, or is too large.
+    Mismatch,
+    NoMemory,
+}
+
+impl From<AllocError> for MergeError {
+    ghost use Rattle.std.specs.Prelude.{◌≡◌};
+    ghost use Rattle.unit_interface.specs.declared.merge.MergeError.TheVariants.{NoMemory};
+
+    ghost from_gives = { λ _ error. error ≡ NoMemory };
+
+    fn from(_error: AllocError) -> MergeError {
+        MergeError::NoMemory
+    }
+}
+
+// The place of a unit among units.
+fn find_unit(units: &[Name], unit: &Name) -> Option<usize>
+    ensures { result ≡ position (same_bytes unit.now) units.now }
+{
+    units.iter().position(|known| *unit == *known)
+}
+
+// The place of a unit among units, the next one where it is new.
+fn place_in(units: &[Name], unit: &Name) -> usize
+    ensures { result ≡ place_of units.now unit.now }
+{
+    match find_unit(units, unit) {
+        Some(place) => place,
+        None => units.len(),
+    }
+}
+
+// The place of a unit among the units of a table, the next one where it is new.
+fn place_of(types: &Types, unit: &Name) -> Result<u32, AllocError>
+    ensures { IfOk result (λ place. place ≡ place_of types.now.units unit.now) }
+{
+    match u32::try_from(place_in(types.units(), unit)) {
+        Ok(place) => Ok(place),
+        Err(_) => Err(AllocError),
+    }
+}
+
+// A type with new ids, as it comes into a table from the unit that declares it.
+fn added_type(
+    alloc: Global,
+    types: &Types,
+    ids: &[TypeId],
+    origin: &Name,
+    one: &TypeDef,
+) -> Result<TypeDef, AllocError>
+    ensures { IfOk result (λ added. added ≡ renumbered ids.now (place_of types.now.units origin.now) one.now) }
+{
+    let place = place_of(types, origin)?;
+    type_of(alloc, ids, place, one)
+}
+
+// Whether the type with this number has the id of the type that is added next.
+fn is_new(ids: &[TypeId], types: &Types, number: u32) -> bool
+    ensures { result ≡ is_new ids.now types.now number }
+{
+    let id = match ids.get(number as usize) {
+        Some(id) => *id,
+        None => TypeId(number),
+    };
+    id.0 >= types.count()
+}
+
+fn add(scope: &mut Scope, origin: Name, number: u32, one: TypeDef) -> Result<(), MergeError>
+    ensures ok { OnOk result (scope.new ≡ record scope.old { types = with_type scope.old.types origin number one }) }
+    ensures cause { IfErr result (IsMisfitCause scope.old.types origin one) }
+{
+    if !scope.types().takes(&origin, &one) {
+        return Err(MergeError::Mismatch);
+    }
+    match scope.add_type(origin, number, one) {
+        Ok(_) => Ok(()),
+        Err(TypeError::TooLarge { .. }) => Err(MergeError::Mismatch),
+        Err(TypeError::NoMemory) => Err(MergeError::NoMemory),
+    }
+}
+
+// The type with this number of another table, as it comes into this one.
+fn merge_type(
+    alloc: Global,
+    scope: &mut Scope,
+    other: &Types,
+    ids: &[TypeId],
+    number: u32,
+) -> Result<(), MergeError>
+    requires known { number < length other.now.types }
+    requires well_formed { IsWellFormed other.now }
+    ensures ok { OnOk result (scope.new ≡ record scope.old { types = with_merged other.now ids.now scope.old.types number }) }
+    ensures cause { IfErr result (IsMisfitAt ids.now scope.old.types other.now number) }
+{
+    if !is_new(ids, scope.types(), number) {
+        return Ok(());
+    }
+    let (unit, own) = other.origin(TypeId(number));
+    let origin = other.units()[unit as usize].copied();
+    let one = added_type(
+        alloc,
+        scope.types(),
+        ids,
+        &origin,
+        other.get(TypeId(number)),
+    )?;
+    add(scope, origin, own, one)
+}
+
+// The types of another table, as they come into this one.
+fn merge(alloc: Global, scope: &mut Scope, other: &Types, ids: &[TypeId]) -> Result<(), MergeError>
+    ensures ok { OnOk result (scope.new ≡ record scope.old { types = merged other.now ids.now scope.old.types (length other.now.types) }) }
+    ensures cause { IfErr result (IsCause ids.now scope.old.types other.now) }
+{
+    for number in 0..other.count() {
+        merge_type(alloc, scope, other, ids, number)?;
+    }
+    Ok(())
+}
+
+fn value_of(alloc: Global, value: &Value) -> Result<Value, AllocError>
+    ensures { IfOk result (λ copy. copy ≡ value.now) }
+{
+    Ok(match value {
+        Value::Number(number) => Value::Number(*number),
+        Value::Chars(bytes) => Value::Chars(bytes.copied(alloc)?),
+        Value::Nil => Value::Nil,
+        Value::Elements(bytes) => Value::Elements(bytes.copied(alloc)?),
+    })
+}
+
+fn name_of(item: &Item) -> Name
+    ensures { result ≡ name_of item.now }
+{
+    match item {
+        Item::Const { name, .. } => name.copied(),
+        Item::Ty { name, .. } => name.copied(),
+        Item::Var { name, .. } => name.copied(),
+        Item::Code { name, .. } => name.copied(),
+    }
+}
+
+// What an item of the unit at this place means.
+fn entry_of(alloc: Global, ids: &[TypeId], unit: u32, item: &Item) -> Result<Entry, AllocError>
+    ensures { IfOk result (λ entry. entry ≡ entry_of ids.now unit item.now) }
+{
+    Ok(match item {
+        Item::Const { ty, value, .. } => Entry::Const {
+            ty: new_id(ids, *ty),
+            value: value_of(alloc, value)?,
+        },
+        Item::Ty { ty, .. } => Entry::Ty {
+            ty: new_id(ids, *ty),
+        },
+        Item::Var { ty, number, .. } => Entry::Var {
+            unit,
+            level: 0,
+            number: *number,
+            ty: new_id(ids, *ty),
+        },
+        Item::Code { header, number, .. } => Entry::Code {
+            routine: RoutineId {
+                unit,
+                number: *number,
+            },
+            level: 0,
+            header: header_of(alloc, ids, header)?,
+        },
+    })
+}
+
+/// The names of the items of the unit at this place.
+pub(crate) fn symbols_of(
+    alloc: Global,
+    ids: &[TypeId],
+    unit: u32,
+    items: &[Item],
+) -> Result<Symbols, AllocError>
+    ensures { IfOk result (λ symbols. symbols ≡ with_items ids.now unit [] items.now) }
+{
+    let mut symbols = Symbols::new(alloc);
+    for item in items {
+        let entry = entry_of(alloc, ids, unit, item)?;
+        let _is_new = symbols.enter(name_of(item), entry)?;
+    }
+    Ok(symbols)
+}
+
+/// Adds a used unit with the types and names of its interface.
+pub(crate) fn add_interface(
+    alloc: Global,
+    scope: &mut Scope,
+    interface: &Interface,
+) -> Result<(), MergeError>
+    ensures ok { OnOk result (scope.new ≡ with_interface scope.old interface.now) }
+    ensures cause { IfErr result (IsMergeCause scope.old.types interface.now.types) }
+{
+    let ids = ids_in(alloc, scope.types(), &interface.types)?;
+    let unit = scope.unit(interface.name.copied())?;
+    merge(alloc, scope, &interface.types, ids.as_slice())?;
+    let symbols = symbols_of(alloc, ids.as_slice(), unit, interface.items.as_slice())?;
+    scope.add_use(symbols)?;
+    Ok(())
+}
