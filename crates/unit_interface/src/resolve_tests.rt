@@ -108,15 +108,18 @@ fn told(alloc: Global, uses: &[&[u8]]) -> Result<(u8, u8), AllocError> {
     let have = sample(alloc)?;
     let list = names(alloc, uses)?;
     let own = named(b"P")?;
-    Ok(
-        match resolve(alloc, &own, list.as_slice(), have.as_slice()) {
-            Ok(_) => (b'+', b'+'),
-            Err(ResolveError::MissingUnit { name }) => (b'M', first(&name)),
-            Err(ResolveError::DuplicateUse { name }) => (b'D', first(&name)),
-            Err(ResolveError::Mismatch { name }) => (b'T', first(&name)),
-            Err(ResolveError::NoMemory) => return Err(AllocError),
-        },
-    )
+    let resolved = resolve(alloc, &own, list.as_slice(), have.as_slice());
+    Ok(letters(&resolved))
+}
+
+fn letters(resolved: &Result<Scope, ResolveError>) -> (u8, u8) {
+    match resolved {
+        Ok(_) => (b'+', b'+'),
+        Err(ResolveError::MissingUnit { name }) => (b'M', first(name)),
+        Err(ResolveError::DuplicateUse { name }) => (b'D', first(name)),
+        Err(ResolveError::Mismatch { name }) => (b'T', first(name)),
+        Err(ResolveError::NoMemory) => (b'N', b'N'),
+    }
 }
 
 fn first(name: &Name) -> u8 {
