@@ -6,3 +6,8 @@ pub mod MergeLaws
 pub mod ResolveLaws
 pub mod ScopeLaws
 pub mod OverlayLaws
+pub mod ReachLaws
+pub mod ShownLaws
+pub mod FittingLaws
+pub mod KeptLaws
+pub mod KeyLaws

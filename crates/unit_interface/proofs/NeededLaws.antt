@@ -13,7 +13,7 @@ use Rattle.unit_interface.proofs.CircleLaws.{distinct}
 use Rattle.unit_interface.proofs.OrderLaws.{IsIn, IsOut, contrary, decided, in_append, in_left, in_right, in_one, only_one, neither, IsAfter, stays, then_after, finished}
 
 -- every use is of a unit
-abbrev AreUnits : List (List ℕ) → Type 0
+abbrev pub AreUnits : List (List ℕ) → Type 0
 AreUnits edges = (from to : ℕ) → IsIn to (next edges from) → to < length edges
 
 -- the units on the way: each once, all met, and with the room that is left as many as there are units
@@ -146,7 +146,7 @@ whole_visit edges units (suc room) p place way within w =
     (visited_each edges room (visit room edges) (place ∷ way) (λ q one below v. whole_visit edges units room q one (place ∷ way) below v)
     (meet place p) (next edges place) (λ q h. units place q h) (way_longer edges room p way place w out within)))
 
-order_from : (edges : List (List ℕ)) → AreUnits edges → (start : ℕ) → start < length edges → (room : ℕ) → room ≡ length edges
+pub order_from : (edges : List (List ℕ)) → AreUnits edges → (start : ℕ) → start < length edges → (room : ℕ) → room ≡ length edges
     → IsOrderFor edges start (visit room edges no_progress start).order
 order_from edges units start within zero is = absurd (omega arith)
 order_from edges units start within (suc room) is =

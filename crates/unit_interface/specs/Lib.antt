@@ -4,3 +4,5 @@ pub mod Order
 pub mod Merge
 pub mod Misfits
 pub mod Resolve
+pub mod Exports
+pub mod Keyed

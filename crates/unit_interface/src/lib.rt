@@ -3,20 +3,27 @@
 
 mod circles;
 mod edges;
+#[cfg(test)]
+mod export_tests;
+mod exports;
 mod interfaces;
 mod keys;
 mod merge;
 mod order;
 mod overlay;
+mod reach;
 mod renumber;
 #[cfg(test)]
 mod resolve_tests;
 mod resolving;
 #[cfg(test)]
+mod samples;
+#[cfg(test)]
 mod tests;
 mod visits;
 
 pub use edges::UsesOf;
+pub use exports::interface_of;
 pub use interfaces::Interface;
 pub use order::{Order, OrderError, initial_order};
 pub use resolving::{ResolveError, resolve};

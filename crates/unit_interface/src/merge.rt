@@ -60,8 +60,8 @@ fn place_of(types: &Types, unit: &Name) -> Result<u32, AllocError>
     }
 }
 
-// A type with new ids, as it comes into a table from the unit that declares it.
-fn added_type(
+/// A type with new ids, as it comes into a table from the unit that declares it.
+pub(crate) fn added_type(
     alloc: Global,
     types: &Types,
     ids: &[TypeId],
@@ -138,7 +138,8 @@ fn merge(alloc: Global, scope: &mut Scope, other: &Types, ids: &[TypeId]) -> Res
     Ok(())
 }
 
-fn value_of(alloc: Global, value: &Value) -> Result<Value, AllocError>
+/// A copy of a value.
+pub(crate) fn value_of(alloc: Global, value: &Value) -> Result<Value, AllocError>
     ensures { IfOk result (λ copy. copy ≡ value.now) }
 {
     Ok(match value {

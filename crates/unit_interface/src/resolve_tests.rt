@@ -1,34 +1,11 @@
 //! Scopes of units that use others.
 
+use crate::samples::{add, first, integer, named, names, record_of};
 use crate::{Interface, ResolveError, resolve};
 use scopes::{BOOLEAN, Entry, Found, INTEGER, STRING, Scope};
 use std::alloc::{AllocError, Global};
-use type_layout::{Field, Fields, Host, Name, Names, TypeDef, TypeId, Types};
+use type_layout::{Host, Name, TypeDef, TypeId, Types};
 use typed_tree::{Item, Items};
-
-fn named(bytes: &[u8]) -> Result<Name, AllocError> {
-    match Name::new(bytes) {
-        Some(name) => Ok(name),
-        None => Err(AllocError),
-    }
-}
-
-fn names(alloc: Global, list: &[&[u8]]) -> Result<Names, AllocError> {
-    let mut all = Names::new(alloc);
-    for bytes in list {
-        all.push(named(bytes)?)?;
-    }
-    Ok(all)
-}
-
-fn add(types: &mut Types, origin: &[u8], number: u32, one: TypeDef) -> Result<(), AllocError> {
-    let origin = named(origin)?;
-    if types.takes(&origin, &one) && types.add(origin, number, one).is_ok() {
-        Ok(())
-    } else {
-        Err(AllocError)
-    }
-}
 
 // The types Integer, and Money of the unit T, a record with an Integer; another type may stand before them.
 fn money(alloc: Global, another: bool) -> Result<Types, AllocError> {
@@ -36,19 +13,9 @@ fn money(alloc: Global, another: bool) -> Result<Types, AllocError> {
     if another {
         add(&mut types, b"OTHER", 0, TypeDef::Str { max: 9 })?;
     }
-    let base = TypeId(types.count());
-    let integer = TypeDef::Ordinal {
-        host: Host::Integer,
-        low: -32_768,
-        high: 32_767,
-    };
-    add(&mut types, b"SYSTEM", 2, integer)?;
-    let mut fields = Fields::new(alloc);
-    fields.push(Field {
-        name: named(b"CENTS")?,
-        ty: base,
-    })?;
-    add(&mut types, b"T", 5, TypeDef::RecordOf { fields })?;
+    let base = types.count();
+    add(&mut types, b"SYSTEM", 2, integer())?;
+    add(&mut types, b"T", 5, record_of(alloc, b"CENTS", base)?)?;
     Ok(types)
 }
 
@@ -119,13 +86,6 @@ fn letters(resolved: &Result<Scope, ResolveError>) -> (u8, u8) {
         Err(ResolveError::DuplicateUse { name }) => (b'D', first(name)),
         Err(ResolveError::Mismatch { name }) => (b'T', first(name)),
         Err(ResolveError::NoMemory) => (b'N', b'N'),
-    }
-}
-
-fn first(name: &Name) -> u8 {
-    match name.as_bytes().first() {
-        Some(byte) => *byte,
-        None => b'?',
     }
 }
 

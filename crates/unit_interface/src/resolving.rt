@@ -3,6 +3,7 @@
 ghost use Rattle.std.specs.Prelude.{◌≡◌, ◌≤◌, ℕ, List, length, take, option_copied, IfErr, IfOk, OnOk};
 ghost use Rattle.std.specs.List.{list_any};
 ghost use Rattle.type_layout.specs.Words.{same_bytes};
+ghost use Rattle.unit_interface.specs.Keyed.{IsKeyed};
 ghost use Rattle.unit_interface.specs.Resolve.{is_overlay, interface_named, with_use, resolved, is_there, is_repeated, IsMissing, IsDuplicate, IsUseCause, IsNameCause, IsCause};
 
 use crate::Interface;
@@ -122,7 +123,7 @@ fn use_unit(
 
 /// The scope of the unit or program `name`, which uses these units in order of its clauses: the predeclared names, and
 /// the items of the used units with their types. A type keeps the unit that declares it and its number there, so a type
-/// that comes by two units is one. OVERLAY needs no interface.
+/// that comes by two units is one: no two types of the scope come from one declaration. OVERLAY needs no interface.
 pub fn resolve(
     alloc: Global,
     name: &Name,
@@ -130,6 +131,7 @@ pub fn resolve(
     have: &[Interface],
 ) -> Result<Scope, ResolveError>
     ensures ok { IfOk result (λ scope. scope ≡ resolved have.now name.now uses.now) }
+    ensures keyed { IfOk result (λ scope. IsKeyed scope.types) }
     ensures once { OnOk result ((used : List ℕ) → IsDuplicate uses.now used → ⊥) }
     ensures there { OnOk result ((used : List ℕ) → IsMissing have.now uses.now used → ⊥) }
     ensures cause { IfErr result (IsCause have.now name.now uses.now) }

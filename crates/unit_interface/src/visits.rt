@@ -14,7 +14,8 @@ pub(crate) struct Progress {
     pub order: Places,
 }
 
-fn is_met(met: &[usize], place: usize) -> bool
+/// Whether a place is one of those that were met.
+pub(crate) fn is_met(met: &[usize], place: usize) -> bool
     ensures { result ≡ list_any (nat_eq place) met.now }
 {
     met.iter().any(|one| place == *one)

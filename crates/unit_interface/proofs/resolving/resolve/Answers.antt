@@ -1,6 +1,8 @@
-use Rattle.std.proofs.Common.{◌∙◌, ap, sym}
+use Rattle.std.proofs.Common.{◌∙◌, ap, sym, subst, take}
 use Rattle.scopes.specs.Environment.{Environment}
 use Rattle.unit_interface.specs.Resolve.{with_use}
+use Rattle.unit_interface.specs.Keyed.{IsKeyed}
+use Rattle.unit_interface.proofs.KeyLaws.{is_keyed}
 use Rattle.unit_interface.proofs.ResolveLaws.{resolved-next}
 use Rattle.unit_interface.proofs.resolving.resolve.Goals as goal
 
@@ -8,3 +10,8 @@ pub loop-used-preserved : goal.loop-used-preserved
 loop-used-preserved c =
     c.in-Ok.ensures.ok ∙ ap (λ (e : Environment). with_use c.args.have.now e c.used-item.result) c.loop-used.invariant
     ∙ sym (resolved-next c.args.have.now c.args.name.now c.args.uses.now c.loop-used.used-index c.used-item.result c.loop-used-test.true c.used-item.is)
+
+pub returns-clause-keyed : goal.returns-clause-keyed
+returns-clause-keyed c =
+    subst (λ (e : Environment). IsKeyed e.types) (sym c.loop-used.invariant)
+    (is_keyed c.args.have.now c.args.name.now (take c.loop-used.used-index c.args.uses.now))
