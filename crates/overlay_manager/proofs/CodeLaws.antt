@@ -132,7 +132,7 @@ buffer-kept m s pending seats loaded steps at inside =
 kept-place : (was now : Loaded) → is_moved was now ≡ false → now.load ≢ 0 → was.load ≡ now.load
 kept-place was now kept some = grind (arith, nat_tests)
 
-length-table : (room : ℕ) (seats : List Seat) (u : ℕ) (stubs : List ℕ) → length (table_from room seats u stubs) ≡ length stubs
+pub length-table : (room : ℕ) (seats : List Seat) (u : ℕ) (stubs : List ℕ) → length (table_from room seats u stubs) ≡ length stubs
 length-table room seats u [] = refl
 length-table room seats u (stub ∷ stubs) = ap suc (length-table room seats (u + 1) stubs)
 

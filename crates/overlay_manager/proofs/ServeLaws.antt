@@ -19,8 +19,9 @@ use Rattle.overlay_manager.specs.Serves.{Serves, CodeStands, IsStanding, table_b
 use Rattle.overlay_manager.specs.Service.{flags_from, seats_after, followed, followed_count, loaded_state, memory_after, served, served_manager}
 use Rattle.overlay_manager.specs.Traps.{trap_place, resumed}
 use Rattle.overlay_manager.proofs.CodeLaws.{code-written}
+use Rattle.overlay_manager.proofs.OffLaws.{loads-off}
 use Rattle.overlay_manager.proofs.ServiceLaws.{Steps}
-use Rattle.overlay_manager.proofs.WholeLaws.{written_of, follow-written, others-written}
+use Rattle.overlay_manager.proofs.WholeLaws.{written_of, follow-written, followed-off}
 
 -- flags that tell of each overlay whether it is live
 pub flags-are : (s : State) (pending : Bool) (table : List Loaded) (v : ℕ) (stubs : List ℕ) (live : List Bool) → length live ≡ length stubs → ((k : ℕ) → slice_index_or live k false ≡ is_live s pending table (v + k)) → live ≡ flags_from s pending table v stubs
@@ -66,7 +67,7 @@ manager-told (Some held) name m trap s seats old new loads changed later old_is 
     ∙ ap (λ (seats : List Seat). of seats (table_by m m.ring.seats) (table_by m seats)) seats_is
 
 -- going on changes no byte
-resumed-memory : (load saved : ℕ) (trap : Trap) (s : State) → (resumed load saved trap s).memory ≡ s.memory
+pub resumed-memory : (load saved : ℕ) (trap : Trap) (s : State) → (resumed load saved trap s).memory ≡ s.memory
 resumed-memory load saved trap s = by trap.call
   where
     by : (call : Bool) → (let after : State = cond call (record s { registers = record s.registers { ip = trap_place s } }) (record s { registers = record s.registers { ip = saved }; cs = load }) in after.memory) ≡ s.memory
@@ -91,7 +92,8 @@ serves-told (Some held) name m trap s u sound told within = λ orderly.
     record {
       pairs = subst (λ (after : List ℕ). Follow s.memory after s.registers.ss (places_of s trap.call) (table_before m) (table_after m trap s) (changed_count m bytes trap s)) (sym memory) (follow-written m s trap.call seats loaded steps);
       control = told ∙ ap (λ memory. let t : State = record s { memory = memory } in resumed load saved trap t) (sym memory);
-      others = λ at off_buffer off_pairs off_stubs. ap (λ (memory : List ℕ). slice_index memory at) memory ∙ others-written m s trap.call seats loaded steps at off_buffer off_pairs off_stubs;
+      others = λ at off_loads off_pairs off_stubs. ap (λ (memory : List ℕ). slice_index memory at) memory ∙ followed-off m s trap.call seats loaded steps at off_pairs off_stubs
+          ∙ loads-off bytes m.entries (table_before m) (table_after m trap s) s.memory at off_loads;
     }
 
 -- And the code of each loaded overlay stands.

@@ -6,7 +6,7 @@ use Rattle.cpu_8086.specs.Memory.{address, next_offset, load_word}
 use Rattle.cpu_8086.specs.State.{State}
 use Rattle.overlay_ring.specs.declared.seat.Seat.{Seat}
 use Rattle.return_repair.specs.declared.table.Loaded.{Loaded}
-use Rattle.return_repair.specs.Chain.{chain, chain_of, links_of, live_places, are_clear}
+use Rattle.return_repair.specs.Chain.{chain_of, links_of, live_places, are_clear}
 use Rattle.return_repair.specs.Pairs.{pair_at, HaveSameStubs}
 use Rattle.return_repair.specs.Repair.{repaired_memory, repaired_count}
 use Rattle.return_repair.specs.Follows.{IsOrderly, IsOrderlyState, Follow, OnlyPairsDiffer, IsElsewhere, word_bytes, pair_bytes}
@@ -104,10 +104,10 @@ stub-word-kept room first memory other offset stubs small same off_it =
     word-same memory other stub offset (same (address stub offset) (bytes offset (omega arith))) (same (address stub (next_offset offset)) high)) off_it
 
 -- the memory as live pairs followed, where the chain is sound
-followed-is : (s : State) (pending : Bool) (old new : List Loaded) (links : List ℕ) → chain_of s ≡ Ok links → followed s pending old new ≡ repaired_memory s pending old new links
+pub followed-is : (s : State) (pending : Bool) (old new : List Loaded) (links : List ℕ) → chain_of s ≡ Ok links → followed s pending old new ≡ repaired_memory s pending old new links
 followed-is s pending old new links is = ap (followed_by s pending old new) is
 
-followed-count-is : (s : State) (pending : Bool) (old new : List Loaded) (links : List ℕ) → chain_of s ≡ Ok links → followed_count s pending old new ≡ repaired_count s pending old new links
+pub followed-count-is : (s : State) (pending : Bool) (old new : List Loaded) (links : List ℕ) → chain_of s ≡ Ok links → followed_count s pending old new ≡ repaired_count s pending old new links
 followed-count-is s pending old new links is = ap (followed_count_by s pending old new) is
 
 -- a service in steps: the memory as it was, loaded, followed, and with its stubs written

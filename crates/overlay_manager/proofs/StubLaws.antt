@@ -108,7 +108,7 @@ other-word-kept was now next stub first memory other offset same fits apart smal
 abbrev pub SameEntries : List ℕ → List ℕ → ℕ → Type 0
 SameEntries memory first stub = load_word memory stub 12 ≡ load_word first stub 12
 
-entries-kept : (was now next stub : ℕ) (first memory stubs : List ℕ) → SameEntries memory first stub → FitsSegment first stub → AllByRecursion (AreApartStubs first stub) stubs
+pub entries-kept : (was now next stub : ℕ) (first memory stubs : List ℕ) → SameEntries memory first stub → FitsSegment first stub → AllByRecursion (AreApartStubs first stub) stubs
     → AllByRecursion (SameEntries memory first) stubs → AllByRecursion (SameEntries (with_stub was now next stub memory) first) stubs
 entries-kept was now next stub first memory [] same fits apart others = tt
 entries-kept was now next stub first memory (other ∷ stubs) same fits apart others = (

@@ -37,7 +37,7 @@ abbrev pub tabled : (P : ℕ → Type 0) (m : Manager) (seats : List Seat) → A
 tabled P m seats all = subst (λ stubs. AllByRecursion P stubs) (sym (stubs-of_table m.ring.room seats 0 m.stubs)) all
 
 -- the stubs have as many entries once live pairs followed
-entries-followed : (m : Manager) (s : State) (pending : Bool) (seats : List Seat) (loaded : List ℕ) → Steps m s pending seats loaded → AllByRecursion (SameEntries (followed_of m s pending seats loaded) s.memory) m.stubs
+pub entries-followed : (m : Manager) (s : State) (pending : Bool) (seats : List Seat) (loaded : List ℕ) → Steps m s pending seats loaded → AllByRecursion (SameEntries (followed_of m s pending seats loaded) s.memory) m.stubs
 entries-followed m s pending seats loaded steps =
     let ss = s.registers.ss in
     let places = places_of s pending in
@@ -93,12 +93,11 @@ follow-written m s pending seats loaded steps =
     pairs_loaded (tabled (λ stub. saved_at s.memory stub ≡ saved_at loaded stub) m m.ring.seats saved_loaded) (tabled (λ stub. saved_at s.memory stub ≡ saved_at loaded stub) m seats saved_loaded)
     (follow-loaded m s pending seats loaded steps) pairs_written (tabled (λ stub. saved_at final stub ≡ saved_at between stub) m seats saved_written)
 
--- And bytes off the buffer, the live pairs and the stubs are as they were.
-pub others-written : (m : Manager) (s : State) (pending : Bool) (seats : List Seat) (loaded : List ℕ) → Steps m s pending seats loaded → (at : ℕ) → IsOffBuffer m.ring.room at → IsOffPairs s.registers.ss (places_of s pending) at → IsOffStubs s.memory m.stubs at
-    → slice_index (written_of m s pending seats loaded) at ≡ slice_index s.memory at
-others-written m s pending seats loaded steps at off_buffer off_pairs off_stubs =
+-- And bytes off the live pairs and the stubs are as they were once overlays were loaded.
+pub followed-off : (m : Manager) (s : State) (pending : Bool) (seats : List Seat) (loaded : List ℕ) → Steps m s pending seats loaded → (at : ℕ) → IsOffPairs s.registers.ss (places_of s pending) at → IsOffStubs s.memory m.stubs at
+    → slice_index (written_of m s pending seats loaded) at ≡ slice_index loaded at
+followed-off m s pending seats loaded steps at off_pairs off_stubs =
     let saved = each-then (λ stub. IsOffStub s.memory stub at) (λ stub. IsElsewhere at (word_bytes stub 2)) m.stubs (λ stub is_off. (is_off 2 (omega arith), (is_off 3 (omega arith), tt))) off_stubs in
     let differ = only-pairs m s pending seats loaded steps in
     written-elsewhere m s pending seats loaded steps at (off-stubs-written s.memory m.stubs at off_stubs)
     ∙ differ.others at off_pairs (each-overlay (λ stub. IsElsewhere at (word_bytes stub 2)) (table_by m seats) (tabled (λ stub. IsElsewhere at (word_bytes stub 2)) m seats saved))
-    ∙ off-buffer m s pending seats loaded steps at off_buffer

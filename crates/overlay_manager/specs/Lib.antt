@@ -1,8 +1,10 @@
+pub mod Clears
 pub mod Code
 pub mod Kept
 pub mod Loading
 pub mod Manager
 pub mod Orderly
+pub mod Reads
 pub mod Serves
 pub mod Service
 pub mod Stops

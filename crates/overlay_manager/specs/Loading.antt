@@ -1,7 +1,9 @@
 -- Which overlays a service loads, and what loading leaves as it was.
-use Rattle.std.specs.Prelude.{◌≡◌, ℕ, ◌+◌, ◌*◌, ◌<◌, ◌≤◌, ◌⊎◌, ◌==◌, ◌&&◌, not, Bool, if◌then◌else◌, List, [], ◌∷◌, length, slice_index}
+use Rattle.std.specs.Prelude.{◌≡◌, ◌≢◌, ℕ, ◌+◌, ◌*◌, ◌<◌, ◌≤◌, ◌⊎◌, ◌==◌, ◌&&◌, not, Bool, IsTrue, if◌then◌else◌, List, [], ◌∷◌, length, slice_index, slice_get, Some}
+use Rattle.cpu_8086.specs.Memory.{address}
 use Rattle.overlay_file.specs.declared.overlay.OvrEntry.{OvrEntry}
 use Rattle.return_repair.specs.declared.table.Loaded.{Loaded}
+use Rattle.return_repair.specs.Follows.{overlay_at}
 use Rattle.overlay_manager.specs.Code.{fixups_at, with_code}
 
 -- An overlay is loaded where it is to stand at a segment at which it did not stand.
@@ -44,3 +46,12 @@ pub record LiesWithin (low high : ℕ) (segment size : ℕ) : Type 0 where
   pub above : low ≤ 16 * segment
   pub below : 16 * segment + size ≤ high
   pub inside : high ≤ 1048576
+
+-- An address at which no code stands that has this size, from a segment's begin on. Offsets and addresses wrap.
+abbrev pub IsOffCode : ℕ → ℕ → ℕ → Type 0
+IsOffCode segment size at = (k : ℕ) → k < size → at ≢ address segment k
+
+-- an address at which no code comes to stand that is loaded
+abbrev pub IsOffLoads : List OvrEntry → List Loaded → List Loaded → ℕ → Type 0
+IsOffLoads entries old new at =
+    (v : ℕ) (entry : OvrEntry) → slice_get entries v ≡ Some entry → IsTrue (is_moved (overlay_at old v) (overlay_at new v)) → IsOffCode (overlay_at new v).load entry.size at

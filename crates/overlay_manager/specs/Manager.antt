@@ -80,6 +80,10 @@ sent_out m s =
     with_stubs m.stubs [] 0 (table_by m m.ring.seats) (table_by m [])
     (repaired_memory s true (table_by m m.ring.seats) (table_by m []) (links_of (chain_of s)))
 
+-- how many live returns change as all go out
+abbrev pub sent_count : Manager → State → ℕ
+sent_count m s = repaired_count s true (table_by m m.ring.seats) (table_by m []) (links_of (chain_of s))
+
 -- a tally with so many loads and changed returns more; at the greatest u64 it stays
 abbrev pub with_more : Tally → ℕ → ℕ → Tally
 with_more tally loads patched =
@@ -88,7 +92,7 @@ with_more tally loads patched =
 -- the manager once all overlays are out
 abbrev pub emptied : Manager → State → Manager
 emptied m s = record (with_seats m []) {
-  tally = with_more m.tally 0 (repaired_count s true (table_by m m.ring.seats) (table_by m []) (links_of (chain_of s)));
+  tally = with_more m.tally 0 (sent_count m s);
 }
 
 -- Sending all out. Without stubs there is nothing to do.

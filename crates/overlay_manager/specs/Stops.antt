@@ -17,11 +17,17 @@ use Rattle.overlay_manager.specs.Traps.{trap_place, trap_of, is_refused}
 abbrev pub IsShortAt : List ℕ → List OvrEntry → ℕ → Type 0
 IsShortAt bytes entries v = IfSome (slice_get entries v) (λ entry. IsShort bytes entry)
 
--- Loading stops at an overlay that was to be loaded where the file ends before it does, or at a read that failed.
+-- Of each overlay that is loaded before this one the file has all.
+abbrev pub AreWholeBefore : List ℕ → List OvrEntry → List Loaded → List Loaded → ℕ → Type 0
+AreWholeBefore bytes entries old new k =
+    (v : ℕ) → v < k → IsTrue (is_moved (overlay_at old v) (overlay_at new v)) → IfSome (slice_get entries v) (λ entry. 0 < entry.size → IsWhole bytes entry)
+
+-- Loading stops at the first overlay that was to be loaded where the file ends before it does, or at a read that failed.
 abbrev pub StopsLoading : List ℕ → List OvrEntry → List Loaded → List Loaded → ServiceStop → Type 0
 StopsLoading bytes entries old new (stops.NoStub cs ip) = ⊥
 StopsLoading bytes entries old new (stops.BadChain bp) = ⊥
-StopsLoading bytes entries old new (stops.ShortOverlay v) = IsTrue (is_moved (overlay_at old v) (overlay_at new v)) × IsShortAt bytes entries v
+StopsLoading bytes entries old new (stops.ShortOverlay v) =
+    IsTrue (is_moved (overlay_at old v) (overlay_at new v)) × IsShortAt bytes entries v × AreWholeBefore bytes entries old new v
 StopsLoading bytes entries old new stops.FilesFault = Unit {0}
 
 -- Loading stops in one of these two ways.
@@ -64,12 +70,13 @@ Stops m s after later stop =
     MatchOption (trap_of m.stubs s) ((stop ≡ stops.NoStub s.cs (trap_place s)) × IsUntouched m s after later)
     (λ trap. (is_refused m.installed s trap ≡ false) × StopsServing m trap s after later stop)
 
--- An overlay for which the file is too short is one that was to be loaded.
+-- An overlay for which the file is too short is the first such one that was to be loaded.
 abbrev pub StopsShort : Manager → List ℕ → Trap → State → ServiceStop → Type 0
 StopsShort m bytes trap s (stops.NoStub cs ip) = Unit {0}
 StopsShort m bytes trap s (stops.BadChain bp) = Unit {0}
 StopsShort m bytes trap s (stops.ShortOverlay v) =
     IsTrue (is_moved (overlay_at (table_by m m.ring.seats) v) (overlay_at (table_by m (seats_after m trap s)) v)) × IsShortAt bytes m.entries v
+    × AreWholeBefore bytes m.entries (table_by m m.ring.seats) (table_by m (seats_after m trap s)) v
 StopsShort m bytes trap s stops.FilesFault = Unit {0}
 
 -- of each overlay that a service loads the file has all

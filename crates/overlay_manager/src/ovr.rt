@@ -1,14 +1,16 @@
 //! The overlays of a program, as the manager keeps them.
 
-ghost use Rattle.std.specs.Prelude.{◌≡◌, ◌+◌, ◌<◌, ◌≤◌, false, [], IsOk, IfOk, IfErr, OnOk, OnErr, IfSome, MatchOption, Err, length, map};
+ghost use Rattle.std.specs.Prelude.{◌≡◌, ◌+◌, ◌<◌, ◌≤◌, true, false, [], IsOk, IfOk, IfErr, OnOk, OnErr, IfSome, MatchOption, Err, length, map};
 ghost use Rattle.std.specs.List.{All};
 ghost use Rattle.mz_file.specs.Load.{loaded_segment};
 ghost use Rattle.tp_outside.specs.Faults.{HasRisen};
 ghost use Rattle.tp_outside.specs.Folder.{bytes_of};
+ghost use Rattle.overlay_manager.specs.Clears.{Clears};
 ghost use Rattle.overlay_manager.specs.Manager.{Manager, paragraphs_of, loaded_far, with_seats, emptied, sent_out, cleared, cleared_manager};
 ghost use Rattle.overlay_manager.specs.Orderly.{IsOrderlyFor};
+ghost use Rattle.overlay_manager.specs.Reads.{StubsRead};
 ghost use Rattle.overlay_manager.specs.Serves.{Serves, CodeStands, IsStanding, table_after};
-ghost use Rattle.overlay_manager.specs.Service.{served, served_manager, serviced, serviced_manager};
+ghost use Rattle.overlay_manager.specs.Service.{seats_after, served, served_manager, serviced, serviced_manager};
 ghost use Rattle.overlay_manager.specs.Stops.{Stops, StopsServing, StopsShort, FileHas};
 ghost use Rattle.overlay_manager.specs.Traps.{trap_of, is_refused};
 ghost use Rattle.overlay_manager.specs.declared.serving.ServiceStop.{ServiceStop};
@@ -177,6 +179,8 @@ impl Ovr {
         ensures code { IfSome (F.folder files.old) (λ held. OnOk result (IsOrderlyFor self.old machine.old trap.call
             → IsStanding self.old (bytes_of held self.old.name) machine.old.memory
             → CodeStands (bytes_of held self.old.name) self.old.entries (table_after self.old trap machine.old) machine.new.memory)) }
+        ensures stubs { IfSome (F.folder files.old) (λ held. OnOk result (IsOrderlyFor self.old machine.old trap.call
+            → StubsRead self.old machine.old.memory machine.new.memory (seats_after self.old trap machine.old))) }
         ensures sound { OnOk result (IsOk (chain_of machine.old)) }
         ensures stop { IfErr result (StopsServing self.old trap machine.old machine.new self.new) }
         ensures short { IfSome (F.folder files.old) (λ held. IfErr result
@@ -237,6 +241,11 @@ pub fn service<F: Files>(
         → IsStanding ovr.old (bytes_of held ovr.old.name) machine.old.memory
         → CodeStands (bytes_of held ovr.old.name) ovr.old.entries (table_after ovr.old trap machine.old) machine.new.memory))) }
 
+    // And each stub reads as the new table says: entries of loaded overlays jump and others trap, each to its routine.
+    ensures stubs { IfSome (F.folder files.old) (λ held. OnOk result (IfSome (trap_of ovr.old.stubs machine.old)
+        (λ trap. is_refused ovr.old.installed machine.old trap ≡ false → IsOrderlyFor ovr.old machine.old trap.call
+        → StubsRead ovr.old machine.old.memory machine.new.memory (seats_after ovr.old trap machine.old)))) }
+
     // Each answer other than Ok has its cause.
     ensures stop { IfErr result (Stops ovr.old machine.old machine.new ovr.new) }
     ensures short { IfSome (F.folder files.old) (λ held. IfErr result (λ stop. IfSome (trap_of ovr.old.stubs machine.old)
@@ -269,6 +278,12 @@ pub fn service<F: Files>(
 pub fn clear_buffer(machine: &mut Machine, ovr: &mut Ovr) -> Result<(), BadChain>
     ensures machine { OnOk result (machine.new ≡ record machine.old { memory = cleared ovr.old machine.old }) }
     ensures ring { OnOk result (ovr.new ≡ cleared_manager ovr.old machine.old) }
+
+    // Where live returns, links, stubs and the buffer lie apart, that is to send all out in the words of its subject.
+    ensures clears { OnOk result (0 < length ovr.old.stubs → IsOrderlyFor ovr.old machine.old true
+        → Clears ovr.old machine.old machine.new) }
+
+    // The chain of links is bad where that is said, and nothing is changed then.
     ensures bad_chain { IfErr result (λ bad. (chain_of machine.old ≡ Err bad.bp) × (0 < length ovr.old.stubs)) }
     ensures sound { OnOk result (0 < length ovr.old.stubs → IsOk (chain_of machine.old)) }
     ensures unchanged { OnErr result ((machine.new ≡ machine.old) × (ovr.new ≡ ovr.old)) }

@@ -6,11 +6,13 @@ use Rattle.overlay_manager.specs.declared.tally.Tally.{Tally}
 use Rattle.overlay_manager.specs.Loading.{load_count}
 use Rattle.overlay_manager.specs.Manager.{Manager}
 use Rattle.overlay_manager.specs.Orderly.{IsOrderlyFor}
+use Rattle.overlay_manager.specs.Reads.{StubsRead}
 use Rattle.overlay_manager.specs.Serves.{Serves, CodeStands, IsStanding, table_after}
-use Rattle.overlay_manager.specs.Service.{served, served_manager}
+use Rattle.overlay_manager.specs.Service.{seats_after, served, served_manager}
 use Rattle.overlay_manager.specs.Stops.{StopsServing, StopsShort, FileHas}
 use Rattle.overlay_manager.proofs.JoinLaws.{made, machine-joined, manager-joined, whole-joined, within-joined, stop-joined, short-joined}
 use Rattle.overlay_manager.proofs.ServeLaws.{serves-told, code-told}
+use Rattle.overlay_manager.proofs.StubsLaws.{stubs-told}
 use Rattle.overlay_manager.proofs.TableLaws.{stubs-table_from, length-table_from}
 use Rattle.overlay_manager.proofs.ovr.Ovr.serve.Goals as goal
 
@@ -357,3 +359,53 @@ returns-in-Ok-clause-code g c =
     let within = within-joined known m trap s old new ring it c.in-Ok.ensures.loaded in
     subst (λ (n : Manager). IfSome known (λ held. IsOrderlyFor n s trap.call → IsStanding n (bytes_of held n.name) s.memory → CodeStands (bytes_of held n.name) n.entries (table_after n trap s) u.memory)) c.self.view_is
     (code-told known m.name m trap s u it.small c.self.invariant.0 it.legal c.in_ok-live.ensures.sound told within)
+
+pub returns-in-Ok-clause-stubs : goal.returns-in-Ok-clause-stubs
+returns-in-Ok-clause-stubs g c =
+    let m : Manager = record {
+      name = c.self.inside.program.name;
+      entries = c.self.inside.program.entries;
+      stubs = c.self.inside.program.stubs.items;
+      error_routine = c.self.inside.error_routine;
+      installed = c.self.inside.installed;
+      ring = c.self.inside.ring;
+      retry = c.self.inside.retry;
+      tally = c.self.inside.tally;
+    } in
+    let s = c.args.machine.now in
+    let trap = c.args.trap in
+    let known = g.F.Files.folder c.args.files.now in
+    let old = c.set_table.new.into.items in
+    let new = c.set_table-2.new.into.items in
+    let ring = c.wanted_retry.new.self in
+    let it = made m trap s c.self.inside.room c.as_slice-stubs.result.now c.list.result.now old c.deref.result.now c.live.new.into c.deref-2.result.now ring c.list-2.result.now new (record {
+      entries = c.self.invariant.0;
+      sizes = c.self.invariant.1;
+      room_is = c.self.invariant.2;
+      small = c.self.invariant.3;
+      stubs_is = c.as_slice-stubs.ensures.value;
+      seats_old_is = c.list.ensures.seats;
+      old_is = c.set_table.ensures.table;
+      old_seen_is = c.deref.ensures.value;
+      long = c.live.auto.into ∙ ap length c.deref_mut.ensures.value ∙ sym c.self.invariant.7;
+      live_is = c.in_ok-live.ensures.live;
+      live_seen_is = c.deref-2.ensures.value ∙ take_at c.live.new.into (drop (length c.live.new.into) c.self.inside.tables.live.items) c.self.inside.tables.live.len (c.live.auto.into ∙ c.deref_mut.ensures.len);
+      ring_is = c.wanted_retry.ensures.ring;
+      seats_new_is = c.list-2.ensures.seats;
+      new_is = c.set_table-2.ensures.table;
+      legal = c.wanted_retry.ensures.legal.sound;
+    }) in
+    let u = c.resume.new.machine in
+    let told = machine-joined known m trap s c.bring.new.machine u c.self.inside.room old new ring c.list-3.result.now c.list-in-Ok.result.now c.reg.result c.load_segment-load.result c.load_word-saved.result it (record {
+      seats_brought_is = c.list-3.ensures.seats;
+      told = c.in-Ok.ensures.told;
+      seats_resumed_is = c.list-in-Ok.ensures.seats;
+      cs_is = c.reg.ensures;
+      saved_is = c.load_word-saved.ensures;
+      load_is = c.load_segment-load.ensures;
+      room_is = c.self.invariant.2;
+      resumed_is = c.resume.ensures;
+    }) in
+    let within = within-joined known m trap s old new ring it c.in-Ok.ensures.loaded in
+    subst (λ (n : Manager). IfSome known (λ held. IsOrderlyFor n s trap.call → StubsRead n s.memory u.memory (seats_after n trap s))) c.self.view_is
+    (stubs-told known m.name m trap s u c.in_ok-live.ensures.sound told within)
