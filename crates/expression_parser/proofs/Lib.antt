@@ -1,0 +1,10 @@
+pub mod Commas
+pub mod Exact
+pub mod Fronts
+pub mod Lists
+pub mod Loop
+pub mod Rows
+pub mod Shapes
+pub mod Shorter
+pub mod Sound
+pub mod Steps

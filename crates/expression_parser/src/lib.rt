@@ -1,0 +1,20 @@
+//! Expressions of Turbo Pascal, read from lexemes.
+#![tactic(auto)]
+
+mod error;
+mod expressions;
+mod factor;
+mod front;
+mod lexemes;
+mod list;
+mod node;
+mod read;
+mod selector;
+
+pub use error::ReadError;
+pub use front::{begins, tail};
+pub use lexemes::{identifier, letter, mark, number, skip, text};
+pub use read::{read_arguments, read_designator, read_expression, read_simple};
+
+#[cfg(test)]
+mod tests;

@@ -1,0 +1,264 @@
+use crate::{ReadError, read_expression};
+use lexeme_list::lexemes_of;
+use pascal_grammar::{Adder, Lexeme, Position, Sign};
+use std::alloc::{AllocError, Global};
+use syntax_tree::{Designator, Expression, Factor, IndexMark, SimpleExpression, Term};
+use tp_lexer::{Text, tokens};
+use type_layout::{Bytes, FileName, Sequence};
+
+fn lexemes(alloc: Global, source: &str) -> Result<Sequence<Lexeme>, AllocError> {
+    let mut texts = Vec::new(alloc);
+    if let Some(name) = FileName::new("a.pas") {
+        let bytes = Bytes::from_slice(alloc, source.as_bytes())?;
+        match texts.push(Text { name, bytes }) {
+            Ok(()) => {}
+            Err(_) => return Err(AllocError),
+        }
+    }
+    if texts.is_empty() {
+        return Err(AllocError);
+    }
+    match tokens(alloc, texts.as_slice(), 0, &[]) {
+        Ok(list) => lexemes_of(alloc, list.as_slice()),
+        Err(_) => Err(AllocError),
+    }
+}
+
+// The place of the lexeme from which so many are left.
+fn write_place(out: &mut String, lexemes: &[Lexeme], left: usize) -> Result<(), AllocError> {
+    if left == 0 || left > lexemes.len() {
+        return out.push_str("end");
+    }
+    let Position { place, .. } = lexemes[lexemes.len() - left].position;
+    let column = place.column;
+    write!(out, "{column}")
+}
+
+fn write_error(out: &mut String, lexemes: &[Lexeme], error: &ReadError) -> Result<(), AllocError> {
+    match error {
+        ReadError::NoMemory => Err(AllocError),
+        ReadError::Syntax(left) => {
+            out.push_str("Syntax ")?;
+            write_place(out, lexemes, *left)
+        }
+        ReadError::LeftOut(omission, left) => {
+            let feature = omission.feature();
+            write!(out, "{feature:?} ")?;
+            write_place(out, lexemes, *left)
+        }
+        ReadError::TooDeep(left) => {
+            out.push_str("TooDeep ")?;
+            write_place(out, lexemes, *left)
+        }
+    }
+}
+
+// The fault and its column, or the column of what stands behind the expression.
+fn write_outcome(
+    out: &mut String,
+    lexemes: &[Lexeme],
+    read: &Result<(Expression, &[Lexeme]), ReadError>,
+) -> Result<(), AllocError> {
+    match read {
+        Err(error) => write_error(out, lexemes, error),
+        Ok((_, rest)) => {
+            out.push_str("to ")?;
+            write_place(out, lexemes, rest.len())
+        }
+    }
+}
+
+fn outcome(alloc: Global, source: &str) -> Result<String, AllocError> {
+    let list = lexemes(alloc, source)?;
+    let all = list.as_slice();
+    let read = read_expression(alloc, 200, all);
+    let mut out = String::new(alloc);
+    write_outcome(&mut out, all, &read)?;
+    Ok(out)
+}
+
+fn is_read_as(alloc: Global, source: &str, expected: &str) -> Result<bool, AllocError> {
+    let out = outcome(alloc, source)?;
+    Ok(out.as_str() == expected)
+}
+
+#[test]
+fn places_faults(rt: HostRuntime) {
+    let rows = [
+        ("a.b[1, 2]^.c(2, x:3) + [] in [1, 3..5]", "to end"),
+        ("not (a <> ^B) and nil", "to end"),
+        ("a := b", "to 3"),
+        ("a < b < c", "to 7"),
+        ("", "Syntax end"),
+        ("(1", "Syntax end"),
+        ("(a:1)", "Syntax 3"),
+        ("[1, ]", "Syntax 5"),
+        ("[1..]", "Syntax 5"),
+        ("not", "Syntax end"),
+        ("a +", "Syntax end"),
+        ("a + + + b", "Syntax 7"),
+        ("- - a", "Syntax 3"),
+        ("a * - - b", "Syntax 7"),
+        ("a[]", "Syntax 3"),
+        ("a[1..2]", "Syntax 4"),
+        ("a[1,]", "Syntax 5"),
+        ("a.1", "Syntax 3"),
+        ("f()", "Syntax 3"),
+        ("f(1,", "Syntax end"),
+        ("f(1:)", "Syntax 5"),
+        ("f(1:2:3)", "Syntax 6"),
+        ("^ab", "Syntax 2"),
+        ("in y", "Syntax 1"),
+        ("a + begin", "Syntax 5"),
+    ];
+    for (source, expected) in rows {
+        let same = is_read_as(rt.alloc(), source, expected);
+        assert!(&rt; same == Ok(true), "{source}");
+    }
+}
+
+#[test]
+fn names_what_is_left_out(rt: HostRuntime) {
+    let rows = [
+        ("a / b", "Reals 3"),
+        ("a + 1.5", "Reals 5"),
+        ("@a", "Addresses 1"),
+        ("f(1)^", "Casts 5"),
+        ("f(1).a", "Casts 5"),
+        ("a + f(1)[2]", "Casts 9"),
+    ];
+    for (source, expected) in rows {
+        let same = is_read_as(rt.alloc(), source, expected);
+        assert!(&rt; same == Ok(true), "{source}");
+    }
+}
+
+// The first text, so many times the second, and the third.
+fn repeated(
+    alloc: Global,
+    first: &str,
+    again: &str,
+    times: u32,
+    last: &str,
+) -> Result<String, AllocError> {
+    let mut source = String::new(alloc);
+    source.push_str(first)?;
+    for _ in 0..times {
+        source.push_str(again)?;
+    }
+    source.push_str(last)?;
+    Ok(source)
+}
+
+fn chain_is_read_as(
+    alloc: Global,
+    parts: (&str, &str, &str),
+    times: u32,
+    expected: &str,
+) -> Result<bool, AllocError> {
+    let (first, again, last) = parts;
+    let source = repeated(alloc, first, again, times, last)?;
+    is_read_as(alloc, source.as_str(), expected)
+}
+
+#[test]
+fn limits_open_constructs(rt: HostRuntime) {
+    let rows = [
+        (("a", "+a", ""), 200, "TooDeep 402"),
+        (("a", "*a", ""), 200, "TooDeep 402"),
+        (("a", "^", ""), 200, "TooDeep 202"),
+        (("a", ".b", ""), 200, "TooDeep 402"),
+        (("a[1", ",1", "]"), 199, "TooDeep 402"),
+        (("not (not (a", "+a", "))"), 196, "TooDeep 404"),
+        (("f([(a", "*a", ")])"), 197, "TooDeep 400"),
+    ];
+    for (parts, within, expected) in rows {
+        let (first, again, _) = parts;
+        let same = chain_is_read_as(rt.alloc(), parts, within, "to end");
+        assert!(&rt; same == Ok(true), "{first} {again}");
+        let same = chain_is_read_as(rt.alloc(), parts, within + 1, expected);
+        assert!(&rt; same == Ok(true), "{first} {again}");
+    }
+}
+
+// The selectors of a designator that has these four.
+fn selectors(designator: &Designator) -> &'static str {
+    if let Designator::Field { owner, .. } = designator {
+        if let Designator::Dereference { owner, .. } = &**owner {
+            if let Designator::Index {
+                owner,
+                mark: IndexMark::Bracket,
+                ..
+            } = &**owner
+            {
+                if let Designator::Field { .. } = &**owner {
+                    return "call of field, index, pointer, field";
+                }
+            }
+        }
+    }
+    "call"
+}
+
+fn shape(expression: &Expression) -> &'static str {
+    match expression {
+        Expression::Relation { .. } => "relation",
+        Expression::Simple(
+            SimpleExpression::Sum {
+                left,
+                adder: Adder::Plus,
+                sign: None,
+                ..
+            },
+        ) => match &**left {
+            SimpleExpression::Signed(..) => "signed and term",
+            SimpleExpression::Sum { .. } => "sum and term",
+            SimpleExpression::Term(_) => "term and term",
+        },
+        Expression::Simple(
+            SimpleExpression::Term(
+                Term::Product {
+                    left,
+                    sign: Some(placed),
+                    ..
+                },
+            ),
+        ) => match (&**left, placed.sign) {
+            (Term::Factor(_), Sign::Minus) => "factor and signed factor",
+            (_, _) => "product",
+        },
+        Expression::Simple(SimpleExpression::Term(Term::Factor(Factor::Call { callee, arguments })))
+            if arguments.len() == 1 => selectors(callee),
+        _ => "other",
+    }
+}
+
+fn shape_read(read: &Result<(Expression, &[Lexeme]), ReadError>) -> &'static str {
+    match read {
+        Ok((expression, rest)) if rest.is_empty() => shape(expression),
+        _ => "none",
+    }
+}
+
+fn has_shape(alloc: Global, source: &str, expected: &str) -> Result<bool, AllocError> {
+    let list = lexemes(alloc, source)?;
+    let read = read_expression(alloc, 200, list.as_slice());
+    Ok(shape_read(&read) == expected)
+}
+
+#[test]
+fn makes_trees(rt: HostRuntime) {
+    let rows = [
+        ("-a + b", "signed and term"),
+        ("a + b * c", "term and term"),
+        ("a + b + c", "sum and term"),
+        ("a + b < c", "relation"),
+        ("a * -b", "factor and signed factor"),
+        ("a.b[1]^.c(2)", "call of field, index, pointer, field"),
+        ("a - b", "other"),
+    ];
+    for (source, expected) in rows {
+        let same = has_shape(rt.alloc(), source, expected);
+        assert!(&rt; same == Ok(true), "{source}");
+    }
+}
