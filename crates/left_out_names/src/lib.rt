@@ -1,0 +1,8 @@
+//! Names of the full language that this profile leaves out.
+#![tactic(auto)]
+
+mod names;
+#[cfg(test)]
+mod tests;
+
+pub use names::feature_of;

@@ -1,0 +1,5 @@
+pub mod JudgementLaws
+pub mod PlanLaws
+pub mod OperatorLaws
+pub mod SelectorLaws
+pub mod AssignmentLaws

@@ -1,0 +1,91 @@
+-- Values that are assigned, or handed over by value.
+use Rattle.std.specs.Prelude.{◌≡◌, ◌⊎◌, ℤ, ◌==◌, Bool, true, false, ◌&&◌, ◌||◌, cond, List, Option, Some, None}
+use Rattle.type_layout.specs.declared.definitions.TypeId.{TypeId}
+use Rattle.type_layout.specs.declared.definitions.Host.{Host}
+use Rattle.type_layout.specs.declared.definitions.TypeDef.{TypeDef}
+use Rattle.type_layout.specs.declared.definitions.TypeDef.TheVariants as type
+use Rattle.type_layout.specs.declared.texts.Place.{Place}
+use Rattle.type_layout.specs.Storage.{storage_of, holds}
+use Rattle.typed_tree.specs.declared.expressions.Value.TheVariants as value
+use Rattle.typed_tree.specs.Expressions.{Expression, Const, Range, type_of}
+use Rattle.well_formed.specs.Fits.{definition}
+use Rattle.typing_rules.specs.declared.faults.Rule.TheVariants as rules
+use Rattle.typing_rules.specs.declared.sorts.Sort.{Sort}
+use Rattle.typing_rules.specs.declared.sorts.Sort.TheVariants as sort
+use Rattle.typing_rules.specs.Faults.{broken, not_yet}
+use Rattle.typing_rules.specs.Judgements.{Judgement, refuses, rule, either}
+use Rattle.typing_rules.specs.Sorts.{sort_of_type, sort_of}
+use Rattle.typing_rules.specs.Wanted.{stored_of, converted, as_text}
+use Rattle.typing_rules.specs.Plans.{AreOfOneHost, are_of_one_host, IsText, is_text}
+
+-- ---- what is asked
+
+abbrev pub IsString : Sort → Type 0
+IsString sort.Text = Unit {0}
+IsString _ = ⊥
+
+abbrev pub is_string : Sort → Bool
+is_string sort.Text = true
+is_string _ = false
+
+abbrev pub IsOfType : TypeId → Option TypeId → Type 0
+IsOfType ty None = ⊥
+IsOfType ty (Some own) = ty.0 ≡ own.0
+
+abbrev pub is_of_type : TypeId → Option TypeId → Bool
+is_of_type ty None = false
+is_of_type ty (Some own) = ty.0 == own.0
+
+-- an ordinal of the target's host, a Char or string to a string, or a value of the same type
+abbrev pub IsAssignable : Sort → Sort → TypeId → Option TypeId → Type 0
+IsAssignable target s ty own = AreOfOneHost target s ⊎ ((IsString target × IsText s) ⊎ IsOfType ty own)
+
+abbrev pub is_assignable : Sort → Sort → TypeId → Option TypeId → Bool
+is_assignable target s ty own = are_of_one_host target s || ((is_string target && is_text s) || is_of_type ty own)
+
+-- sets, pointers, objects and routines are not built yet
+abbrev pub is_unbuilt : Option TypeDef → Bool
+is_unbuilt (Some (type.SetOf base)) = true
+is_unbuilt (Some (type.PointerTo target)) = true
+is_unbuilt (Some (type.ObjectOf parent dynamic fields methods)) = true
+is_unbuilt (Some (type.Procedural header)) = true
+is_unbuilt _ = false
+
+-- ---- the node
+
+abbrev pub ranged_as : Option TypeId → ℤ → ℤ → Expression → Expression
+ranged_as None low high e = e
+ranged_as (Some own) low high e = Range own e low high
+
+-- a value that is tested against bounds, where tests are asked for
+abbrev pub ranged : Bool → ℤ → ℤ → Expression → Expression
+ranged checked low high e = cond checked (ranged_as (type_of e) low high e) e
+
+-- a constant of a type, tested
+unfoldable pub constant_in : TypeId → ℤ → ℤ → Bool → ℤ → Expression
+constant_in ty low high checked n = ranged checked low high (Const ty (value.Number n))
+
+-- a test stands inside a conversion
+unfoldable pub tested : TypeId → Host → ℤ → ℤ → Option Host → Bool → Expression → Expression
+tested ty wanted low high stored checked e = converted ty wanted stored (ranged checked low high e)
+
+abbrev pub stored_in : TypeId → Host → ℤ → ℤ → Option Host → Bool → Expression → Expression
+stored_in ty wanted low high stored checked (Const own (value.Number n)) =
+    cond (holds wanted n n) (constant_in ty low high checked n)
+    (tested ty wanted low high stored checked (Const own (value.Number n)))
+stored_in ty wanted low high stored checked e = tested ty wanted low high stored checked e
+
+abbrev pub assigned_by : TypeId → Option TypeDef → Option Host → Bool → Expression → Expression
+assigned_by ty (Some (type.Ordinal host low high)) stored checked e = stored_in ty (storage_of host low high) low high stored checked e
+assigned_by ty (Some (type.Str max)) stored checked e = as_text stored e
+assigned_by ty _ stored checked e = e
+
+abbrev pub assigned_to : List TypeDef → Place → TypeId → Bool → Sort → Sort → Expression → Judgement Expression
+assigned_to types place ty checked target s e =
+    either (is_unbuilt (definition types ty)) (refuses (not_yet place))
+    (rule (broken place rules.Assigned) (is_assignable target s ty (type_of e)) (IsAssignable target s ty (type_of e))
+    (assigned_by ty (definition types ty) (stored_of types e) checked e))
+
+-- A value of an assignment at a place, to a target of a type. With `checked` it must lie within the bounds of an ordinal type.
+unfoldable pub assigned : List TypeDef → Place → TypeId → Bool → Expression → Judgement Expression
+assigned types place ty checked e = assigned_to types place ty checked (sort_of_type types ty) (sort_of types e) e

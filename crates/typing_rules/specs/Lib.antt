@@ -1,0 +1,9 @@
+pub mod Faults
+pub mod Judgements
+pub mod Sorts
+pub mod Wanted
+pub mod Plans
+pub mod Operators
+pub mod Selectors
+pub mod Assignments
+pub mod Laws

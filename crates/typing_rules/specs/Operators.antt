@@ -1,0 +1,65 @@
+-- Operators: the judgement of each, from its operands' nodes.
+use Rattle.std.specs.Prelude.{ℤ, neg_ℤ, ◌==◌, Bool, true, ◌&&◌, ◌||◌, cond, List, Option, Some, None}
+use Rattle.std.specs.Ordering.{int_eq}
+use Rattle.type_layout.specs.declared.definitions.TypeId.{TypeId}
+use Rattle.type_layout.specs.declared.definitions.TypeDef.{TypeDef}
+use Rattle.type_layout.specs.declared.definitions.Host.TheVariants as host
+use Rattle.type_layout.specs.declared.texts.Place.{Place}
+use Rattle.type_layout.specs.Storage.{least_of}
+use Rattle.typed_tree.specs.declared.expressions.Value.TheVariants as value
+use Rattle.typed_tree.specs.declared.expressions.UnaryOp.{UnaryOp}
+use Rattle.typed_tree.specs.declared.expressions.UnaryOp.TheVariants.{Plus, Minus, Not}
+use Rattle.typed_tree.specs.declared.expressions.BinaryOp.{BinaryOp}
+use Rattle.typed_tree.specs.Expressions.{Expression, Const, Unary, Binary}
+use Rattle.typing_rules.specs.declared.faults.Rule.TheVariants as rules
+use Rattle.typing_rules.specs.declared.sorts.Sort.{Sort}
+use Rattle.typing_rules.specs.declared.plans.Plan.{Plan}
+use Rattle.typing_rules.specs.Faults.{broken, not_yet}
+use Rattle.typing_rules.specs.Judgements.{Judgement, refuses, rule, either}
+use Rattle.typing_rules.specs.Sorts.{number_type, sort_of}
+use Rattle.typing_rules.specs.Wanted.{wanted, wanted_in}
+use Rattle.typing_rules.specs.Plans.{operation_of, Asks, AsksNot, IsInteger, is_integer, allows, allows_not, rule_of, is_later, plan_of, turned, may_be_early}
+
+-- ---- two operands
+
+abbrev pub planned : List TypeDef → BinaryOp → Bool → Plan → Expression → Expression → Expression
+planned types op early plan a b = Binary plan.ty op (wanted_in types plan.left a) (wanted_in types plan.right b) early
+
+-- the operands by what they are
+abbrev pub combined_by : List TypeDef → Place → BinaryOp → Bool → Sort → Sort → Expression → Expression → Judgement Expression
+combined_by types place op early s t a b =
+    either (is_later s || is_later t) (refuses (not_yet place))
+    (rule (broken place (rule_of (operation_of op) s t)) (allows (operation_of op) s t) (Asks (operation_of op) s t)
+    (planned types op (early && may_be_early op s) (plan_of (operation_of op) s t) a b))
+
+-- An operator at a place. With `early`, the right side is left out where the left one decides.
+unfoldable pub combined : List TypeDef → Place → BinaryOp → Bool → Expression → Expression → Judgement Expression
+combined types place op early a b = combined_by types place op early (sort_of types a) (sort_of types b) a b
+
+-- ---- one operand
+
+-- the negative, which wraps on 32 bits
+abbrev pub negative : ℤ → ℤ
+negative n = cond (int_eq n (least_of host.LongInt)) n (neg_ℤ n)
+
+abbrev pub sign_value : UnaryOp → ℤ → ℤ
+sign_value Minus n = negative n
+sign_value op n = n
+
+abbrev pub turned_node : List TypeDef → UnaryOp → Sort → Expression → Expression
+turned_node types op s a = Unary (turned s) op (wanted types (turned s) a)
+
+-- a sign before a constant makes a constant
+abbrev pub signed_node : List TypeDef → UnaryOp → Sort → Expression → Expression
+signed_node types op s (Const ty (value.Number n)) = Const (number_type (sign_value op n)) (value.Number (sign_value op n))
+signed_node types op s a = turned_node types op s a
+
+-- a sign before an operand
+unfoldable pub signed : List TypeDef → Place → UnaryOp → Expression → Judgement Expression
+signed types place op a =
+    rule (broken place rules.Arithmetic) (is_integer (sort_of types a)) (IsInteger (sort_of types a)) (signed_node types op (sort_of types a) a)
+
+-- `not`
+unfoldable pub negated : List TypeDef → Place → Expression → Judgement Expression
+negated types place a =
+    rule (broken place rules.Logic) (allows_not (sort_of types a)) (AsksNot (sort_of types a)) (turned_node types Not (sort_of types a) a)

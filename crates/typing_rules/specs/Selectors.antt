@@ -1,0 +1,94 @@
+-- Selectors: fields, elements, and what a pointer leads to.
+use Rattle.std.specs.Prelude.{ℕ, Bool, List, Option, Some, None, slice_get}
+use Rattle.type_layout.specs.declared.definitions.TypeId.{TypeId}
+use Rattle.type_layout.specs.declared.definitions.Field.{Field}
+use Rattle.type_layout.specs.declared.definitions.TypeDef.{TypeDef}
+use Rattle.type_layout.specs.declared.definitions.TypeDef.TheVariants as type
+use Rattle.type_layout.specs.declared.texts.Place.{Place}
+use Rattle.typed_tree.specs.Expressions as tree
+use Rattle.typed_tree.specs.Expressions.{Expression, Load, FieldOf, Index, Deref, type_of}
+use Rattle.well_formed.specs.Fits.{definition}
+use Rattle.scopes.specs.declared.members.Member.{Member}
+use Rattle.scopes.specs.Members.{member_of}
+use Rattle.typing_rules.specs.declared.faults.Rule.TheVariants as rules
+use Rattle.typing_rules.specs.Faults.{broken, not_yet}
+use Rattle.typing_rules.specs.Judgements.{Judgement, makes, refuses, rule, part}
+use Rattle.typing_rules.specs.Sorts.{char, sort_of_type, sort_of}
+use Rattle.typing_rules.specs.Plans.{AreOfOneHost, are_of_one_host, IsInteger, is_integer}
+
+-- What a place of a type holds. A procedural variable is a call, which is not built yet.
+abbrev pub loaded_by : Place → TypeId → tree.Place → Option TypeDef → Judgement Expression
+loaded_by place ty at (Some (type.Procedural header)) = refuses (not_yet place)
+loaded_by place ty at _ = makes (Load ty at)
+
+unfoldable pub loaded : List TypeDef → Place → TypeId → tree.Place → Judgement Expression
+loaded types place ty at = loaded_by place ty at (definition types ty)
+
+-- ---- fields
+
+abbrev pub field_at : List TypeDef → Place → tree.Place → ℕ → Option Field → Judgement Expression
+field_at types place at number None = refuses (broken place rules.Selected)
+field_at types place at number (Some field) = loaded types place field.ty (FieldOf at number)
+
+abbrev pub field_named : List TypeDef → Place → tree.Place → List Field → Option Member → Judgement Expression
+field_named types place at fields None = refuses (broken place rules.Selected)
+field_named types place at fields (Some one) = field_at types place at one.number (slice_get fields one.number)
+
+-- members of objects are not built yet
+abbrev pub selected_by : List TypeDef → Place → TypeId → tree.Place → Option TypeDef → List ℕ → Judgement Expression
+selected_by types place ty at (Some (type.RecordOf fields)) name = field_named types place at fields (member_of types (Some ty) name)
+selected_by types place ty at (Some (type.ObjectOf parent dynamic fields methods)) name = refuses (not_yet place)
+selected_by types place ty at _ name = refuses (broken place rules.Selected)
+
+abbrev pub selected_of : List TypeDef → Place → Expression → List ℕ → Judgement Expression
+selected_of types place (Load ty at) name = selected_by types place ty at (definition types ty) name
+selected_of types place e name = refuses (broken place rules.Selected)
+
+-- a field of a record
+unfoldable pub selected : List TypeDef → Place → Expression → List ℕ → Judgement Expression
+selected types place e name = selected_of types place e name
+
+-- ---- elements
+
+-- what is asked, and then something else
+abbrev pub asking : {C : Type 0} → Judgement (Unit {0}) → Judgement C → Judgement C
+asking j k = part j (λ u. k)
+
+abbrev pub indexed_by : List TypeDef → Place → Bool → tree.Place → Option TypeDef → Expression → Judgement Expression
+indexed_by types place checked at (Some (type.ArrayOf index element)) i =
+    asking (rule (broken place rules.Indexed) (are_of_one_host (sort_of_type types index) (sort_of types i)) (AreOfOneHost (sort_of_type types index) (sort_of types i)) tt)
+    (loaded types place element (Index at i checked))
+indexed_by types place checked at (Some (type.Str max)) i =
+    rule (broken place rules.Indexed) (is_integer (sort_of types i)) (IsInteger (sort_of types i)) (Load char (Index at i checked))
+indexed_by types place checked at _ i = refuses (broken place rules.Indexed)
+
+abbrev pub indexed_of : List TypeDef → Place → Bool → Expression → Expression → Judgement Expression
+indexed_of types place checked (Load ty at) i = indexed_by types place checked at (definition types ty) i
+indexed_of types place checked e i = refuses (broken place rules.Indexed)
+
+-- An element of an array, or a character of a string, at an index of the host of the index type, or an integer. With
+-- `checked`, an index outside the bounds is an error.
+unfoldable pub indexed : List TypeDef → Place → Bool → Expression → Expression → Judgement Expression
+indexed types place checked e i = indexed_of types place checked e i
+
+-- ---- pointers
+
+abbrev pub target_by : Option TypeDef → Option TypeId
+target_by (Some (type.PointerTo target)) = Some target
+target_by _ = None
+
+abbrev pub target_in : List TypeDef → Option TypeId → Option TypeId
+target_in types None = None
+target_in types (Some ty) = target_by (definition types ty)
+
+-- the type that an expression points to, if it is a pointer
+abbrev pub target_of : List TypeDef → Expression → Option TypeId
+target_of types e = target_in types (type_of e)
+
+abbrev pub followed_to : List TypeDef → Place → Option TypeId → Expression → Judgement Expression
+followed_to types place None e = refuses (broken place rules.Dereferenced)
+followed_to types place (Some target) e = loaded types place target (Deref e)
+
+-- what a pointer leads to
+unfoldable pub followed : List TypeDef → Place → Expression → Judgement Expression
+followed types place e = followed_to types place (target_of types e) e

@@ -1,0 +1,174 @@
+//! Values that are assigned.
+
+ghost use Rattle.std.specs.Prelude.{◌≡◌, Ok, option_copied};
+ghost use Rattle.typed_tree.specs.Expressions.{view_expr};
+ghost use Rattle.typing_rules.specs.Judgements.{Gives};
+ghost use Rattle.typing_rules.specs.Assignments.{is_string, is_of_type, is_assignable, is_unbuilt, ranged, constant_in, tested, stored_in, assigned_by, assigned};
+
+use crate::faults::{Refusal, Rule, broken, not_yet};
+use crate::plans::{are_of_one_host, is_text};
+use crate::sorts::{Sort, definition, sort_of, sort_of_type, type_of};
+use crate::wanting::{as_text, converted, stored_of_type};
+use std::alloc::Global;
+use type_layout::{Host, Place, TypeDef, TypeId, Types, storage_of};
+use typed_tree::{Expr, Value};
+
+fn is_string(sort: Sort) -> bool
+    ensures { result ≡ is_string sort }
+{
+    matches!(sort, Sort::Text)
+}
+
+fn is_of_type(ty: TypeId, own: Option<TypeId>) -> bool
+    ensures { result ≡ is_of_type ty own }
+{
+    match own {
+        Some(own) => ty.0 == own.0,
+        None => false,
+    }
+}
+
+fn is_assignable(target: Sort, sort: Sort, ty: TypeId, own: Option<TypeId>) -> bool
+    ensures { result ≡ is_assignable target sort ty own }
+{
+    are_of_one_host(target, sort) || is_string(target) && is_text(sort) || is_of_type(ty, own)
+}
+
+fn is_unbuilt(one: Option<&TypeDef>) -> bool
+    ensures { result ≡ is_unbuilt (option_copied one.entry) }
+{
+    match one {
+        Some(TypeDef::SetOf { .. })
+        | Some(TypeDef::PointerTo { .. })
+        | Some(TypeDef::ObjectOf { .. })
+        | Some(TypeDef::Procedural { .. }) => true,
+        _ => false,
+    }
+}
+
+fn ranged(alloc: Global, checked: bool, low: i32, high: i32, expr: Expr) -> Result<Expr, Refusal>
+    ensures { Gives view_expr result (Ok (ranged checked low high (view_expr expr))) }
+{
+    if !checked {
+        return Ok(expr);
+    }
+    match type_of(&expr) {
+        Some(ty) => Ok(Expr::Range {
+            ty,
+            operand: Box::new(alloc, expr)?,
+            low,
+            high,
+        }),
+        None => Ok(expr),
+    }
+}
+
+// A test inside a conversion.
+#[tactic(auto, unfolding(crate::specs::Assignments::tested))]
+fn tested(
+    alloc: Global,
+    ty: TypeId,
+    wanted: Host,
+    low: i32,
+    high: i32,
+    stored: Option<Host>,
+    checked: bool,
+    expr: Expr,
+) -> Result<Expr, Refusal>
+    ensures { Gives view_expr result (Ok (tested ty wanted low high stored checked (view_expr expr))) }
+{
+    let expr = ranged(alloc, checked, low, high, expr)?;
+    converted(alloc, ty, wanted, stored, expr)
+}
+
+// A constant of a type, tested.
+#[tactic(auto, unfolding(crate::specs::Assignments::constant_in))]
+fn constant_in(
+    alloc: Global,
+    ty: TypeId,
+    low: i32,
+    high: i32,
+    checked: bool,
+    number: i32,
+) -> Result<Expr, Refusal>
+    ensures { Gives view_expr result (Ok (constant_in ty low high checked number)) }
+{
+    let constant = Expr::Const {
+        ty,
+        value: Value::Number(number),
+    };
+    ranged(alloc, checked, low, high, constant)
+}
+
+// An ordinal in a type that is stored so, within bounds that are tested where that is asked for.
+fn stored_in(
+    alloc: Global,
+    ty: TypeId,
+    wanted: Host,
+    low: i32,
+    high: i32,
+    stored: Option<Host>,
+    checked: bool,
+    expr: Expr,
+) -> Result<Expr, Refusal>
+    ensures { Gives view_expr result (Ok (stored_in ty wanted low high stored checked (view_expr expr))) }
+{
+    match expr {
+        Expr::Const {
+            value: Value::Number(number),
+            ..
+        } if wanted.holds(number, number) => constant_in(alloc, ty, low, high, checked, number),
+        _ => tested(alloc, ty, wanted, low, high, stored, checked, expr),
+    }
+}
+
+fn assigned_by(
+    alloc: Global,
+    ty: TypeId,
+    one: Option<&TypeDef>,
+    stored: Option<Host>,
+    checked: bool,
+    expr: Expr,
+) -> Result<Expr, Refusal>
+    ensures { Gives view_expr result (Ok (assigned_by ty (option_copied one.entry) stored checked (view_expr expr))) }
+{
+    match one {
+        Some(TypeDef::Ordinal { host, low, high }) => stored_in(
+            alloc,
+            ty,
+            storage_of(*host, *low, *high),
+            *low,
+            *high,
+            stored,
+            checked,
+            expr,
+        ),
+        Some(TypeDef::Str { .. }) => as_text(alloc, stored, expr),
+        _ => Ok(expr),
+    }
+}
+
+/// The node of a value that is assigned, at a place, to a target of a type. With `checked` it must lie within the bounds of
+/// an ordinal type.
+#[tactic(auto, unfolding(crate::specs::Assignments::assigned))]
+pub fn assigned(
+    alloc: Global,
+    types: &Types,
+    place: Place,
+    ty: TypeId,
+    checked: bool,
+    expr: Expr,
+) -> Result<Expr, Refusal>
+    ensures { Gives view_expr result (assigned types.now.types place ty checked (view_expr expr)).run }
+{
+    let one = definition(types, ty);
+    if is_unbuilt(one) {
+        return Err(Refusal::Because(not_yet(place)));
+    }
+    let own = type_of(&expr);
+    if !is_assignable(sort_of_type(types, ty), sort_of(types, &expr), ty, own) {
+        return Err(Refusal::Because(broken(place, Rule::Assigned)));
+    }
+    let stored = stored_of_type(types, own);
+    assigned_by(alloc, ty, one, stored, checked, expr)
+}

@@ -1,0 +1,157 @@
+//! Operators on typed operands.
+
+ghost use Rattle.std.specs.Prelude.{◌≡◌, Ok};
+ghost use Rattle.typed_tree.specs.Expressions.{view_expr};
+ghost use Rattle.typing_rules.specs.Judgements.{Gives};
+ghost use Rattle.typing_rules.specs.Operators.{planned, combined, negative, sign_value, turned_node, signed_node, signed, negated};
+
+use crate::faults::{Refusal, Rule, broken, not_yet};
+use crate::plans::{
+    Plan, allows, allows_not, is_integer, is_later, may_be_early, operation_of, plan_of, rule_of,
+    turned,
+};
+use crate::sorts::{Sort, number_type, sort_of};
+use crate::wanting::{wanted, wanted_in};
+use std::alloc::Global;
+use type_layout::{Place, Types};
+use typed_tree::{BinaryOp, Expr, UnaryOp, Value};
+
+fn planned(
+    alloc: Global,
+    types: &Types,
+    op: BinaryOp,
+    early: bool,
+    plan: Plan,
+    left: Expr,
+    right: Expr,
+) -> Result<Expr, Refusal>
+    ensures { Gives view_expr result (Ok (planned types.now.types op early plan (view_expr left) (view_expr right))) }
+{
+    let left = wanted_in(alloc, types, plan.left, left)?;
+    let right = wanted_in(alloc, types, plan.right, right)?;
+    Ok(Expr::Binary {
+        ty: plan.ty,
+        op,
+        left: Box::new(alloc, left)?,
+        right: Box::new(alloc, right)?,
+        early,
+    })
+}
+
+/// The node of an operator at a place with two operands. With `early`, an `and` or `or` of Booleans leaves out its right
+/// side where the left one decides.
+#[tactic(auto, unfolding(crate::specs::Operators::combined))]
+pub fn combined(
+    alloc: Global,
+    types: &Types,
+    place: Place,
+    op: BinaryOp,
+    early: bool,
+    left: Expr,
+    right: Expr,
+) -> Result<Expr, Refusal>
+    ensures { Gives view_expr result (combined types.now.types place op early (view_expr left) (view_expr right)).run }
+{
+    let first = sort_of(types, &left);
+    let second = sort_of(types, &right);
+    if is_later(first) || is_later(second) {
+        return Err(Refusal::Because(not_yet(place)));
+    }
+    let operation = operation_of(op);
+    if !allows(operation, first, second) {
+        let rule = rule_of(operation, first, second);
+        return Err(Refusal::Because(broken(place, rule)));
+    }
+    let plan = plan_of(operation, first, second);
+    let early = early && may_be_early(op, first);
+    planned(alloc, types, op, early, plan, left, right)
+}
+
+fn negative(number: i32) -> i32
+    ensures { result ≡ negative number }
+{
+    if number == i32::MIN { number } else { -number }
+}
+
+fn sign_value(op: UnaryOp, number: i32) -> i32
+    ensures { result ≡ sign_value op number }
+{
+    match op {
+        UnaryOp::Minus => negative(number),
+        UnaryOp::Plus | UnaryOp::Not => number,
+    }
+}
+
+fn turned_node(
+    alloc: Global,
+    types: &Types,
+    op: UnaryOp,
+    sort: Sort,
+    operand: Expr,
+) -> Result<Expr, Refusal>
+    ensures { Gives view_expr result (Ok (turned_node types.now.types op sort (view_expr operand))) }
+{
+    let ty = turned(sort);
+    let operand = wanted(alloc, types, ty, operand)?;
+    Ok(Expr::Unary {
+        ty,
+        op,
+        operand: Box::new(alloc, operand)?,
+    })
+}
+
+fn signed_node(
+    alloc: Global,
+    types: &Types,
+    op: UnaryOp,
+    sort: Sort,
+    operand: Expr,
+) -> Result<Expr, Refusal>
+    ensures { Gives view_expr result (Ok (signed_node types.now.types op sort (view_expr operand))) }
+{
+    match operand {
+        Expr::Const {
+            value: Value::Number(number),
+            ..
+        } => {
+            let number = sign_value(op, number);
+            Ok(Expr::Const {
+                ty: number_type(number),
+                value: Value::Number(number),
+            })
+        }
+        _ => turned_node(alloc, types, op, sort, operand),
+    }
+}
+
+/// The node of a sign at a place, which before a constant makes a constant.
+#[tactic(auto, unfolding(crate::specs::Operators::signed))]
+pub fn signed(
+    alloc: Global,
+    types: &Types,
+    place: Place,
+    op: UnaryOp,
+    operand: Expr,
+) -> Result<Expr, Refusal>
+    ensures { Gives view_expr result (signed types.now.types place op (view_expr operand)).run }
+{
+    let sort = sort_of(types, &operand);
+    if is_integer(sort) {
+        signed_node(alloc, types, op, sort, operand)
+    } else {
+        Err(Refusal::Because(broken(place, Rule::Arithmetic)))
+    }
+}
+
+/// The node of a `not` at a place.
+#[tactic(auto, unfolding(crate::specs::Operators::negated))]
+pub fn negated(alloc: Global, types: &Types, place: Place, operand: Expr) -> Result<Expr, Refusal>
+    ensures { Gives view_expr result (negated types.now.types place (view_expr operand)).run }
+{
+    let sort = sort_of(types, &operand);
+    if allows_not(sort) {
+        turned_node(alloc, types, UnaryOp::Not, sort, operand)
+    } else {
+        Err(Refusal::Because(broken(place, Rule::Logic)))
+    }
+}

@@ -1,0 +1,185 @@
+//! What operators look at in an operand.
+
+ghost use Rattle.std.specs.Prelude.{◌≡◌, Some, option_copied};
+ghost use Rattle.typed_tree.specs.Expressions.{view_expr, type_of};
+ghost use Rattle.well_formed.specs.Fits.{definition};
+ghost use Rattle.typing_rules.specs.Sorts.{range_of, only, is_within, are_within, holding_type, common_type, number_type, sort_stored, sort_by, sort_of_type, known, sort_of_constant, sort_of_result, sort_of};
+
+use scopes::{INTEGER, LONG_INT, WORD};
+use type_layout::{Host, TypeDef, TypeId, Types, storage_of};
+use typed_tree::{Expr, Value};
+
+/// The integers from `low` to `high`, both included.
+#[derive(Clone, Copy, Debug, PartialEq, Eq)]
+pub struct Range {
+    pub low: i32,
+    pub high: i32,
+}
+
+/// What a value is to operators. An enumeration goes by its type, texts are strings.
+#[derive(Clone, Copy, Debug, PartialEq, Eq)]
+pub enum Sort {
+    Integer(Range),
+    Boolean,
+    Char,
+    Enumeration(TypeId),
+    Text,
+    Set,
+    Pointer,
+    Other,
+}
+
+// All values that are stored as this host.
+fn range_of(stored: Host) -> Range
+    ensures { result ≡ range_of stored }
+{
+    Range {
+        low: stored.least(),
+        high: stored.greatest(),
+    }
+}
+
+fn only(number: i32) -> Range
+    ensures { result ≡ only number }
+{
+    Range {
+        low: number,
+        high: number,
+    }
+}
+
+fn is_within(stored: Host, range: Range) -> bool
+    ensures { result ≡ is_within stored range }
+{
+    stored.holds(range.low, range.high)
+}
+
+/// The first of Integer, Word and LongInt that holds the range.
+pub(crate) fn holding_type(range: Range) -> TypeId
+    ensures { result ≡ holding_type range }
+{
+    if is_within(Host::Integer, range) {
+        INTEGER
+    } else if is_within(Host::Word, range) {
+        WORD
+    } else {
+        LONG_INT
+    }
+}
+
+/// The first of Integer, Word and LongInt that holds both ranges.
+pub(crate) fn common_type(left: Range, right: Range) -> TypeId
+    ensures { result ≡ common_type left right }
+{
+    if is_within(Host::Integer, left) && is_within(Host::Integer, right) {
+        INTEGER
+    } else if is_within(Host::Word, left) && is_within(Host::Word, right) {
+        WORD
+    } else {
+        LONG_INT
+    }
+}
+
+/// The type of a constant number where no other is wanted: the first of Integer, Word and LongInt that holds it.
+pub fn number_type(number: i32) -> TypeId
+    ensures { result ≡ number_type number }
+{
+    holding_type(only(number))
+}
+
+fn sort_stored(ty: TypeId, stored: Host) -> Sort
+    ensures { result ≡ sort_stored ty stored }
+{
+    match stored {
+        Host::Char => Sort::Char,
+        Host::Boolean => Sort::Boolean,
+        Host::Enumeration => Sort::Enumeration(ty),
+        _ => Sort::Integer(range_of(stored)),
+    }
+}
+
+/// The type with this id, if the table has it.
+pub(crate) fn definition(types: &Types, ty: TypeId) -> Option<&TypeDef>
+    ensures { option_copied result ≡ definition types.now.types ty }
+{
+    if ty.0 < types.count() {
+        Some(types.get(ty))
+    } else {
+        None
+    }
+}
+
+fn sort_by(ty: TypeId, one: &TypeDef) -> Sort
+    ensures { result ≡ sort_by ty (Some one.now) }
+{
+    match one {
+        TypeDef::Ordinal { host, low, high } => sort_stored(ty, storage_of(*host, *low, *high)),
+        TypeDef::Str { .. } => Sort::Text,
+        TypeDef::SetOf { .. } => Sort::Set,
+        TypeDef::PointerTo { .. } => Sort::Pointer,
+        _ => Sort::Other,
+    }
+}
+
+/// What the values of a type are.
+pub(crate) fn sort_of_type(types: &Types, ty: TypeId) -> Sort
+    ensures { result ≡ sort_of_type types.now.types ty }
+{
+    match definition(types, ty) {
+        Some(one) => sort_by(ty, one),
+        None => Sort::Other,
+    }
+}
+
+fn known(number: i32, sort: Sort) -> Sort
+    ensures { result ≡ known number sort }
+{
+    match sort {
+        Sort::Integer(_) => Sort::Integer(only(number)),
+        _ => sort,
+    }
+}
+
+fn sort_of_constant(types: &Types, ty: TypeId, value: &Value) -> Sort
+    ensures { result ≡ sort_of_constant types.now.types ty value.now }
+{
+    match value {
+        Value::Number(number) => known(*number, sort_of_type(types, ty)),
+        Value::Chars(_) | Value::Nil | Value::Elements(_) => sort_of_type(types, ty),
+    }
+}
+
+/// The type of an expression, which a call of a procedure does not have.
+pub(crate) fn type_of(expr: &Expr) -> Option<TypeId>
+    ensures { result ≡ type_of (view_expr expr.now) }
+{
+    match expr {
+        Expr::Const { ty, .. }
+        | Expr::RoutineValue { ty, .. }
+        | Expr::Load { ty, .. }
+        | Expr::Unary { ty, .. }
+        | Expr::Binary { ty, .. }
+        | Expr::Convert { ty, .. }
+        | Expr::Range { ty, .. }
+        | Expr::SetOf { ty, .. }
+        | Expr::Make { ty, .. } => Some(*ty),
+        Expr::Call { ty, .. }
+        | Expr::CallVirtual { ty, .. }
+        | Expr::CallThrough { ty, .. }
+        | Expr::Std { ty, .. } => *ty,
+    }
+}
+
+/// What an operand is to operators. A constant lies at its value, any other operand anywhere in the predefined type
+/// that stores it.
+pub fn sort_of(types: &Types, expr: &Expr) -> Sort
+    ensures { result ≡ sort_of types.now.types (view_expr expr.now) }
+{
+    match expr {
+        Expr::Const { ty, value } => sort_of_constant(types, *ty, value),
+        _ => match type_of(expr) {
+            Some(ty) => sort_of_type(types, ty),
+            None => Sort::Other,
+        },
+    }
+}
