@@ -46,6 +46,13 @@ fits_as {read = read} {text = text} G meets to from = record {
   again = λ a rest fits. meets.again a rest (from a fits);
 }
 
+-- the same bytes by another word
+pub text_as : {A : Type 0} {read : Reader A} {text : A → List ℕ} {F : A → Type 0} (other : A → List ℕ) → Meets read text F → ((a : A) → other a ≡ text a) → Meets read other F
+text_as {read = read} {text = text} {F = F} other meets same = record {
+  takes = λ bytes x fits e. let t = meets.takes bytes x fits e in record { parts = t.parts ∙ ap (λ (front : List ℕ). front ++ x.1) (sym (same x.0)); rest_fits = t.rest_fits; fits = t.fits };
+  again = λ a rest fits. ap (λ (front : List ℕ). read (front ++ rest)) (same a) ∙ meets.again a rest fits;
+}
+
 -- a part and its rule
 pub ruled_meets : {A : Type 0} {read : Reader A} {text : A → List ℕ} {F : A → Type 0} (rule : A → Bool) → Meets read text F → Meets (ruled rule read) text (λ a. F a × IsTrue (rule a))
 ruled_meets {A = A} {read = read} {text = text} {F = F} rule meets = record {

@@ -23,53 +23,6 @@ allowed left holds x = if holds then Ok x else Err left
 abbrev pub ruled : {A : Type 0} → (A → Bool) → Reader A → Reader A
 ruled rule read bytes = read bytes >>= λ x. allowed (length bytes) (rule x.0) x
 
--- a byte, a word and a number of four bytes
-unfoldable pub byte_at : Reader ℕ
-byte_at [] = Err 0
-byte_at (byte ∷ rest) = Ok (byte, rest)
-
-unfoldable pub word_at : Reader ℕ
-word_at bytes = if nat_lt (length bytes) 2 then Err 0 else Ok (from_le_bytes w16 (take 2 bytes), drop 2 bytes)
-
-unfoldable pub long_at : Reader ℕ
-long_at bytes = if nat_lt (length bytes) 4 then Err 0 else Ok (from_le_bytes w32 (take 4 bytes), drop 4 bytes)
-
--- what any value passes
-abbrev pub any : {A : Type 0} → A → Bool
-any _ = true
-
--- a signed number
-unfoldable pub signed_at : Reader ℤ
-signed_at bytes = do
-  number ← long_at bytes
-  Ok (cast_signed w32 number.0, number.1)
-
--- a truth value
-unfoldable pub truth_at : Reader Bool
-truth_at bytes = do
-  truth ← ruled (λ byte. nat_le byte 1) byte_at bytes
-  Ok (truth.0 == 1, truth.1)
-
--- a number that may be absent
-abbrev pub option_of : ℕ → Option ℕ
-option_of zero = None
-option_of (suc number) = Some number
-
-unfoldable pub option_at : Reader (Option ℕ)
-option_at bytes = do
-  number ← long_at bytes
-  Ok (option_of number.0, number.1)
-
--- so many bytes that no rule binds
-unfoldable pub some_bytes : ℕ → Reader (List ℕ)
-some_bytes count bytes = if nat_lt (length bytes) count then Err 0 else Ok (take count bytes, drop count bytes)
-
--- bytes behind their count, which a rule binds
-unfoldable pub bytes_where : (ℕ → Bool) → Reader (List ℕ)
-bytes_where rule bytes = do
-  count ← ruled rule long_at bytes
-  some_bytes count.0 count.1
-
 -- one part, and then another one
 infixr 12 ◌▷◌
 abbrev pub ◌▷◌ : {A B : Type 0} → Reader A → Reader B → Reader (A × B)
@@ -91,11 +44,52 @@ made make read bytes = do
   parts ← read bytes
   Ok (make parts.0, parts.1)
 
+-- a byte, a word and a number of four bytes
+unfoldable pub byte_at : Reader ℕ
+byte_at [] = Err 0
+byte_at (byte ∷ rest) = Ok (byte, rest)
+
+unfoldable pub word_at : Reader ℕ
+word_at bytes = if nat_lt (length bytes) 2 then Err 0 else Ok (from_le_bytes w16 (take 2 bytes), drop 2 bytes)
+
+unfoldable pub long_at : Reader ℕ
+long_at bytes = if nat_lt (length bytes) 4 then Err 0 else Ok (from_le_bytes w32 (take 4 bytes), drop 4 bytes)
+
 -- a byte below a bound that says what follows
 abbrev pub tagged : {A : Type 0} → ℕ → (ℕ → Reader A) → Reader A
 tagged bound body bytes = do
   tag ← ruled (λ tag. nat_lt tag bound) byte_at bytes
   body tag.0 tag.1
+
+-- what any value passes
+abbrev pub any : {A : Type 0} → A → Bool
+any _ = true
+
+-- a signed number
+unfoldable pub signed_at : Reader ℤ
+signed_at bytes = made (cast_signed w32) long_at bytes
+
+-- a truth value
+unfoldable pub truth_at : Reader Bool
+truth_at bytes = made (λ byte. byte == 1) (ruled (λ byte. nat_le byte 1) byte_at) bytes
+
+-- a number that may be absent
+abbrev pub option_of : ℕ → Option ℕ
+option_of zero = None
+option_of (suc number) = Some number
+
+unfoldable pub option_at : Reader (Option ℕ)
+option_at bytes = made option_of long_at bytes
+
+-- so many bytes that no rule binds
+unfoldable pub some_bytes : ℕ → Reader (List ℕ)
+some_bytes count bytes = if nat_lt (length bytes) count then Err 0 else Ok (take count bytes, drop count bytes)
+
+-- bytes behind their count, which a rule binds
+unfoldable pub bytes_where : (ℕ → Bool) → Reader (List ℕ)
+bytes_where rule bytes = do
+  count ← ruled rule long_at bytes
+  some_bytes count.0 count.1
 
 -- so many items, each read by what the items before it left behind
 unfoldable pub in_turn : {S A : Type 0} → (S → Reader A) → (S → A → S) → ℕ → S → Reader (List A)

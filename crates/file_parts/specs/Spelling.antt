@@ -1,5 +1,5 @@
 -- The bytes of the parts of a file. Numbers stand with their low byte first.
-use Rattle.std.specs.Prelude.{ℕ, ◌+◌, ◌<◌, ◌^◌, ℤ, Bool, true, false, List, [], ◌∷◌, ◌++◌, length, Option, Some, None, IfSome}
+use Rattle.std.specs.Prelude.{ℕ, ◌+◌, ◌<◌, ◌^◌, ℤ, Bool, true, false, List, [], ◌∷◌, ◌++◌, length, Option, Some, None, IfSome, FitsSigned}
 use Rattle.std.specs.List.{flat_map}
 use Rattle.std.specs.Int.{w16, w32, to_le_bytes, cast_unsigned}
 
@@ -46,6 +46,9 @@ FitEach Fits items = FitInTurn (λ (_ : Unit {0}) item. Fits item) (λ state _. 
 -- what a number of four bytes can be
 abbrev pub IsLong : ℕ → Type 0
 IsLong number = number < 2 ^ 32
+
+abbrev pub IsSigned : ℤ → Type 0
+IsSigned number = FitsSigned w32 number
 
 abbrev pub IsLongOption : Option ℕ → Type 0
 IsLongOption number = IfSome number (λ n. n + 1 < 2 ^ 32)

@@ -1,13 +1,14 @@
 //! Reading the parts of a file.
 
-ghost use Rattle.std.specs.Prelude.{◌≡◌, nat_le};
+ghost use Rattle.std.specs.Prelude.{◌≡◌, ◌≤◌, ◌==◌, nat_le, IfOk};
 ghost use Rattle.type_layout.specs.Words.{IsName};
 ghost use Rattle.file_parts.specs.declared.error.PartError.{PartError};
 ghost use Rattle.file_parts.specs.Parts.{Gives, any, option_of, ruled, byte_at, word_at, long_at, signed_at, truth_at, option_at, some_bytes, bytes_where, is_name_length, stands_in_name, name_bytes, name_at};
 
 use crate::error::PartError;
+use arrayvec::ArrayVec;
 use std::alloc::Global;
-use type_layout::{Bytes, Name};
+use type_layout::{Bytes, NAME_LEN, Name};
 
 /// The part that begins where so many bytes are left breaks a rule.
 pub fn damaged<T>(left: usize) -> Result<T, PartError>
@@ -119,17 +120,18 @@ pub fn bytes_of(alloc: Global, bytes: &[u8]) -> Result<(Bytes, &[u8]), PartError
 }
 
 fn name_length(bytes: &[u8]) -> Result<(u8, &[u8]), PartError>
-    ensures { Gives (λ x. (x.0, x.1.now)) result (ruled is_name_length byte_at bytes.now) }
+    ensures few { IfOk result (λ x. x.0 ≤ NAME_LEN) }
+    ensures read { Gives (λ x. (x.0, x.1.now)) result (ruled is_name_length byte_at bytes.now) }
 {
     let (size, rest) = byte_of(bytes)?;
-    if size == 0 || size > 63 {
+    if size == 0 || usize::from(size) > NAME_LEN {
         return damaged(bytes.len());
     }
     Ok((size, rest))
 }
 
 /// Whether a byte may be byte `k` of a name.
-fn stands_in_name(k: usize, byte: u8) -> bool
+fn stands_in_name(k: u8, byte: u8) -> bool
     ensures { result ≡ stands_in_name k byte }
 {
     (byte.is_ascii_uppercase() || byte == b'_' || byte.is_ascii_digit())
@@ -137,7 +139,7 @@ fn stands_in_name(k: usize, byte: u8) -> bool
 }
 
 /// Byte `k` of a name.
-fn name_byte(k: usize, bytes: &[u8]) -> Result<(u8, &[u8]), PartError>
+fn name_byte(k: u8, bytes: &[u8]) -> Result<(u8, &[u8]), PartError>
     ensures { Gives (λ x. (x.0, x.1.now)) result (ruled (stands_in_name k) byte_at bytes.now) }
 {
     let (byte, rest) = byte_of(bytes)?;
@@ -145,4 +147,40 @@ fn name_byte(k: usize, bytes: &[u8]) -> Result<(u8, &[u8]), PartError>
         return damaged(bytes.len());
     }
     Ok((byte, rest))
+}
+
+/// So many bytes of a name, and the bytes behind them.
+#[tactic(auto, unfolding(crate::specs::Parts::name_bytes))]
+fn name_bytes(count: u8, bytes: &[u8]) -> Result<(ArrayVec<u8, NAME_LEN>, &[u8]), PartError>
+    requires { count ≤ NAME_LEN }
+    ensures { Gives (λ x. (x.0.items, x.1.now)) result (name_bytes count bytes.now) }
+{
+    let mut text = ArrayVec::new();
+    let mut rest = bytes;
+    for k in 0..count {
+        let (byte, after) = name_byte(k, rest)?;
+        text.push(byte);
+        rest = after;
+    }
+    Ok((text, rest))
+}
+
+fn named(text: &[u8]) -> Name
+    requires { IsName text.now }
+    ensures { result ≡ text.now }
+{
+    match Name::new(text) {
+        Some(name) => name,
+        None => unreachable!(),
+    }
+}
+
+/// A name behind its length, and the bytes behind it.
+#[tactic(auto, unfolding(crate::specs::Parts::name_at))]
+pub fn name_of(bytes: &[u8]) -> Result<(Name, &[u8]), PartError>
+    ensures { Gives (λ x. (x.0, x.1.now)) result (name_at bytes.now) }
+{
+    let (size, rest) = name_length(bytes)?;
+    let (text, rest) = name_bytes(size, rest)?;
+    Ok((named(text.as_slice()), rest))
 }

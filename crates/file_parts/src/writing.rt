@@ -1,6 +1,6 @@
 //! Writing the parts of a file.
 
-ghost use Rattle.std.specs.Prelude.{◌≡◌, ◌++◌, OnOk};
+ghost use Rattle.std.specs.Prelude.{◌≡◌, ◌++◌, ◌+◌, ◌<◌, ◌^◌, OnOk, IfSome};
 ghost use Rattle.file_parts.specs.Spelling.{word_text, long_text, signed_text, truth_text, name_text, option_text, bytes_text};
 
 use byteorder::{ByteOrder, LittleEndian};
@@ -46,4 +46,33 @@ pub fn push_name(bytes: &mut Bytes, name: &Name) -> Result<(), AllocError>
     let text = name.as_bytes();
     bytes.push(text.len() as u8)?;
     bytes.extend_from_slice(text)
+}
+
+/// Appends the count of a list. `AllocError` comes besides where it is no number of four bytes, as no memory holds so much.
+pub fn push_count(bytes: &mut Bytes, count: usize) -> Result<(), AllocError>
+    ensures { OnOk result (bytes.new ≡ bytes.old ++ long_text count) }
+{
+    match u32::try_from(count) {
+        Ok(count) => push_long(bytes, count),
+        Err(_) => Err(AllocError),
+    }
+}
+
+/// Appends a number that may be absent.
+pub fn push_option(bytes: &mut Bytes, number: Option<u32>) -> Result<(), AllocError>
+    requires { IfSome number (λ n. n + 1 < 2 ^ 32) }
+    ensures { OnOk result (bytes.new ≡ bytes.old ++ option_text number) }
+{
+    match number {
+        None => push_long(bytes, 0),
+        Some(number) => push_long(bytes, number + 1),
+    }
+}
+
+/// Appends bytes behind their count.
+pub fn push_bytes(bytes: &mut Bytes, more: &[u8]) -> Result<(), AllocError>
+    ensures { OnOk result (bytes.new ≡ bytes.old ++ bytes_text more.now) }
+{
+    push_count(bytes, more.len())?;
+    bytes.extend_from_slice(more)
 }

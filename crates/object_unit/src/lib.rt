@@ -1,13 +1,6 @@
-// A library with one function.
+//! Object units: the code and data of a unit, with what they refer to.
 #![tactic(auto)]
 
-ghost use Rattle.std.specs.Prelude.{◌≡◌};
-ghost use Rattle.object_unit.specs.Echo.{echo_of};
+mod object;
 
-// The `ensures` clause is the contract: what `echo` returns is `echo_of` of its argument, a definition
-// in `specs/Echo.antt`, which a caller's clause can cite too.
-pub fn echo(x: usize) -> usize
-    ensures { result ≡ echo_of x }
-{
-    x
-}
+pub use object::{Code8086, Codes, Datum, ObjectData, ObjectUnit, Ref, RefKind, Refs};
