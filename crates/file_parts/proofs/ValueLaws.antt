@@ -48,12 +48,12 @@ unfolding option_at
 option_meets = made_meets option_of option_text IsLongOption long_meets option_made option_parts
 
 -- names
-both : (a b : Bool) → IsTrue (a && b) → IsTrue a × IsTrue b
+pub both : (a b : Bool) → IsTrue (a && b) → IsTrue a × IsTrue b
 both true true holds = (refl, refl)
 both true false holds = absurd cc
 both false b holds = absurd cc
 
-and : (a b : Bool) → IsTrue a → IsTrue b → IsTrue (a && b)
+pub and : (a b : Bool) → IsTrue a → IsTrue b → IsTrue (a && b)
 and a b first second = rw (first, second) refl
 
 abbrev StandsInName : ℕ → ℕ → Type 0

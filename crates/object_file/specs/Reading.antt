@@ -1,5 +1,5 @@
 -- Reading an object unit from the front of what is left.
-use Rattle.std.specs.Prelude.{ℕ, zero, suc, ◌+◌, Bool, nat_lt, nat_le, ◌&&◌, ◌||◌, ◌==◌, if◌then◌else◌, List, length, cond}
+use Rattle.std.specs.Prelude.{ℕ, ◌+◌, Bool, nat_lt, nat_le, ◌&&◌, ◌||◌, ◌==◌, List, length, cond}
 use Rattle.object_unit.specs.declared.object.RefKind.{RefKind}
 use Rattle.object_unit.specs.declared.object.RefKind.TheVariants.{FarRoutine, NearRoutine, DataOffset, DataSegment, Vmt, Runtime}
 use Rattle.object_unit.specs.declared.object.Ref.{Ref}
@@ -7,8 +7,8 @@ use Rattle.object_unit.specs.declared.object.Datum.{Datum}
 use Rattle.object_unit.specs.declared.object.Code8086.{Code8086}
 use Rattle.object_unit.specs.declared.object.ObjectUnit.{ObjectUnit}
 use Rattle.object_unit.specs.Widths.{width_of}
-use Rattle.file_parts.specs.Parts.{Reader, ◌>>=◌, ◌▷◌, ruled, followed, made, any, byte_at, long_at, truth_at, bytes_where, list_where, list_of, name_at}
-use Rattle.object_file.specs.Text.{ref_end}
+use Rattle.file_parts.specs.Parts.{Reader, ◌▷◌, ruled, followed, made, any, byte_at, long_at, truth_at, bytes_where, list_where, name_at}
+use Rattle.object_file.specs.Text.{ref_end, room_behind}
 
 -- the kind with a number below 6
 abbrev pub kind_of : ℕ → RefKind
@@ -46,17 +46,17 @@ abbrev pub code_of : List ℕ × (Bool × (ℕ × (List ℕ × List Ref))) → C
 code_of parts = record { name = parts.0; far = parts.1.0; frame = parts.1.1.0; code = parts.1.1.1.0; refs = parts.1.1.1.1 }
 
 abbrev pub is_code_count : ℕ → ℕ → Bool
-is_code_count before count = nat_le 6 count && nat_le (before + count) 65520
+is_code_count room count = nat_le 6 count && nat_le count room
 
 unfoldable pub code_at : ℕ → Reader Code8086
-code_at before bytes = made code_of (name_at ▷ (truth_at ▷ (long_at ▷ followed (bytes_where (is_code_count before)) (λ code. refs_at (length code))))) bytes
+code_at room bytes = made code_of (name_at ▷ (truth_at ▷ (long_at ▷ followed (bytes_where (is_code_count room)) (λ code. refs_at (length code))))) bytes
 
 -- at least so many data, and at least so many routines
 unfoldable pub data_at : ℕ → Reader (List Datum)
 data_at least bytes = list_where (λ count. nat_le least count) (λ (_ : Unit {0}). datum_at) (λ state _. state) tt bytes
 
 unfoldable pub codes_at : ℕ → Reader (List Code8086)
-codes_at least bytes = list_where (λ count. nat_le least count) code_at (λ before routine. before + length routine.code) 0 bytes
+codes_at least bytes = list_where (λ count. nat_le least count) code_at room_behind 65520 bytes
 
 abbrev pub object_of : List Datum × (List Datum × List Code8086) → ObjectUnit
 object_of parts = record { globals = parts.0; vmts = parts.1.0; routines = parts.1.1 }

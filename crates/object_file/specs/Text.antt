@@ -1,5 +1,5 @@
 -- The bytes of an object unit, and which object units have them.
-use Rattle.std.specs.Prelude.{ℕ, ◌+◌, ◌≤◌, ◌<◌, ◌≡◌, ◌^◌, ◌⊎◌, IsTrue, nat_le, ◌&&◌, ◌||◌, ◌==◌, Bool, List, [], ◌∷◌, ◌++◌, length}
+use Rattle.std.specs.Prelude.{ℕ, ◌+◌, ◌-◌, ◌≤◌, IsTrue, ◌||◌, ◌==◌, List, ◌∷◌, ◌++◌, length}
 use Rattle.type_layout.specs.Words.{IsName}
 use Rattle.object_unit.specs.declared.object.RefKind.{RefKind}
 use Rattle.object_unit.specs.declared.object.RefKind.TheVariants.{FarRoutine, NearRoutine, DataOffset, DataSegment, Vmt, Runtime}
@@ -20,7 +20,7 @@ kind_number Vmt = 4
 kind_number Runtime = 5
 
 unfoldable pub ref_text : Ref → List ℕ
-ref_text one = long_text one.offset ++ (kind_number one.kind ∷ [] ++ (name_text one.unit ++ long_text one.number))
+ref_text one = long_text one.offset ++ (kind_number one.kind ∷ (name_text one.unit ++ long_text one.number))
 
 unfoldable pub datum_text : Datum → List ℕ
 datum_text datum = long_text datum.size ++ (bytes_text datum.first ++ list_text ref_text datum.refs)
@@ -54,22 +54,33 @@ pub record IsDatum (datum : Datum) : Type 0 where
   pub first : IsTrue (length datum.first == 0 || length datum.first == datum.size)
   pub refs : AreRefs (length datum.first) datum.refs
 
--- A routine has at least 6 bytes, and with those before it at most 65,520.
-pub record IsCode (before : ℕ) (routine : Code8086) : Type 0 where
+-- A routine has at least 6 bytes of code, and these have room in what the routines before it leave.
+pub record IsCode (room : ℕ) (routine : Code8086) : Type 0 where
   pub name : IsName routine.name
   pub frame : IsLong routine.frame
+  pub count : IsLong (length routine.code)
   pub some : 6 ≤ length routine.code
-  pub few : before + length routine.code ≤ 65520
+  pub few : length routine.code ≤ room
   pub refs : AreRefs (length routine.code) routine.refs
+
+-- the room that a routine leaves
+abbrev pub room_behind : ℕ → Code8086 → ℕ
+room_behind room routine = room - length routine.code
 
 abbrev pub AreData : List Datum → Type 0
 AreData data_list = IsLong (length data_list) × FitEach IsDatum data_list
 
 abbrev pub AreCodes : List Code8086 → Type 0
-AreCodes routines = IsLong (length routines) × FitInTurn IsCode (λ before routine. before + length routine.code) 0 routines
+AreCodes routines = IsLong (length routines) × FitInTurn IsCode room_behind 65520 routines
 
 -- an object unit that a file can hold
 pub record IsObjectUnit (object : ObjectUnit) : Type 0 where
   pub globals : AreData object.globals
   pub vmts : AreData object.vmts
   pub routines : AreCodes object.routines
+
+-- one with at least so many globals and routines
+pub record IsObjectFor (globals routines : ℕ) (object : ObjectUnit) : Type 0 where
+  pub object_unit : IsObjectUnit object
+  pub globals_count : globals ≤ length object.globals
+  pub routines_count : routines ≤ length object.routines

@@ -1,13 +1,10 @@
-// A library with one function.
+//! Object units as bytes of a unit file: read from the front of what is left, and written.
 #![tactic(auto)]
 
-ghost use Rattle.std.specs.Prelude.{◌≡◌};
-ghost use Rattle.object_file.specs.Echo.{echo_of};
+mod reading;
+#[cfg(test)]
+mod tests;
+mod writing;
 
-// The `ensures` clause is the contract: what `echo` returns is `echo_of` of its argument, a definition
-// in `specs/Echo.antt`, which a caller's clause can cite too.
-pub fn echo(x: usize) -> usize
-    ensures { result ≡ echo_of x }
-{
-    x
-}
+pub use reading::object_of;
+pub use writing::push_object;
