@@ -1,11 +1,7 @@
 -- What a reader takes from the front is spelled so, and what is spelled so is read again: for parts put together.
-use Rattle.std.proofs.Common.{◌≡◌, ℕ, zero, suc, ◌+◌, ◌<◌, ◌^◌, Bool, true, false, cond, ltb, List, [], ◌∷◌, ◌++◌, length, get_or, take, drop, Result, Ok, Err, refl, sym, ap, subst, ◌∙◌, append_assoc, arith}
-use Rattle.std.specs.Prelude.{IsTrue, nat_lt}
-use Rattle.std.specs.List.{flat_map}
-use Rattle.std.proofs.lemmas.Bool.Decides.{nat_tests}
-use Rattle.std.proofs.lemmas.List.Concat.{flat_map-cons}
-use Rattle.file_parts.specs.Spelling.{long_text, list_text, FitInTurn, IsLong}
-use Rattle.file_parts.specs.Parts.{Reader, ◌>>=◌, ◌▷◌, allowed, ruled, byte_at, long_at, followed, made, tagged, in_turn, list_where}
+use Rattle.std.proofs.Common.{◌≡◌, ℕ, ◌<◌, Bool, true, false, cond, List, ◌++◌, length, get_or, Result, Ok, Err, refl, sym, ap, subst, ◌∙◌, append_assoc}
+use Rattle.std.specs.Prelude.{IsTrue}
+use Rattle.file_parts.specs.Parts.{Reader, ◌>>=◌, ◌▷◌, allowed, ruled, followed, made}
 
 abbrev pub IsBytes : List ℕ → Type 0
 IsBytes bytes = (i : ℕ) → get_or bytes i 0 < 256
@@ -57,12 +53,12 @@ text_as {read = read} {text = text} {F = F} other meets same = record {
 pub ruled_meets : {A : Type 0} {read : Reader A} {text : A → List ℕ} {F : A → Type 0} (rule : A → Bool) → Meets read text F → Meets (ruled rule read) text (λ a. F a × IsTrue (rule a))
 ruled_meets {A = A} {read = read} {text = text} {F = F} rule meets = record {
   takes = λ bytes x fits e.
-    let b = bind_ok (read bytes) (λ x. allowed (length bytes) (rule x.0) x) x e in
-    let g = rule_ok (rule b.0.0) (length bytes) b.0 x b.2 in
-    let t = meets.takes bytes b.0 fits b.1 in
-    subst (λ (y : A × List ℕ). Takes text (λ a. F a × IsTrue (rule a)) bytes y) g.1 (record { parts = t.parts; rest_fits = t.rest_fits; fits = (t.fits, g.0) });
+      let b = bind_ok (read bytes) (λ x. allowed (length bytes) (rule x.0) x) x e in
+      let g = rule_ok (rule b.0.0) (length bytes) b.0 x b.2 in
+      let t = meets.takes bytes b.0 fits b.1 in
+      subst (λ (y : A × List ℕ). Takes text (λ a. F a × IsTrue (rule a)) bytes y) g.1 (record { parts = t.parts; rest_fits = t.rest_fits; fits = (t.fits, g.0) });
   again = λ a rest fits.
-    ap (λ r. r >>= λ x. allowed (length (text a ++ rest)) (rule x.0) x) (meets.again a rest fits.0) ∙ rule_holds (rule a) (length (text a ++ rest)) (a, rest) fits.1;
+      ap (λ r. r >>= λ x. allowed (length (text a ++ rest)) (rule x.0) x) (meets.again a rest fits.0) ∙ rule_holds (rule a) (length (text a ++ rest)) (a, rest) fits.1;
 }
 
 -- one part, and then one that depends on it
@@ -70,20 +66,20 @@ pub followed_meets : {A B : Type 0} {read : Reader A} {more : A → Reader B} {t
     → Meets read text F → ((a : A) → Meets (more a) text_more (G a)) → Meets (followed read more) (λ p. text p.0 ++ text_more p.1) (λ p. F p.0 × G p.0 p.1)
 followed_meets {A = A} {B = B} {read = read} {more = more} {text = text} {text_more = text_more} {F = F} {G = G} first second = record {
   takes = λ bytes x fits e.
-    let a = bind_ok (read bytes) (λ first. more first.0 first.1 >>= λ second. Ok ((first.0, second.0), second.1)) x e in
-    let b = bind_ok (more a.0.0 a.0.1) (λ second. Ok ((a.0.0, second.0), second.1)) x a.2 in
-    let t = first.takes bytes a.0 fits a.1 in
-    let u = (second a.0.0).takes a.0.1 b.0 t.rest_fits b.1 in
-    let both : (A × B) × List ℕ = ((a.0.0, b.0.0), b.0.1) in
-    subst (λ (y : (A × B) × List ℕ). Takes (λ (p : A × B). text p.0 ++ text_more p.1) (λ (p : A × B). F p.0 × G p.0 p.1) bytes y) (ok_is both x b.2) (record {
-      parts = t.parts ∙ ap (λ (rest : List ℕ). text a.0.0 ++ rest) u.parts ∙ sym (append_assoc (text a.0.0) (text_more b.0.0) b.0.1);
-      rest_fits = u.rest_fits;
-      fits = (t.fits, u.fits);
-    });
+      let a = bind_ok (read bytes) (λ first. more first.0 first.1 >>= λ second. Ok ((first.0, second.0), second.1)) x e in
+      let b = bind_ok (more a.0.0 a.0.1) (λ second. Ok ((a.0.0, second.0), second.1)) x a.2 in
+      let t = first.takes bytes a.0 fits a.1 in
+      let u = (second a.0.0).takes a.0.1 b.0 t.rest_fits b.1 in
+      let both : (A × B) × List ℕ = ((a.0.0, b.0.0), b.0.1) in
+      subst (λ (y : (A × B) × List ℕ). Takes (λ (p : A × B). text p.0 ++ text_more p.1) (λ (p : A × B). F p.0 × G p.0 p.1) bytes y) (ok_is both x b.2) (record {
+        parts = t.parts ∙ ap (λ (rest : List ℕ). text a.0.0 ++ rest) u.parts ∙ sym (append_assoc (text a.0.0) (text_more b.0.0) b.0.1);
+        rest_fits = u.rest_fits;
+        fits = (t.fits, u.fits);
+      });
   again = λ p rest fits.
-    ap (followed read more) (append_assoc (text p.0) (text_more p.1) rest)
-    ∙ ap (λ r. r >>= λ first. more first.0 first.1 >>= λ second. Ok ((first.0, second.0), second.1)) (first.again p.0 (text_more p.1 ++ rest) fits.0)
-    ∙ ap (λ r. r >>= λ second. Ok ((p.0, second.0), second.1)) ((second p.0).again p.1 rest fits.1);
+      ap (followed read more) (append_assoc (text p.0) (text_more p.1) rest)
+      ∙ ap (λ r. r >>= λ first. more first.0 first.1 >>= λ second. Ok ((first.0, second.0), second.1)) (first.again p.0 (text_more p.1 ++ rest) fits.0)
+      ∙ ap (λ r. r >>= λ second. Ok ((p.0, second.0), second.1)) ((second p.0).again p.1 rest fits.1);
 }
 
 -- one part, and then another one
@@ -102,21 +98,21 @@ pub made_meets : {A H : Type 0} {read : Reader A} {text : A → List ℕ} {F : A
     → Meets read text F → ((a : A) → F a → (text_made (make a) ≡ text a) × P (make a)) → ((h : H) → P h → MadeOf make F h) → Meets (made make read) text_made P
 made_meets {A = A} {H = H} {read = read} {text = text} {F = F} make text_made P meets to from = record {
   takes = λ bytes x fits e.
-    let a = bind_ok (read bytes) (λ parts. Ok (make parts.0, parts.1)) x e in
-    let t = meets.takes bytes a.0 fits a.1 in
-    let m = to a.0.0 t.fits in
-    let value : H × List ℕ = (make a.0.0, a.0.1) in
-    subst (λ (y : H × List ℕ). Takes text_made P bytes y) (ok_is value x a.2) (record {
-      parts = t.parts ∙ ap (λ (front : List ℕ). front ++ a.0.1) (sym m.0);
-      rest_fits = t.rest_fits;
-      fits = m.1;
-    });
+      let a = bind_ok (read bytes) (λ parts. Ok (make parts.0, parts.1)) x e in
+      let t = meets.takes bytes a.0 fits a.1 in
+      let m = to a.0.0 t.fits in
+      let value : H × List ℕ = (make a.0.0, a.0.1) in
+      subst (λ (y : H × List ℕ). Takes text_made P bytes y) (ok_is value x a.2) (record {
+        parts = t.parts ∙ ap (λ (front : List ℕ). front ++ a.0.1) (sym m.0);
+        rest_fits = t.rest_fits;
+        fits = m.1;
+      });
   again = λ h rest fits.
-    let m = from h fits in
-    let back : text_made h ≡ text m.parts = ap text_made (sym m.is_made) ∙ (to m.parts m.fits).0 in
-    ap (λ (front : List ℕ). made make read (front ++ rest)) back
-    ∙ ap (λ r. r >>= λ parts. Ok (make parts.0, parts.1)) (meets.again m.parts rest m.fits)
-    ∙ ap (λ (value : H). Ok (value, rest)) m.is_made;
+      let m = from h fits in
+      let back : text_made h ≡ text m.parts = ap text_made (sym m.is_made) ∙ (to m.parts m.fits).0 in
+      ap (λ (front : List ℕ). made make read (front ++ rest)) back
+      ∙ ap (λ r. r >>= λ parts. Ok (make parts.0, parts.1)) (meets.again m.parts rest m.fits)
+      ∙ ap (λ (value : H). Ok (value, rest)) m.is_made;
 }
 
 -- a value that is its parts
@@ -127,5 +123,9 @@ record_meets {A = A} {text = text} {F = F} make parts back there meets =
     (λ a fits. (ap text (there a), subst F (sym (there a)) fits))
     (λ h fits. record { parts = parts h; is_made = back h; fits = fits })
 
-below_is : (tag bound : ℕ) → tag < bound → IsTrue (nat_lt tag bound)
-below_is tag bound less = grind (arith, nat_tests, less)
+-- Values that fit have one text each, and none begins another.
+pub spelled_once : {A : Type 0} {read : Reader A} {text : A → List ℕ} {F : A → Type 0} → Meets read text F → (a b : A) (x y : List ℕ) → F a → F b → text a ++ x ≡ text b ++ y → a ≡ b
+spelled_once {A = A} {read = read} meets a b x y fits fits_too same =
+    let one : A × List ℕ = (a, x) in
+    let other : A × List ℕ = (b, y) in
+    ap (λ (p : A × List ℕ). p.0) (ok_is one other (sym (meets.again a x fits) ∙ ap read same ∙ meets.again b y fits_too))

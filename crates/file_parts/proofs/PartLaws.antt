@@ -1,18 +1,16 @@
 -- The parts of a file one by one: what is read of each is spelled so, and what is spelled so is read.
-use Rattle.std.proofs.Common.{◌≡◌, ℕ, zero, suc, ◌+◌, ◌-◌, ◌<◌, ◌≤◌, ◌^◌, Bool, true, false, cond, ltb, List, [], ◌∷◌, ◌++◌, length, get_or, take, drop, Option, Some, None, Result, Ok, Err, refl, sym, ap, subst, ◌∙◌, append_assoc, arith, inl, inr}
-use Rattle.std.specs.Prelude.{ℤ, IsTrue, IfSome, nat_lt, nat_le, not, ◌&&◌, ◌==◌}
-use Rattle.std.specs.Int.{w16, w32, to_le_bytes, from_le_bytes, cast_signed, cast_unsigned}
-use Rattle.std.specs.List.{flat_map, list_all}
-use Rattle.std.proofs.lemmas.Bool.{cases_lt, ltb-false, le-ltb, eqb-true}
+use Rattle.std.proofs.Common.{◌≡◌, ℕ, zero, suc, ◌+◌, ◌<◌, ◌≤◌, ◌^◌, Bool, true, false, cond, ltb, List, [], ◌∷◌, ◌++◌, length, take, drop, Ok, Err, refl, sym, ap, subst, ◌∙◌, append_assoc, arith, inl, inr}
+use Rattle.std.specs.Prelude.{IsTrue, nat_lt}
+use Rattle.std.specs.Int.{w16, w32, from_le_bytes}
+use Rattle.std.specs.List.{flat_map}
+use Rattle.std.proofs.lemmas.Bool.{cases_lt, ltb-false, le-ltb}
 use Rattle.std.proofs.lemmas.Bool.Decides.{nat_tests}
-use Rattle.std.proofs.lemmas.Int.{to_z-of_z, of_z-to_z}
-use Rattle.std.proofs.lemmas.List.{take_at, drop_at, take-append-drop, length-append, length-take, get_or-drop, get_or-take, get_or_past, append-nil}
+use Rattle.std.proofs.lemmas.List.{take_at, drop_at, take-append-drop, length-append, length-take, get_or-drop, get_or-take, get_or_past}
 use Rattle.std.proofs.lemmas.List.Concat.{flat_map-cons}
 use Rattle.std.proofs.lemmas.Nat.{le_bytes_2, le_bytes_4, from_le_bytes-to_le_bytes_2, from_le_bytes-to_le_bytes_4}
-use Rattle.type_layout.specs.Words.{is_name_byte, is_digit, is_upper, has_name_length, is_name, IsName}
-use Rattle.file_parts.specs.Spelling.{word_text, long_text, signed_text, truth_text, name_text, option_text, bytes_text, list_text, FitInTurn, IsLong, IsLongOption}
-use Rattle.file_parts.specs.Parts.{Reader, ◌>>=◌, allowed, ruled, any, byte_at, word_at, long_at, signed_at, truth_at, option_of, option_at, some_bytes, bytes_where, tagged, in_turn, list_where, is_name_length, stands_in_name, name_bytes, name_at}
-use Rattle.file_parts.proofs.Laws.{IsBytes, Takes, Meets, done, ok_is, bind_ok, rule_ok, rule_holds, fits_as, ruled_meets, followed_meets}
+use Rattle.file_parts.specs.Spelling.{word_text, long_text, bytes_text, list_text, FitInTurn, IsLong}
+use Rattle.file_parts.specs.Parts.{Reader, ◌>>=◌, ruled, byte_at, word_at, long_at, some_bytes, bytes_where, tagged, in_turn, list_where}
+use Rattle.file_parts.proofs.Laws.{IsBytes, Takes, Meets, ok_is, bind_ok, fits_as, ruled_meets}
 
 IsBytes-drop : (n : ℕ) (bytes : List ℕ) → IsBytes bytes → IsBytes (drop n bytes)
 IsBytes-drop n bytes h i = rw get_or-drop (h (n + i))
@@ -138,19 +136,19 @@ pub counted : {B : Type 0} {head : Reader ℕ} {head_text : ℕ → List ℕ} {H
     → Meets (λ bytes. head bytes >>= λ count. read count.0 count.1) (λ b. head_text (size b) ++ text b) (λ b. H (size b) × F b)
 counted {B = B} {head = head} {head_text = head_text} {H = H} read text size F front meets = record {
   takes = λ bytes x fits e.
-    let a = bind_ok (head bytes) (λ count. read count.0 count.1) x e in
-    let t = front.takes bytes a.0 fits a.1 in
-    let u = (meets a.0.0).takes a.0.1 x t.rest_fits a.2 in
-    let counts : size x.0 ≡ a.0.0 = u.fits.0 in
-    record {
-      parts = t.parts ∙ ap (λ (rest : List ℕ). head_text a.0.0 ++ rest) u.parts ∙ sym (append_assoc (head_text a.0.0) (text x.0) x.1) ∙ ap (λ (n : ℕ). (head_text n ++ text x.0) ++ x.1) (sym counts);
-      rest_fits = u.rest_fits;
-      fits = (subst H (sym counts) t.fits, u.fits.1);
-    };
+      let a = bind_ok (head bytes) (λ count. read count.0 count.1) x e in
+      let t = front.takes bytes a.0 fits a.1 in
+      let u = (meets a.0.0).takes a.0.1 x t.rest_fits a.2 in
+      let counts : size x.0 ≡ a.0.0 = u.fits.0 in
+      record {
+        parts = t.parts ∙ ap (λ (rest : List ℕ). head_text a.0.0 ++ rest) u.parts ∙ sym (append_assoc (head_text a.0.0) (text x.0) x.1) ∙ ap (λ (n : ℕ). (head_text n ++ text x.0) ++ x.1) (sym counts);
+        rest_fits = u.rest_fits;
+        fits = (subst H (sym counts) t.fits, u.fits.1);
+      };
   again = λ b rest fits.
-    ap (λ bytes. head bytes >>= λ count. read count.0 count.1) (append_assoc (head_text (size b)) (text b) rest)
-    ∙ ap (λ r. r >>= λ count. read count.0 count.1) (front.again (size b) (text b ++ rest) fits.0)
-    ∙ (meets (size b)).again b rest (refl, fits.1);
+      ap (λ bytes. head bytes >>= λ count. read count.0 count.1) (append_assoc (head_text (size b)) (text b) rest)
+      ∙ ap (λ r. r >>= λ count. read count.0 count.1) (front.again (size b) (text b ++ rest) fits.0)
+      ∙ (meets (size b)).again b rest (refl, fits.1);
 }
 
 pub list_meets : {S A : Type 0} {read : S → Reader A} {text : A → List ℕ} {F : S → A → Type 0} (rule : ℕ → Bool) (next : S → A → S) (s : S) → ((s : S) → Meets (read s) text (F s))
@@ -163,17 +161,17 @@ some_bytes_meets : (count : ℕ) → Meets (some_bytes count) (λ bytes. bytes) 
 unfolding some_bytes
 some_bytes_meets count = record {
   takes = λ bytes x fits e.
-    let read : List ℕ × List ℕ = (take count bytes, drop count bytes) in
-    let g = guard_ok (ltb (length bytes) count) 0 read x e in
-    let enough : count ≤ length bytes = ltb-false _ _ g.0 in
-    subst (λ (y : List ℕ × List ℕ). Takes (λ bytes. bytes) (λ bytes. (length bytes ≡ count) × Unit {0}) bytes y) g.1 (record {
-      parts = sym (take-append-drop count bytes);
-      rest_fits = IsBytes-drop count bytes fits;
-      fits = (omega (arith, length-take count bytes), tt);
-    });
+      let read : List ℕ × List ℕ = (take count bytes, drop count bytes) in
+      let g = guard_ok (ltb (length bytes) count) 0 read x e in
+      let enough : count ≤ length bytes = ltb-false _ _ g.0 in
+      subst (λ (y : List ℕ × List ℕ). Takes (λ bytes. bytes) (λ bytes. (length bytes ≡ count) × Unit {0}) bytes y) g.1 (record {
+        parts = sym (take-append-drop count bytes);
+        rest_fits = IsBytes-drop count bytes fits;
+        fits = (omega (arith, length-take count bytes), tt);
+      });
   again = λ bytes rest fits.
-    let enough : ltb (length (bytes ++ rest)) count ≡ false = le-ltb _ _ (omega (arith, length-append bytes rest, fits.0)) in
-    rw (enough, take_at bytes rest count fits.0, drop_at bytes rest count fits.0) refl;
+      let enough : ltb (length (bytes ++ rest)) count ≡ false = le-ltb _ _ (omega (arith, length-append bytes rest, fits.0)) in
+      rw (enough, take_at bytes rest count fits.0, drop_at bytes rest count fits.0) refl;
 }
 
 pub bytes_meets : (rule : ℕ → Bool) → Meets (bytes_where rule) bytes_text (λ bytes. IsLong (length bytes) × IsTrue (rule (length bytes)))
@@ -185,20 +183,20 @@ pub tagged_meets : {H : Type 0} {body : ℕ → Reader H} {text : H → List ℕ
     → Meets (tagged bound body) (λ h. tag_of h ∷ text h) F
 tagged_meets {H = H} {body = body} {text = text} {F = F} bound tag_of few below meets = record {
   takes = λ bytes x fits e.
-    let head = ruled_meets (λ (tag : ℕ). nat_lt tag bound) byte_meets in
-    let a = bind_ok (ruled (λ tag. nat_lt tag bound) byte_at bytes) (λ tag. body tag.0 tag.1) x e in
-    let t = head.takes bytes a.0 fits a.1 in
-    let u = (meets a.0.0).takes a.0.1 x t.rest_fits a.2 in
-    record {
-      parts = t.parts ∙ ap (λ (rest : List ℕ). a.0.0 ∷ rest) u.parts ∙ ap (λ (tag : ℕ). tag ∷ (text x.0 ++ x.1)) (sym u.fits.0);
-      rest_fits = u.rest_fits;
-      fits = u.fits.1;
-    };
+      let head = ruled_meets (λ (tag : ℕ). nat_lt tag bound) byte_meets in
+      let a = bind_ok (ruled (λ tag. nat_lt tag bound) byte_at bytes) (λ tag. body tag.0 tag.1) x e in
+      let t = head.takes bytes a.0 fits a.1 in
+      let u = (meets a.0.0).takes a.0.1 x t.rest_fits a.2 in
+      record {
+        parts = t.parts ∙ ap (λ (rest : List ℕ). a.0.0 ∷ rest) u.parts ∙ ap (λ (tag : ℕ). tag ∷ (text x.0 ++ x.1)) (sym u.fits.0);
+        rest_fits = u.rest_fits;
+        fits = u.fits.1;
+      };
   again = λ h rest fits.
-    let head = ruled_meets (λ (tag : ℕ). nat_lt tag bound) byte_meets in
-    let less = below h in
-    let allowed_tag : IsTrue (nat_lt (tag_of h) bound) = grind (arith, nat_tests, less) in
-    let is_byte : tag_of h < 256 = omega (arith, less, few) in
-    ap (λ r. r >>= λ tag. body tag.0 tag.1) (head.again (tag_of h) (text h ++ rest) (is_byte, allowed_tag))
-    ∙ (meets (tag_of h)).again h rest (refl, fits);
+      let head = ruled_meets (λ (tag : ℕ). nat_lt tag bound) byte_meets in
+      let less = below h in
+      let allowed_tag : IsTrue (nat_lt (tag_of h) bound) = grind (arith, nat_tests, less) in
+      let is_byte : tag_of h < 256 = omega (arith, less, few) in
+      ap (λ r. r >>= λ tag. body tag.0 tag.1) (head.again (tag_of h) (text h ++ rest) (is_byte, allowed_tag))
+      ∙ (meets (tag_of h)).again h rest (refl, fits);
 }

@@ -1,6 +1,6 @@
 -- Signed numbers, truth values, numbers that may be absent, and names: what is read is spelled so, and again.
-use Rattle.std.proofs.Common.{◌≡◌, ℕ, zero, suc, ◌+◌, ◌<◌, ◌≤◌, ◌^◌, Bool, true, false, List, [], ◌∷◌, ◌++◌, length, Option, Some, None, Result, Ok, Err, refl, sym, ap, subst, ◌∙◌, arith, Fits}
-use Rattle.std.specs.Prelude.{ℤ, IsTrue, IfSome, nat_lt, nat_le, not, ◌&&◌, ◌==◌}
+use Rattle.std.proofs.Common.{◌≡◌, ℕ, zero, suc, ◌+◌, ◌<◌, ◌≤◌, Bool, true, false, List, [], ◌∷◌, length, Option, Some, None, Ok, refl, sym, ap, subst, ◌∙◌, arith, Fits}
+use Rattle.std.specs.Prelude.{IsTrue, nat_lt, nat_le, not, ◌&&◌, ◌==◌}
 use Rattle.std.specs.Int.{w32, cast_signed, cast_unsigned}
 use Rattle.std.specs.List.{flat_map, list_all}
 use Rattle.std.proofs.Math.Facts.{sfits_to_z, Fits-of_z}
@@ -9,7 +9,7 @@ use Rattle.std.proofs.lemmas.Int.{to_z-of_z, of_z-to_z}
 use Rattle.std.proofs.lemmas.List.Concat.{flat_map-cons}
 use Rattle.type_layout.specs.Words.{is_name_byte, is_digit, IsName}
 use Rattle.file_parts.specs.Spelling.{long_text, signed_text, truth_text, name_text, option_text, FitInTurn, IsLong, IsSigned, IsLongOption}
-use Rattle.file_parts.specs.Parts.{ruled, byte_at, long_at, signed_at, truth_at, option_of, option_at, is_name_length, stands_in_name, name_bytes, name_at}
+use Rattle.file_parts.specs.Parts.{ruled, byte_at, signed_at, truth_at, option_of, option_at, is_name_length, stands_in_name, name_bytes, name_at}
 use Rattle.file_parts.proofs.Laws.{IsBytes, Meets, fits_as, text_as, ruled_meets, MadeOf, made_meets}
 use Rattle.file_parts.proofs.PartLaws.{byte_text, IsByte, byte_meets, long_meets, in_turn_meets, counted}
 

@@ -8,7 +8,8 @@ mod writing;
 
 pub use error::PartError;
 pub use reading::{
-    byte_of, bytes_of, damaged, long_of, name_of, option_of, signed_of, some_bytes, truth_of, word_of,
+    byte_of, bytes_of, damaged, long_of, name_of, option_of, signed_of, some_bytes, truth_of,
+    word_of,
 };
 pub use writing::{
     push_bytes, push_count, push_long, push_name, push_option, push_signed, push_truth, push_word,

@@ -9,10 +9,10 @@ use Rattle.object_unit.specs.Widths.{width_of}
 use Rattle.file_parts.specs.declared.error.PartError.{PartError}
 use Rattle.file_parts.specs.Spelling.{list_text, IsLong}
 use Rattle.file_parts.specs.Parts.{any, Gives}
-use Rattle.file_parts.proofs.Laws.{IsBytes, Meets, MadeOf, fits_as, ruled_meets, followed_meets, then_meets, made_meets, record_meets}
+use Rattle.file_parts.proofs.Laws.{IsBytes, Meets, MadeOf, fits_as, ruled_meets, followed_meets, then_meets, made_meets, record_meets, spelled_once}
 use Rattle.file_parts.proofs.PartLaws.{byte_text, IsByte, byte_meets, long_meets, bytes_meets, list_meets}
 use Rattle.file_parts.proofs.ValueLaws.{both, and, truth_meets, name_meets}
-use Rattle.object_file.specs.Text.{kind_number, ref_text, datum_text, code_text, object_text, ref_end, room_behind, IsRef, AreRefs, IsDatum, IsCode, AreData, AreCodes, IsObjectFor}
+use Rattle.object_file.specs.Text.{kind_number, ref_text, datum_text, code_text, object_text, ref_end, room_behind, IsRef, AreRefs, IsDatum, IsCode, AreData, AreCodes, IsObjectUnit, IsObjectFor}
 use Rattle.object_file.specs.Reading.{kind_of, kind_at, ref_of, ref_at, refs_at, datum_of, is_first_count, datum_at, code_of, is_code_count, code_at, data_at, codes_at, object_of, object_at}
 
 kind_made : (number : ℕ) → IsByte number × IsTrue (nat_lt number 6) → (kind_number (kind_of number) ∷ [] ≡ byte_text number) × Unit {0}
@@ -41,7 +41,7 @@ unfolding ref_at ref_text
 ref_meets size least =
     fits_as (IsRef size least)
     (record_meets ref_of (λ one. (one.offset, (one.kind, (one.unit, one.number)))) (λ one. refl) (λ parts. refl)
-      (followed_meets (ruled_meets (λ (offset : ℕ). nat_le least offset) long_meets) (λ offset. then_meets (ruled_meets (λ (kind : RefKind). nat_le (offset + width_of kind) size) kind_meets) (then_meets name_meets long_meets))))
+    (followed_meets (ruled_meets (λ (offset : ℕ). nat_le least offset) long_meets) (λ offset. then_meets (ruled_meets (λ (kind : RefKind). nat_le (offset + width_of kind) size) kind_meets) (then_meets name_meets long_meets))))
     (λ one fits. record { behind = grind (arith, nat_tests, fits.0.1); inside = grind (arith, nat_tests, fits.1.0.1); unit = fits.1.1.0; offset = fits.0.0; number = fits.1.1.1 })
     (λ one fits. ((fits.offset, grind (arith, nat_tests, fits.behind)), ((tt, grind (arith, nat_tests, fits.inside)), (fits.unit, fits.number))))
 
@@ -57,7 +57,7 @@ unfolding datum_at datum_text
 datum_meets =
     fits_as IsDatum
     (record_meets datum_of (λ datum. (datum.size, (datum.first, datum.refs))) (λ datum. refl) (λ parts. refl)
-      (followed_meets long_meets (λ size. followed_meets (bytes_meets (is_first_count size)) (λ first. refs_meets (length first)))))
+    (followed_meets long_meets (λ size. followed_meets (bytes_meets (is_first_count size)) (λ first. refs_meets (length first)))))
     (λ datum fits. record { size = fits.0; first = fits.1.0.1; refs = fits.1.1 })
     (λ datum fits. (fits.size, ((first_is_long datum.size (length datum.first) fits.size fits.first, fits.first), fits.refs)))
 
@@ -66,14 +66,14 @@ unfolding code_at code_text
 code_meets room =
     fits_as (IsCode room)
     (record_meets code_of (λ routine. (routine.name, (routine.far, (routine.frame, (routine.code, routine.refs))))) (λ routine. refl) (λ parts. refl)
-      (then_meets name_meets (then_meets truth_meets (then_meets long_meets (followed_meets (bytes_meets (is_code_count room)) (λ code. refs_meets (length code)))))))
+    (then_meets name_meets (then_meets truth_meets (then_meets long_meets (followed_meets (bytes_meets (is_code_count room)) (λ code. refs_meets (length code)))))))
     (λ routine fits.
-      let sizes = both (nat_le 6 (length routine.code)) (nat_le (length routine.code) room) fits.1.1.1.0.1 in
-      record { name = fits.0; frame = fits.1.1.0; count = fits.1.1.1.0.0; some = grind (arith, nat_tests, sizes.0); few = grind (arith, nat_tests, sizes.1); refs = fits.1.1.1.1 })
+    let sizes = both (nat_le 6 (length routine.code)) (nat_le (length routine.code) room) fits.1.1.1.0.1 in
+    record { name = fits.0; frame = fits.1.1.0; count = fits.1.1.1.0.0; some = grind (arith, nat_tests, sizes.0); few = grind (arith, nat_tests, sizes.1); refs = fits.1.1.1.1 })
     (λ routine fits.
-      let some : IsTrue (nat_le 6 (length routine.code)) = grind (arith, nat_tests, fits.some) in
-      let few : IsTrue (nat_le (length routine.code) room) = grind (arith, nat_tests, fits.few) in
-      (fits.name, (tt, (fits.frame, ((fits.count, and (nat_le 6 (length routine.code)) (nat_le (length routine.code) room) some few), fits.refs)))))
+    let some : IsTrue (nat_le 6 (length routine.code)) = grind (arith, nat_tests, fits.some) in
+    let few : IsTrue (nat_le (length routine.code) room) = grind (arith, nat_tests, fits.few) in
+    (fits.name, (tt, (fits.frame, ((fits.count, and (nat_le 6 (length routine.code)) (nat_le (length routine.code) room) some few), fits.refs)))))
 
 data_meets : (least : ℕ) → Meets (data_at least) (list_text datum_text) (λ data_list. AreData data_list × IsTrue (nat_le least (length data_list)))
 unfolding data_at
@@ -92,16 +92,22 @@ unfolding object_at object_text
 object_meets globals routines =
     fits_as (IsObjectFor globals routines)
     (record_meets object_of (λ object. (object.globals, (object.vmts, object.routines))) (λ object. refl) (λ parts. refl)
-      (then_meets (data_meets globals) (then_meets (data_meets 0) (codes_meets routines))))
+    (then_meets (data_meets globals) (then_meets (data_meets 0) (codes_meets routines))))
     (λ object fits. record { object_unit = record { globals = fits.0.0; vmts = fits.1.0.0; routines = fits.1.1.0 }; globals_count = grind (arith, nat_tests, fits.0.1); routines_count = grind (arith, nat_tests, fits.1.1.1) })
     (λ object fits.
-      let enough : IsTrue (nat_le globals (length object.globals)) = grind (arith, nat_tests, fits.globals_count) in
-      let enough_too : IsTrue (nat_le routines (length object.routines)) = grind (arith, nat_tests, fits.routines_count) in
-      let none : IsTrue (nat_le 0 (length object.vmts)) = grind (arith, nat_tests) in
-      ((fits.object_unit.globals, enough), ((fits.object_unit.vmts, none), (fits.object_unit.routines, enough_too))))
+    let enough : IsTrue (nat_le globals (length object.globals)) = grind (arith, nat_tests, fits.globals_count) in
+    let enough_too : IsTrue (nat_le routines (length object.routines)) = grind (arith, nat_tests, fits.routines_count) in
+    let none : IsTrue (nat_le 0 (length object.vmts)) = grind (arith, nat_tests) in
+    ((fits.object_unit.globals, enough), ((fits.object_unit.vmts, none), (fits.object_unit.routines, enough_too))))
 
 -- what a function read
 pub object-found : (globals routines : ℕ) (bytes : List ℕ) (r : Result (ObjectUnit × Bor (List ℕ)) PartError) → IsBytes bytes → Gives (λ (x : ObjectUnit × Bor (List ℕ)). (x.0, x.1.now)) r (object_at globals routines bytes)
     → IfOk r (λ x. IsObjectFor globals routines x.0 × (bytes ≡ object_text x.0 ++ x.1.now))
 object-found globals routines bytes (Ok x) fits given = let t = (object_meets globals routines).takes bytes (x.0, x.1.now) fits given in (t.fits, t.parts)
 object-found globals routines bytes (Err e) fits given = tt
+
+as_asked : (object : ObjectUnit) → IsObjectUnit object → IsObjectFor 0 0 object
+as_asked object fits = record { object_unit = fits; globals_count = omega arith; routines_count = omega arith }
+
+pub one_spelling-law : (object other : ObjectUnit) (x y : List ℕ) → IsObjectUnit object → IsObjectUnit other → object_text object ++ x ≡ object_text other ++ y → object ≡ other
+one_spelling-law object other x y fits fits_too same = spelled_once (object_meets 0 0) object other x y (as_asked object fits) (as_asked other fits_too) same

@@ -252,7 +252,12 @@ fn codes_of(alloc: Global, least: u32, bytes: &[u8]) -> Result<(Codes, &[u8]), P
 }
 
 #[tactic(auto, unfolding(crate::specs::Reading::object_at))]
-fn object(alloc: Global, globals: u32, routines: u32, bytes: &[u8]) -> Result<(ObjectUnit, &[u8]), PartError>
+fn object(
+    alloc: Global,
+    globals: u32,
+    routines: u32,
+    bytes: &[u8],
+) -> Result<(ObjectUnit, &[u8]), PartError>
     ensures { Gives (λ x. (x.0, x.1.now)) result (object_at globals routines bytes.now) }
 {
     let (globals, rest) = data_of(alloc, globals, bytes)?;
@@ -268,7 +273,12 @@ fn object(alloc: Global, globals: u32, routines: u32, bytes: &[u8]) -> Result<(O
 
 /// The object unit that the bytes begin with, which has at least so many globals and routines, and the bytes behind it.
 /// `Damaged` comes exactly where they begin with none, at the first part that breaks a rule given the parts before it.
-pub fn object_of(alloc: Global, globals: u32, routines: u32, bytes: &[u8]) -> Result<(ObjectUnit, &[u8]), PartError>
+pub fn object_of(
+    alloc: Global,
+    globals: u32,
+    routines: u32,
+    bytes: &[u8],
+) -> Result<(ObjectUnit, &[u8]), PartError>
     // What is read is spelled so.
     ensures found { IfOk result (λ x. IsObjectFor globals routines x.0 × (bytes.now ≡ object_text x.0 ++ x.1.now)) }
     // What is spelled so is read, unless memory runs out.

@@ -36,7 +36,10 @@ fn read_and_written_again(rt: HostRuntime) -> Result<(), Fail> {
     assert_eq!(rt; object.vmts.len(), 1);
     for routine in object.routines.as_slice() {
         assert_eq!(rt; routine.name.as_bytes(), b"B".as_slice());
-        assert_eq!(rt; (routine.far, routine.frame, routine.code.len()), (true, 6, 6));
+        assert_eq!(rt;
+            (routine.far, routine.frame, routine.code.len()),
+            (true, 6, 6)
+        );
     }
     let mut bytes = Bytes::new(rt.alloc());
     push_object(&mut bytes, &object)?;

@@ -1,4 +1,4 @@
-use Rattle.std.proofs.Common.{◌≡◌, ℕ, ◌+◌, ◌-◌, List, [], ◌∷◌, ◌++◌, Result, sym, subst, arith}
+use Rattle.std.proofs.Common.{◌≡◌, ℕ, ◌+◌, ◌-◌, List, sym, subst, arith}
 use Rattle.std.proofs.lemmas.Result.{err_from_is_err_and}
 use Rattle.file_parts.specs.Parts.{Reader, ruled, byte_at, in_turn, stands_in_name, name_bytes}
 use Rattle.file_parts.proofs.LoopLaws.{with_front, loop-next, loop-stop, loop-end}
