@@ -1,0 +1,4 @@
+pub mod Laws
+pub mod PartLaws
+pub mod ValueLaws
+pub mod LoopLaws

@@ -1,0 +1,12 @@
+//! Object units as bytes of a unit file: read from the front of what is left, and written.
+#![tactic(auto)]
+
+mod laws;
+mod reading;
+#[cfg(test)]
+mod tests;
+mod writing;
+
+pub use laws::one_spelling;
+pub use reading::object_of;
+pub use writing::push_object;
