@@ -1,0 +1,13 @@
+//! Opening a program: its executable file and its overlay file are read and compared, and the machine and the overlay manager
+//! made with which its run begins.
+#![tactic(auto)]
+
+mod error;
+mod matching;
+mod opening;
+mod stubs;
+#[cfg(test)]
+mod tests;
+
+pub use error::OpenError;
+pub use opening::{Opened, open_program};
