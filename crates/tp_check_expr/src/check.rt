@@ -1,0 +1,53 @@
+//! The checker of expressions.
+
+ghost use Rattle.std.specs.Prelude.{◌≡◌, IfOk, IfErr};
+ghost use Rattle.typed_tree.specs.Expressions.{Expression as TypedExpression, view_expr};
+ghost use Rattle.typing_rules.specs.Faults.{Tells};
+ghost use Rattle.tp_check_expr.specs.Trees.{view_expression};
+ghost use Rattle.tp_check_expr.specs.Typed.{IsTypedAs, FailsAt};
+ghost use Rattle.tp_check_expr.specs.Laws.{AreExact, IsAnswered, error_for, answer_of};
+
+use crate::expressions::judged_expression;
+use scopes::Scope;
+use std::alloc::Global;
+use syntax_tree::Expression;
+use typed_tree::Expr;
+use typing_rules::{CheckError, Refusal, error_of};
+
+fn error_for(refusal: Refusal) -> CheckError
+    ensures { result ≡ error_for refusal }
+{
+    match refusal {
+        Refusal::NoMemory => CheckError::NoMemory,
+        Refusal::Because(fault) => error_of(fault),
+    }
+}
+
+// What users are told.
+fn answered(found: Result<Expr, Refusal>) -> Result<Expr, CheckError>
+    ensures { result ≡ answer_of found }
+{
+    match found {
+        Ok(expr) => Ok(expr),
+        Err(refusal) => Err(error_for(refusal)),
+    }
+}
+
+/// The typed node of an expression. An error names a rule that fails, or what is left out, and the place. The scope stays as
+/// it is.
+pub fn check_expr(alloc: Global, tree: &Expression, scope: &mut Scope) -> Result<Expr, CheckError>
+    // Every rule holds in the expression, and this is its node.
+    ensures typed { IfOk result (λ e. IsTypedAs scope.old (view_expression tree.now) (view_expr e)) }
+    // An expression with a node is given it, but for want of memory.
+    ensures complete { (e : TypedExpression) → IsTypedAs scope.old (view_expression tree.now) e → IsAnswered e result }
+    // What is told of fails there.
+    ensures fails { IfErr result (λ error. Tells (FailsAt scope.old (view_expression tree.now)) error) }
+    ensures unchanged { scope.new ≡ scope.old }
+{
+    answered(judged_expression(alloc, tree, scope))
+}
+
+/// An expression has a typed node exactly where no rule fails in it, and then one alone.
+pub fn expression_laws()
+    ensures { AreExact }
+{}
