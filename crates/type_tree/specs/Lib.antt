@@ -1,0 +1,4 @@
+pub mod Parameters
+pub mod Regrouped
+pub mod Types
+pub mod Initializers
