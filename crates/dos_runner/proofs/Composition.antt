@@ -62,11 +62,11 @@ told_both : (end : Option RunEnd) (xs ys : List ℕ) (a b c : Option (List ℕ))
 told_both (Some ends.ErrorsFault) xs ys a b c first second = prefix_behind xs ys a b c first second
 told_both end xs ys a b c first second = took_both xs ys a b c first second
 
-risen_later : (a b c : ℕ) → a ≤ b → HasRisen b c → HasRisen a c
+pub risen_later : (a b c : ℕ) → a ≤ b → HasRisen b c → HasRisen a c
 risen_later a b c below (inl h) = inl (omega arith)
 risen_later a b c below (inr h) = inr h
 
-rose_later : (end : Option RunEnd) (o o1 o2 : Outside) → Counts o o1 → Rose end o1 o2 → Rose end o o2
+pub rose_later : (end : Option RunEnd) (o o1 o2 : Outside) → Counts o o1 → Rose end o1 o2 → Rose end o o2
 rose_later (Some ends.InputFault) o o1 o2 counts rose = risen_later o.input_faults o1.input_faults o2.input_faults counts.input rose
 rose_later (Some ends.OutputFault) o o1 o2 counts rose = risen_later o.output_faults o1.output_faults o2.output_faults counts.output rose
 rose_later (Some ends.ErrorsFault) o o1 o2 counts rose = risen_later o.errors_faults o1.errors_faults o2.errors_faults counts.errors rose
@@ -88,9 +88,13 @@ ends_at input p q =
     let n : 0 + length p.gained + length q.gained ≡ 0 + length (p.gained ++ q.gained) = omega (arith, length-append p.gained q.gained) in
     ap f n
 
--- a run, and the event behind it
-run_event : (events : ℕ) (start now : State) (over over' : Bool) (p q : Progress) → IsRun events start over p → p.machine ≡ now → p.status ≡ Running → (over ≡ true → (q.gained ≡ []) × (over' ≡ true)) → IsEvent now over' q → IsRun (events + 1) start over' (behind p q)
-run_event events start now over over' p q before stands runs stays event input is_input =
+-- A part of a run and the event behind it, where runs of that kind are composed so.
+pub run_behind : (Before One Whole : Process → Process → Type 0) → ((a b c : Process) → Before a b → One b c → Whole a c) → (start now : State) (over over' : Bool) (p q : Progress)
+    → ((input : List ℕ) → IsInput p.gained over input → Before (process_of start input) (advanced input 0 [] [] p)) → p.machine ≡ now → p.status ≡ Running
+    → (over ≡ true → (q.gained ≡ []) × (over' ≡ true))
+    → ((input : List ℕ) (taken : ℕ) (out err : List ℕ) → IsInput q.gained over' (drop taken input) → One (running now input taken out err) (advanced input taken out err q))
+    → (input : List ℕ) → IsInput (p.gained ++ q.gained) over' input → Whole (process_of start input) (advanced input 0 [] [] (behind p q))
+run_behind Before One Whole compose start now over over' p q before stands runs stays event input is_input =
     let rest : List ℕ = is_input.rest in
     let parts : input ≡ p.gained ++ (q.gained ++ rest) = is_input.parts ∙ append_assoc p.gained q.gained rest in
     let first : IsInput p.gained over input = record { rest = q.gained ++ rest; parts = parts; ended = λ e. ap (λ xs. xs ++ rest) (stays e).0 ∙ is_input.ended (stays e).1 } in
@@ -101,11 +105,16 @@ run_event events start now over over' p q before stands runs stays event input i
     let a : Process = process_of start input in
     let b : Process = advanced input 0 [] [] p in
     let c : Process = advanced input place p.out p.err q in
-    let one : Runs events a b = before input first in
-    let G : Process → Type 0 = λ x. Goes x c in
-    let two : Goes b c = subst G (sym (stands_at input now p stands runs)) (event input place p.out p.err second) in
-    let R : Process → Type 0 = λ x. Runs (events + 1) a x in
-    subst R (ends_at input p q) (runs_compose events 1 a b c one (runs_one b c two))
+    let one : Before a b = before input first in
+    let G : Process → Type 0 = λ x. One x c in
+    let two : One b c = subst G (sym (stands_at input now p stands runs)) (event input place p.out p.err second) in
+    let R : Process → Type 0 = λ x. Whole a x in
+    subst R (ends_at input p q) (compose a b c one two)
+
+-- a run, and the event behind it
+run_event : (events : ℕ) (start now : State) (over over' : Bool) (p q : Progress) → IsRun events start over p → p.machine ≡ now → p.status ≡ Running → (over ≡ true → (q.gained ≡ []) × (over' ≡ true)) → IsEvent now over' q → IsRun (events + 1) start over' (behind p q)
+run_event events start now over over' p q before stands runs stays event =
+    run_behind (Runs events) Goes (Runs (events + 1)) (λ a b c one two. runs_compose events 1 a b c one (runs_one b c two)) start now over over' p q before stands runs stays event
 
 -- nothing has run yet
 pub started : (start : State) (o : Outside) → Progresses (IsRun 0 start false) None start false false o o
@@ -119,20 +128,29 @@ started start o = record {
   rose = tt;
 }
 
--- the part of the run so far, and the event
-further : (end : Option RunEnd) (events : ℕ) (start now new : State) (over over' : Bool) (o o1 o2 : Outside) → Counts o o1 → Progresses (IsRun events start over) None now false over o o1 → (event : Progresses (IsEvent now over') end new over over' o1 o2) → Gave event.progress.gained over over' o1.input o2.input → Progresses (IsRun (events + 1) start over') end new false over' o o2
-further end events start now new over over' o o1 o2 counts before event gave =
+-- a part of a run and the event behind it, joined to what both do
+pub joined : (Before One Both : Progress → Type 0) (end : Option RunEnd) (now new : State) (over0 over over' : Bool) (o o1 o2 : Outside) → Counts o o1 → Progresses Before None now over0 over o o1
+    → (event : Progresses One end new over over' o1 o2) → Gave event.progress.gained over over' o1.input o2.input
+    → ((p q : Progress) → Before p → p.machine ≡ now → p.status ≡ Running → (over ≡ true → (q.gained ≡ []) × (over' ≡ true)) → One q → Both (behind p q))
+    → Progresses Both end new over0 over' o o2
+joined Before One Both end now new over0 over over' o o1 o2 counts before event gave join =
     let p : Progress = before.progress in
     let q : Progress = event.progress in
     record {
       progress = behind p q;
-      does = run_event events start now over over' p q before.does before.leaves.0 before.leaves.1 gave.stays_over event.does;
+      does = join p q before.does before.leaves.0 before.leaves.1 gave.stays_over event.does;
       leaves = event.leaves;
-      reads = reads_both end p.gained q.gained false over over' o.input o1.input o2.input before.reads event.reads;
+      reads = reads_both end p.gained q.gained over0 over over' o.input o1.input o2.input before.reads event.reads;
       wrote = wrote_both end p.out q.out o.output o1.output o2.output before.wrote event.wrote;
       told = told_both end p.err q.err o.errors o1.errors o2.errors before.told event.told;
       rose = rose_later end o o1 o2 counts event.rose;
     }
+
+-- the part of the run so far, and the event
+further : (end : Option RunEnd) (events : ℕ) (start now new : State) (over over' : Bool) (o o1 o2 : Outside) → Counts o o1 → Progresses (IsRun events start over) None now false over o o1 → (event : Progresses (IsEvent now over') end new over over' o1 o2) → Gave event.progress.gained over over' o1.input o2.input → Progresses (IsRun (events + 1) start over') end new false over' o o2
+further end events start now new over over' o o1 o2 counts before event gave =
+    joined (IsRun events start over) (IsEvent now over') (IsRun (events + 1) start over') end now new false over over' o o1 o2 counts before event gave
+    (λ p q first stands runs stays second. run_event events start now over over' p q first stands runs stays second)
 
 -- the process goes on
 pub goes_on : (events : ℕ) (start now new : State) (over over' : Bool) (o o1 o2 : Outside) → Counts o o1 → Progresses (IsRun events start over) None now false over o o1 → Advances (IsEvent now over') None new over over' o1 o2 → Progresses (IsRun (events + 1) start over') None new false over' o o2
@@ -169,6 +187,7 @@ ends_by ends.ErrorsFault events limit start now new over over' o o1 o2 below cou
   run = further (Some ends.ErrorsFault) events start now new over over' o o1 o2 counts before event event.reads;
 }
 ends_by (ends.Limit taken) events limit start now new over over' o o1 o2 below counts before event = absurd event
+ends_by ends.FilesFault events limit start now new over over' o o1 o2 below counts before event = absurd event.leaves
 ends_by ends.InputFault events limit start now new over over' o o1 o2 below counts before event = record {
   events = events;
   bound = omega arith;

@@ -168,6 +168,7 @@ Concludes (ends.Limit taken) limit start code out err known o o' = (taken ≡ li
 Concludes ends.InputFault limit start code out err known o o' = TakesFronts out err o o'
 Concludes ends.OutputFault limit start code out err known o o' = TakesFronts out err o o'
 Concludes ends.ErrorsFault limit start code out err known o o' = TakesFronts out err o o'
+Concludes ends.FilesFault limit start code out err known o o' = ⊥
 
 ended_is_over : (status : Status) (code : ℕ) → status ≡ Ended code → status ≢ Running
 ended_is_over status code is e = let bad : ⊥ = cc in bad
@@ -237,3 +238,4 @@ concludes ends.OutputFault limit start new code out err known o o' called =
 concludes ends.ErrorsFault limit start new code out err known o o' called =
     fronts called.events start called.exhausted called.run.progress code out err o o' called.run.does (known called.run.progress.gained)
     (whole_prefix o.output o'.output called.run.progress.out called.run.wrote) called.run.told
+concludes ends.FilesFault limit start new code out err known o o' called = called.run.leaves

@@ -11,7 +11,7 @@ use Rattle.cpu_8086.specs.State.{State}
 use Rattle.cpu_8086.specs.Process.{Process, Status, Running, Ended, Stopped, stopped, serviced, after_step, answered, written_bytes, with_bytes, given}
 use Rattle.cpu_8086.specs.Step.{Steps}
 use Rattle.cpu_8086.specs.Run.{Goes}
-use Rattle.dos_runner.specs.Run.{running, IsInput, Progress, advanced, IsEvent, IsService}
+use Rattle.dos_runner.specs.Run.{running, IsInput, Progress, advanced, IsEvent, IsFinish, IsService}
 use Rattle.dos_runner.specs.Outside.{Outside, Progresses}
 use Rattle.dos_runner.specs.Transfer.{ReadBytes}
 use Rattle.dos_runner.proofs.Answered.{goes_reading}
@@ -119,19 +119,17 @@ has_no_service before t n over cs ip segment offset dos other stub input taken o
     let e : serviced (running before input taken out err) t n ≡ stopped (running before input taken out err) (why.Interrupt n) = rw (ne_eqb n 33 dos) (rw (ne_eqb n 96 other) (rw (ne_eqb n 63 stub) refl)) in
     e ∙ stops_at before cs ip (why.Interrupt n) input taken out err segment offset
 
--- the event of an instruction that asks for no service
-goes_by : (before t : State) (event : Event) (input : List ℕ) (taken : ℕ) (out err : List ℕ) (q : Process) → Steps before t event → after_step (running before input taken out err) t event ≡ q → Goes (running before input taken out err) q
-goes_by before t event input taken out err q steps result = record { running = refl; machine = t; event = event; steps = steps; result = sym result }
+pub finishes_running : (before t : State) (over : Bool) → IsFinish before t events.Ran over (record { machine = t; gained = []; out = []; err = []; status = Running })
+finishes_running before t over input taken out err is_input = quiet t Running input taken out err
 
-pub ran : (before t : State) (over : Bool) → Steps before t events.Ran → IsEvent before over (record { machine = t; gained = []; out = []; err = []; status = Running })
-ran before t over steps input taken out err is_input = goes_by before t events.Ran input taken out err _ steps (quiet t Running input taken out err)
+pub divides_by_zero : (before t : State) (over : Bool) (cs ip : ℕ) → before.cs ≡ cs → before.registers.ip ≡ ip → IsFinish before t events.Divide over (record { machine = before; gained = []; out = []; err = []; status = Stopped cs ip why.Divide })
+divides_by_zero before t over cs ip segment offset input taken out err is_input = stops_at before cs ip why.Divide input taken out err segment offset
 
-pub divides_by_zero : (before t : State) (over : Bool) (cs ip : ℕ) → before.cs ≡ cs → before.registers.ip ≡ ip → Steps before t events.Divide → IsEvent before over (record { machine = before; gained = []; out = []; err = []; status = Stopped cs ip why.Divide })
-divides_by_zero before t over cs ip segment offset steps input taken out err is_input = goes_by before t events.Divide input taken out err _ steps (stops_at before cs ip why.Divide input taken out err segment offset)
+pub meets_unknown : (before t : State) (event : Event) (over : Bool) (cs ip cs' ip' : ℕ) → event ≡ events.Unknown cs' ip' → before.cs ≡ cs → before.registers.ip ≡ ip → IsFinish before t event over (record { machine = before; gained = []; out = []; err = []; status = Stopped cs ip why.Opcode })
+meets_unknown before t event over cs ip cs' ip' is segment offset input taken out err is_input =
+    ap (λ (event : Event). after_step (running before input taken out err) t event) is ∙ stops_at before cs ip why.Opcode input taken out err segment offset
 
-pub meets_unknown : (before t : State) (over : Bool) (cs ip cs' ip' : ℕ) → before.cs ≡ cs → before.registers.ip ≡ ip → Steps before t (events.Unknown cs' ip') → IsEvent before over (record { machine = before; gained = []; out = []; err = []; status = Stopped cs ip why.Opcode })
-meets_unknown before t over cs ip cs' ip' segment offset steps input taken out err is_input = goes_by before t (events.Unknown cs' ip') input taken out err _ steps (stops_at before cs ip why.Opcode input taken out err segment offset)
-
--- an instruction that asks for a service, and the service
-pub is_served : (before t : State) (n : ℕ) (over : Bool) (progress : Progress) → Steps before t (events.Service n) → IsService before t n over progress → IsEvent before over progress
-is_served before t n over progress steps service input taken out err is_input = goes_by before t (events.Service n) input taken out err _ steps (service input taken out err is_input)
+-- a step, and what it asked for
+pub is_finished : (before t : State) (event : Event) (over : Bool) (progress : Progress) → Steps before t event → IsFinish before t event over progress → IsEvent before over progress
+is_finished before t event over progress steps finish input taken out err is_input =
+    record { running = refl; machine = t; event = event; steps = steps; result = sym (finish input taken out err is_input) }

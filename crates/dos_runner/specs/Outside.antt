@@ -31,7 +31,8 @@ pub record Gave (gained : List ℕ) (over over' : Bool) (old new : Option (List 
   pub stays_over : over ≡ true → (gained ≡ []) × (over' ≡ true)
   pub at_end : (over ≡ true → IsAtEnd old) → over' ≡ true → IsAtEnd new
 
--- How a part of a run ended it, or None where the process goes on: the machine and the status that are left.
+-- How a part of a run ended it, or None where the process goes on: the machine and the status that are left. No part of a run
+-- ends in a fault of files: what reads files says so itself.
 abbrev pub Leaves : Option RunEnd → State → State → Status → Type 0
 Leaves None new last status = (last ≡ new) × (status ≡ Running)
 Leaves (Some (ends.Limit taken)) new last status = (last ≡ new) × (status ≡ Running)
@@ -40,6 +41,7 @@ Leaves (Some (ends.Stopped cs ip why)) new last status = status ≡ Stopped cs i
 Leaves (Some ends.InputFault) new last status = status ≡ Running
 Leaves (Some ends.OutputFault) new last status = status ≡ Running
 Leaves (Some ends.ErrorsFault) new last status = status ≡ Running
+Leaves (Some ends.FilesFault) new last status = ⊥
 
 -- What the source gave. After its fault nothing is known.
 abbrev pub Reads : Option RunEnd → List ℕ → Bool → Bool → Option (List ℕ) → Option (List ℕ) → Type 0

@@ -1,7 +1,8 @@
 -- Parts of a run: what they do to a process.
 use Rattle.std.specs.Prelude.{◌≡◌, ℕ, ◌+◌, Bool, true, List, [], ◌++◌, length, drop}
+use Rattle.cpu_8086.specs.declared.machine.Event.{Event}
 use Rattle.cpu_8086.specs.State.{State}
-use Rattle.cpu_8086.specs.Process.{Process, Status, Running, serviced}
+use Rattle.cpu_8086.specs.Process.{Process, Status, Running, serviced, after_step}
 use Rattle.cpu_8086.specs.Run.{Goes, Runs}
 
 -- The process that runs on this machine, after it took and wrote so much.
@@ -45,6 +46,10 @@ IsRun events start over progress = (input : List ℕ) → IsInput progress.gaine
 -- The event that comes at a machine does this.
 abbrev pub IsEvent : State → Bool → Progress → Type 0
 IsEvent old over progress = (input : List ℕ) (taken : ℕ) (out err : List ℕ) → IsInput progress.gained over (drop taken input) → Goes (running old input taken out err) (advanced input taken out err progress)
+
+-- What a step asked for does this, which took a machine from old to t.
+abbrev pub IsFinish : State → State → Event → Bool → Progress → Type 0
+IsFinish old t event over progress = (input : List ℕ) (taken : ℕ) (out err : List ℕ) → IsInput progress.gained over (drop taken input) → after_step (running old input taken out err) t event ≡ advanced input taken out err progress
 
 -- INT n does this, which took a machine from old to t.
 abbrev pub IsService : State → State → ℕ → Bool → Progress → Type 0

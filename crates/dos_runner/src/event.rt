@@ -6,7 +6,7 @@ ghost use Rattle.tp_outside.specs.Faults.{HasRisen};
 ghost use Rattle.tp_outside.specs.Streams.{TakesPrefix};
 ghost use Rattle.cpu_8086.specs.State.{State};
 ghost use Rattle.cpu_8086.specs.Process.{answered, written_bytes};
-ghost use Rattle.dos_runner.specs.Run.{IsEvent, IsService};
+ghost use Rattle.dos_runner.specs.Run.{IsEvent, IsFinish, IsService};
 ghost use Rattle.dos_runner.specs.Outside.{Outside, Advances};
 
 use crate::runner::RunEnd;
@@ -232,6 +232,55 @@ fn serve<S: Source, K: Sink, E: Sink>(
     })
 }
 
+/// Finishes an event whose instruction, which stands at this place, was stepped over: the DOS function or the stop that it
+/// asks for. None where the process goes on.
+pub fn finish_step<S: Source, K: Sink, E: Sink>(
+    machine: &mut Machine,
+    event: Event,
+    at: Far,
+    over: &mut bool,
+    input: &mut S,
+    output: &mut K,
+    errors: &mut E,
+) -> Option<RunEnd>
+    ensures finished { (before : State) → before.cs ≡ at.segment → before.registers.ip ≡ at.offset →
+        Advances (IsFinish before machine.old event over.new) result machine.new over.old over.new
+        (record {
+          input = S.remaining input.old;
+          output = K.contents output.old;
+          errors = E.contents errors.old;
+          input_faults = S.faults input.old;
+          output_faults = K.faults output.old;
+          errors_faults = E.faults errors.old;
+        })
+        (record {
+          input = S.remaining input.new;
+          output = K.contents output.new;
+          errors = E.contents errors.new;
+          input_faults = S.faults input.new;
+          output_faults = K.faults output.new;
+          errors_faults = E.faults errors.new;
+        }) }
+    ensures input_counted { S.faults input.old ≤ S.faults input.new }
+    ensures output_counted { K.faults output.old ≤ K.faults output.new }
+    ensures errors_counted { E.faults errors.old ≤ E.faults errors.new }
+{
+    match event {
+        Event::Ran => None,
+        Event::Service(number) => serve(machine, number, at, over, input, output, errors),
+        Event::Divide => Some(RunEnd::Stopped {
+            cs: at.segment,
+            ip: at.offset,
+            why: Why::Divide,
+        }),
+        Event::Unknown { .. } => Some(RunEnd::Stopped {
+            cs: at.segment,
+            ip: at.offset,
+            why: Why::Opcode,
+        }),
+    }
+}
+
 /// One event. None where the process goes on.
 pub fn advance<S: Source, K: Sink, E: Sink>(
     machine: &mut Machine,
@@ -264,18 +313,6 @@ pub fn advance<S: Source, K: Sink, E: Sink>(
     let offset = machine.reg(Reg::Ip);
     let segment = machine.reg(Reg::Cs);
     let at = Far { offset, segment };
-    match machine.step() {
-        Event::Ran => None,
-        Event::Service(number) => serve(machine, number, at, over, input, output, errors),
-        Event::Divide => Some(RunEnd::Stopped {
-            cs: segment,
-            ip: offset,
-            why: Why::Divide,
-        }),
-        Event::Unknown { .. } => Some(RunEnd::Stopped {
-            cs: segment,
-            ip: offset,
-            why: Why::Opcode,
-        }),
-    }
+    let event = machine.step();
+    finish_step(machine, event, at, over, input, output, errors)
 }

@@ -5,6 +5,7 @@ mod event;
 mod runner;
 mod transfer;
 
+pub use event::finish_step;
 pub use runner::{RunEnd, run};
 
 #[cfg(test)]

@@ -22,6 +22,8 @@ pub enum RunEnd {
     OutputFault,
     /// The errors could not be written.
     ErrorsFault,
+    /// A file could not be read. A process without overlays reads none.
+    FilesFault,
 }
 
 /// Runs the process that stands in a machine, for at most so many instructions. It reads the input only where the
