@@ -1,0 +1,5 @@
+pub mod Addresses
+pub mod Operands
+pub mod Expressions
+pub mod Lines
+pub mod Example

@@ -1,0 +1,6 @@
+//! The lines of 8086 code of each node of flat code.
+#![tactic(auto)]
+
+mod laws;
+
+pub use laws::example_law;

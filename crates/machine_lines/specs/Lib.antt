@@ -1,0 +1,4 @@
+pub mod Steps
+pub mod Straight
+pub mod Words
+pub mod Example
