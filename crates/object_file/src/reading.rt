@@ -203,18 +203,18 @@ fn data_in_turn(alloc: Global, count: u32, bytes: &[u8]) -> Result<(ObjectData, 
 }
 
 /// The count of a list, which is at least this.
-fn count_from(least: u32, bytes: &[u8]) -> Result<(u32, &[u8]), PartError>
+fn count_from(least: usize, bytes: &[u8]) -> Result<(u32, &[u8]), PartError>
     ensures { Gives (λ x. (x.0, x.1.now)) result (ruled (λ count. nat_le least count) long_at bytes.now) }
 {
     let (count, rest) = long_of(bytes)?;
-    if count < least {
+    if (count as usize) < least {
         return damaged(bytes.len());
     }
     Ok((count, rest))
 }
 
 #[tactic(auto, unfolding(crate::specs::Reading::data_at))]
-fn data_of(alloc: Global, least: u32, bytes: &[u8]) -> Result<(ObjectData, &[u8]), PartError>
+fn data_of(alloc: Global, least: usize, bytes: &[u8]) -> Result<(ObjectData, &[u8]), PartError>
     ensures { Gives (λ x. (x.0, x.1.now)) result (data_at least bytes.now) }
 {
     let (count, rest) = count_from(least, bytes)?;
@@ -244,7 +244,7 @@ fn codes_in_turn(alloc: Global, count: u32, bytes: &[u8]) -> Result<(Codes, &[u8
 }
 
 #[tactic(auto, unfolding(crate::specs::Reading::codes_at))]
-fn codes_of(alloc: Global, least: u32, bytes: &[u8]) -> Result<(Codes, &[u8]), PartError>
+fn codes_of(alloc: Global, least: usize, bytes: &[u8]) -> Result<(Codes, &[u8]), PartError>
     ensures { Gives (λ x. (x.0, x.1.now)) result (codes_at least bytes.now) }
 {
     let (count, rest) = count_from(least, bytes)?;
@@ -254,8 +254,8 @@ fn codes_of(alloc: Global, least: u32, bytes: &[u8]) -> Result<(Codes, &[u8]), P
 #[tactic(auto, unfolding(crate::specs::Reading::object_at))]
 fn object(
     alloc: Global,
-    globals: u32,
-    routines: u32,
+    globals: usize,
+    routines: usize,
     bytes: &[u8],
 ) -> Result<(ObjectUnit, &[u8]), PartError>
     ensures { Gives (λ x. (x.0, x.1.now)) result (object_at globals routines bytes.now) }
@@ -275,8 +275,8 @@ fn object(
 /// `Damaged` comes exactly where they begin with none, at the first part that breaks a rule given the parts before it.
 pub fn object_of(
     alloc: Global,
-    globals: u32,
-    routines: u32,
+    globals: usize,
+    routines: usize,
     bytes: &[u8],
 ) -> Result<(ObjectUnit, &[u8]), PartError>
     // What is read is spelled so.

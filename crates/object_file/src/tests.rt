@@ -19,7 +19,7 @@ const OBJECT: [u8; 83] = [
 ];
 
 /// The place of damage, or None where the bytes are read.
-fn damage(alloc: Global, globals: u32, routines: u32, bytes: &[u8]) -> Option<usize> {
+fn damage(alloc: Global, globals: usize, routines: usize, bytes: &[u8]) -> Option<usize> {
     match object_of(alloc, globals, routines, bytes) {
         Err(PartError::Damaged { left }) => Some(bytes.len().saturating_sub(left)),
         _ => None,
@@ -58,6 +58,7 @@ fn prefixes_are_damaged_at_their_end(rt: HostRuntime) {
 fn numbers_before_it_ask_for_parts(rt: HostRuntime) {
     assert_eq!(rt; damage(rt.alloc(), 2, 0, &OBJECT), Some(0));
     assert_eq!(rt; damage(rt.alloc(), 1, 2, &OBJECT), Some(47));
+    assert_eq!(rt; damage(rt.alloc(), 0x1_0000_0000, 0, &OBJECT), Some(0));
 }
 
 #[test]

@@ -9,4 +9,4 @@ mod writing;
 pub use entry::TypeEntry;
 pub use parts::{header_of, id_below};
 pub use types::types_of;
-pub use writing::{push_header, push_types};
+pub use writing::{push_header, push_id, push_types};

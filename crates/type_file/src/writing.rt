@@ -35,7 +35,8 @@ fn kind_number(kind: Kind) -> u8
     }
 }
 
-fn push_id(bytes: &mut Bytes, id: TypeId) -> Result<(), AllocError>
+/// Appends the number of a type.
+pub fn push_id(bytes: &mut Bytes, id: TypeId) -> Result<(), AllocError>
     ensures { OnOk result (bytes.new ≡ bytes.old ++ id_text id) }
 {
     push_long(bytes, id.0)
