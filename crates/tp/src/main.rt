@@ -1,15 +1,7 @@
 //! Turbo Pascal programs, from their sources to what they write.
 #![tactic(auto)]
 
-mod line;
-mod names;
-mod outcome;
-mod perform;
-#[cfg(test)]
-mod tests;
-mod top;
-mod words;
-
+use commands::turbo;
 use std::process::ExitCode;
 use std::{env, io, rt};
 use tp_outside::{RealFiles, RealSink, RealSource};
@@ -23,7 +15,7 @@ fn main(rt: HostRuntime) -> io::Result<ExitCode> {
     let mut input = RealSource::new(rt.stdin());
     let mut output = RealSink::new(rt.stdout());
     let mut errors = RealSink::new(rt.stderr());
-    let outcome = top::turbo(
+    let outcome = turbo(
         rt.alloc(),
         words.as_slice(),
         &mut files,

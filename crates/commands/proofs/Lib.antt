@@ -1,0 +1,7 @@
+pub mod Joined
+pub mod FileLaws
+pub mod WordLaws
+pub mod RanLaws
+pub mod GoLaws
+pub mod RunLaws
+pub mod TurboLaws

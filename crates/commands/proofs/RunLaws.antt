@@ -1,0 +1,171 @@
+-- From what `run` does, and the last line, to what the top call promises.
+use Rattle.std.proofs.Common.{◌≡◌, ◌⊎◌, inl, inr, ℕ, ◌≤◌, List, Option, Some, None, IfSome, sym, ap, ◌∙◌, subst}
+use Rattle.std.specs.Io.KnownBytes.{append_known}
+use Rattle.tp_outside.specs.Folder.{Folder}
+use Rattle.dos_runner.specs.declared.runner.RunEnd.{RunEnd}
+use Rattle.dos_runner.specs.declared.runner.RunEnd.TheVariants as ends
+use Rattle.dos_runner.specs.Outside.{Outside}
+use Rattle.overlay_runner.specs.Event.{Rises}
+use Rattle.commands.specs.declared.names.FileKind.TheVariants.{Executable}
+use Rattle.commands.specs.declared.outcome.Refusal.{Refusal}
+use Rattle.commands.specs.declared.outcome.Refusal.TheVariants as refusal
+use Rattle.commands.specs.declared.outcome.Outcome.{Outcome}
+use Rattle.commands.specs.declared.outcome.Outcome.TheVariants as outcome
+use Rattle.commands.specs.declared.words.RunOptions.{RunOptions}
+use Rattle.commands.specs.Ending.{outcome_of}
+use Rattle.commands.specs.Files.{file_of}
+use Rattle.commands.specs.Line.{line_of}
+use Rattle.commands.specs.Performs.{DidRun}
+use Rattle.commands.specs.Run.{HasNoStart, IsOfRun, IsNotRun, RunsFrom, GaveUp, RunDid}
+use Rattle.commands.specs.Turbo.{IsFaultOrNoMemory, Faults, RunRefused, Refuses, Unchanged, AfterLine, RunsFiles, RanFiles}
+use Rattle.commands.specs.Words.{IsGo}
+use Rattle.commands.specs.World.{World, Lacks}
+use Rattle.commands.proofs.GoLaws.{told, still_risen, wrote_its_line}
+use Rattle.commands.proofs.WordLaws.{not_both}
+
+-- a fault was counted by what it names
+ran-fault : (end : RunEnd) (old mid : World) (errors : Option (List ℕ)) (faults : ℕ) → Rises (Some end) old.streams mid.streams old.files_faults mid.files_faults → mid.streams.errors_faults ≤ faults → Faults old (told mid errors faults) (outcome_of end)
+ran-fault (ends.Ended code) old mid errors faults rises counted = tt
+ran-fault (ends.Limit taken) old mid errors faults rises counted = tt
+ran-fault (ends.Stopped cs ip why) old mid errors faults rises counted = tt
+ran-fault ends.InputFault old mid errors faults rises counted = rises
+ran-fault ends.OutputFault old mid errors faults rises counted = rises
+ran-fault ends.ErrorsFault old mid errors faults rises counted = still_risen old.streams.errors_faults mid.streams.errors_faults faults rises counted
+ran-fault ends.FilesFault old mid errors faults rises counted = rises
+
+gave-up-fault : (result : Outcome) (name : List ℕ) (buffer : Option ℕ) (old mid : World) (errors : Option (List ℕ)) (faults : ℕ) → IsNotRun result name buffer old.folder old.files_faults mid.files_faults → Faults old (told mid errors faults) result
+gave-up-fault (outcome.Refused r) name buffer old mid errors faults reason = tt
+gave-up-fault outcome.FilesFault name buffer old mid errors faults reason = reason
+gave-up-fault outcome.NoMemory name buffer old mid errors faults reason = tt
+gave-up-fault other name buffer old mid errors faults reason = absurd reason
+
+pub fault : (result : Outcome) (name : List ℕ) (options : RunOptions) (old mid : World) (errors : Option (List ℕ)) (faults : ℕ) → RunDid result name options old mid → mid.streams.errors_faults ≤ faults → Faults old (told mid errors faults) result
+fault result name options old mid errors faults (inl gave) counted = gave-up-fault result name options.buffer old mid errors faults gave.reason
+fault result name options old mid errors faults (inr ran) counted =
+    subst (λ (o : Outcome). Faults old (told mid errors faults) o) (sym ran.1) (ran-fault ran.0 old mid errors faults ran.2.rises counted)
+
+-- the end of a run is no refusal
+abbrev IsRefusal : Outcome → Type 0
+IsRefusal (outcome.Refused r) = Unit {0}
+IsRefusal other = ⊥
+
+no-refusal : (end : RunEnd) → IsRefusal (outcome_of end) → ⊥
+no-refusal (ends.Ended code) is = is
+no-refusal (ends.Limit taken) is = is
+no-refusal (ends.Stopped cs ip why) is = is
+no-refusal ends.InputFault is = is
+no-refusal ends.OutputFault is = is
+no-refusal ends.ErrorsFault is = is
+no-refusal ends.FilesFault is = is
+
+-- refusals
+reason-told : (r : Refusal) (name : List ℕ) (options : RunOptions) (old mid : World) → RunDid (outcome.Refused r) name options old mid
+    → IsOfRun r × IfSome old.folder (λ held. HasNoStart held (outcome.Refused r) name options.buffer)
+reason-told r name options old mid (inl gave) = gave.reason
+reason-told r name options old mid (inr ran) = absurd (no-refusal ran.0 (subst IsRefusal ran.1 tt))
+
+pub refused : (r : Refusal) (words : List (List ℕ)) (old mid : World) → DidRun (outcome.Refused r) words old mid → RunRefused words old r
+refused refusal.Usage words old mid ran = λ name options asked. (reason-told refusal.Usage name options old mid (ran.did name options asked)).0
+refused r words old mid ran = λ name options asked. (reason-told r name options old mid (ran.did name options asked)).1
+
+-- what a file that is not there gives
+lacks-so : (held : Folder) (r : Refusal) (name : List ℕ) (buffer : Option ℕ) → held (file_of name Executable) ≡ None → HasNoStart held (outcome.Refused r) name buffer → r ≡ refusal.MissingFile (file_of name Executable)
+lacks-so held r name buffer lacks (inl absent) = absent.is
+lacks-so held r name buffer lacks (inr opens) = absurd (let both = sym lacks ∙ opens.there in cc)
+
+gave-up-absent : (result : Outcome) (name : List ℕ) (buffer : Option ℕ) (folder : Option Folder) (old mid : World) (errors : Option (List ℕ)) (faults : ℕ) → Lacks folder (file_of name Executable)
+    → IsNotRun result name buffer folder old.files_faults mid.files_faults → (result ≡ outcome.Refused (refusal.MissingFile (file_of name Executable))) ⊎ IsFaultOrNoMemory result old (told mid errors faults)
+gave-up-absent result name buffer None old mid errors faults lacks reason = absurd lacks
+gave-up-absent (outcome.Refused r) name buffer (Some held) old mid errors faults lacks reason = inl (ap (λ (r : Refusal). outcome.Refused r) (lacks-so held r name buffer lacks reason.1))
+gave-up-absent outcome.FilesFault name buffer (Some held) old mid errors faults lacks reason = inr reason
+gave-up-absent outcome.NoMemory name buffer (Some held) old mid errors faults lacks reason = inr tt
+gave-up-absent other name buffer (Some held) old mid errors faults lacks reason = absurd reason
+
+ran-absent : (end : RunEnd) (name : List ℕ) (options : RunOptions) (folder : Option Folder) (o o' : Outside) → Lacks folder (file_of name Executable) → IfSome folder (λ held. RunsFrom held end name options o o') → ⊥
+ran-absent end name options None o o' lacks run = lacks
+ran-absent end name options (Some held) o o' lacks run = let both = sym lacks ∙ run.begins.there in cc
+
+pub causes : (result : Outcome) (words : List (List ℕ)) (old mid : World) (errors : Option (List ℕ)) (faults : ℕ) → DidRun result words old mid → Refuses words old (told mid errors faults) result
+causes result words old mid errors faults ran = record {
+  usage = λ none. absurd (none.run ran.name ran.options ran.asked);
+  missing = λ name asked lacks. absurd (not_both words name ran.name ran.options asked ran.asked);
+  outside = λ name text asked held none. absurd (not_both words name ran.name ran.options asked ran.asked);
+  absent = λ name options asked lacks. by name options lacks (ran.did name options asked);
+}
+  where
+    by : (name : List ℕ) (options : RunOptions) → Lacks old.folder (file_of name Executable) → RunDid result name options old mid
+        → (result ≡ outcome.Refused (refusal.MissingFile (file_of name Executable))) ⊎ IsFaultOrNoMemory result old (told mid errors faults)
+    by name options lacks (inl gave) = gave-up-absent result name options.buffer old.folder old mid errors faults lacks gave.reason
+    by name options lacks (inr went) = absurd (ran-absent went.0 name options old.folder old.streams mid.streams lacks went.2.run)
+
+-- what is left as it was
+gave-up-unchanged : (result : Outcome) (name : List ℕ) (buffer : Option ℕ) (words : List (List ℕ)) (old mid : World) (errors : Option (List ℕ)) (faults : ℕ) → ((other : List ℕ) → IsGo words other → ⊥) → GaveUp result name buffer old mid
+    → errors ≡ append_known mid.streams.errors (line_of result) → Unchanged words old (told mid errors faults) result
+gave-up-unchanged (outcome.Refused r) name buffer words old mid errors faults not gave line = wrote_its_line (outcome.Refused r) old mid errors faults gave.untouched line
+gave-up-unchanged outcome.FilesFault name buffer words old mid errors faults not gave line = λ other asked. absurd (not other asked)
+gave-up-unchanged outcome.NoMemory name buffer words old mid errors faults not gave line = wrote_its_line outcome.NoMemory old mid errors faults gave.untouched line
+gave-up-unchanged other name buffer words old mid errors faults not gave line = tt
+
+ran-unchanged : (end : RunEnd) (words : List (List ℕ)) (old new : World) → ((other : List ℕ) → IsGo words other → ⊥) → Unchanged words old new (outcome_of end)
+ran-unchanged (ends.Ended code) words old new not = tt
+ran-unchanged (ends.Limit taken) words old new not = tt
+ran-unchanged (ends.Stopped cs ip why) words old new not = tt
+ran-unchanged ends.InputFault words old new not = tt
+ran-unchanged ends.OutputFault words old new not = tt
+ran-unchanged ends.ErrorsFault words old new not = tt
+ran-unchanged ends.FilesFault words old new not = λ other asked. absurd (not other asked)
+
+pub unchanged : (result : Outcome) (words : List (List ℕ)) (old mid : World) (errors : Option (List ℕ)) (faults : ℕ) → DidRun result words old mid → errors ≡ append_known mid.streams.errors (line_of result)
+    → Unchanged words old (told mid errors faults) result
+unchanged result words old mid errors faults ran line = by (ran.did ran.name ran.options ran.asked)
+  where
+    not : (other : List ℕ) → IsGo words other → ⊥
+    not other asked = not_both words other ran.name ran.options asked ran.asked
+
+    by : RunDid result ran.name ran.options old mid → Unchanged words old (told mid errors faults) result
+    by (inl gave) = gave-up-unchanged result ran.name ran.options.buffer words old mid errors faults not gave line
+    by (inr went) = subst (λ (o : Outcome). Unchanged words old (told mid errors faults) o) (sym went.1) (ran-unchanged went.0 words old (told mid errors faults) not)
+
+-- no run changes a file
+pub folder_kept : (result : Outcome) (words : List (List ℕ)) (old mid : World) → DidRun result words old mid → mid.folder ≡ old.folder
+folder_kept result words old mid ran = by (ran.did ran.name ran.options ran.asked)
+  where
+    by : RunDid result ran.name ran.options old mid → mid.folder ≡ old.folder
+    by (inl gave) = gave.untouched.folder
+    by (inr went) = went.2.folder
+
+-- what was run
+no-start : (held : Folder) (r : Outcome) (name : List ℕ) (buffer : Option ℕ) (files files' : ℕ) → IsNotRun r name buffer (Some held) files files' → HasNoStart held r name buffer
+no-start held (outcome.Refused r) name buffer files files' reason = reason.1
+no-start held outcome.FilesFault name buffer files files' reason = tt
+no-start held outcome.NoMemory name buffer files files' reason = tt
+no-start held other name buffer files files' reason = absurd reason
+
+gave-up-told : (folder : Option Folder) (inner result : Outcome) (name : List ℕ) (options : RunOptions) (old mid : World) (errors : Option (List ℕ)) (faults : ℕ) → AfterLine result inner mid.streams.errors errors
+    → IsNotRun inner name options.buffer folder old.files_faults mid.files_faults → IfSome folder (λ held. RunsFiles held result name options old (told mid errors faults))
+gave-up-told None inner result name options old mid errors faults line reason = tt
+gave-up-told (Some held) inner result name options old mid errors faults line reason = record {
+  inner = inner;
+  before = mid.streams.errors;
+  before_faults = mid.streams.errors_faults;
+  did = inl (no-start held inner name options.buffer old.files_faults mid.files_faults reason);
+  line = line;
+}
+
+ran-told : (folder : Option Folder) (inner result : Outcome) (end : RunEnd) (name : List ℕ) (options : RunOptions) (old mid : World) (errors : Option (List ℕ)) (faults : ℕ) → AfterLine result inner mid.streams.errors errors → inner ≡ outcome_of end
+    → IfSome folder (λ held. RunsFrom held end name options old.streams mid.streams) → IfSome folder (λ held. RunsFiles held result name options old (told mid errors faults))
+ran-told None inner result end name options old mid errors faults line is run = tt
+ran-told (Some held) inner result end name options old mid errors faults line is run = record {
+  inner = inner;
+  before = mid.streams.errors;
+  before_faults = mid.streams.errors_faults;
+  did = inr (end, is, run);
+  line = line;
+}
+
+pub ran : (inner result : Outcome) (words : List (List ℕ)) (old mid : World) (errors : Option (List ℕ)) (faults : ℕ) → DidRun inner words old mid → AfterLine result inner mid.streams.errors errors → RanFiles words old (told mid errors faults) result
+ran inner result words old mid errors faults did line = λ name options asked. by name options (did.did name options asked)
+  where
+    by : (name : List ℕ) (options : RunOptions) → RunDid inner name options old mid → IfSome old.folder (λ held. RunsFiles held result name options old (told mid errors faults))
+    by name options (inl gave) = gave-up-told old.folder inner result name options old mid errors faults line gave.reason
+    by name options (inr went) = ran-told old.folder inner result went.0 name options old mid errors faults line went.1 went.2.run

@@ -1,0 +1,121 @@
+-- What the top call promises, from what a command does and its line.
+use Rattle.std.proofs.Common.{◌≡◌, inl, inr, ℕ, ◌≤◌, List, Option, sym, ap, ◌∙◌, refl, subst}
+use Rattle.std.specs.Io.KnownBytes.{append_known}
+use Rattle.tp_outside.specs.Faults.{HasRisen}
+use Rattle.tp_outside.specs.Streams.{TakesPrefix}
+use Rattle.commands.specs.declared.outcome.Refusal.{Refusal}
+use Rattle.commands.specs.declared.outcome.Refusal.TheVariants as refusal
+use Rattle.commands.specs.declared.outcome.Outcome.{Outcome}
+use Rattle.commands.specs.declared.outcome.Outcome.TheVariants as outcome
+use Rattle.commands.specs.Line.{line_of}
+use Rattle.commands.specs.Performs.{Performs}
+use Rattle.commands.specs.Turbo.{Headline, Written, Complete, Faults, GoRefused, RunRefused, Refused, Refuses, Fronts, FilesAfter, TookErrors, EndsWithLine, Unchanged, AfterLine, RanFiles}
+use Rattle.commands.specs.World.{World}
+use Rattle.commands.proofs.GoLaws.{told, wrote_its_line}
+use Rattle.commands.proofs.GoLaws as go
+use Rattle.commands.proofs.RunLaws as run
+use Rattle.commands.proofs.WordLaws.{not_both}
+
+pub headline : (result : Outcome) (words : List (List ℕ)) (old mid : World) (errors : Option (List ℕ)) (faults : ℕ) → Performs result words old mid → Headline words old (told mid errors faults) result
+headline result words old mid errors faults (inl misused) = λ name statements asked has. absurd (misused.none.go name asked.named)
+headline result words old mid errors faults (inr (inl went)) = go.headline result words old mid errors faults went.goes
+headline result words old mid errors faults (inr (inr ran)) = λ name statements asked has. absurd (not_both words name ran.name ran.options asked.named ran.asked)
+
+pub written : (result : Outcome) (words : List (List ℕ)) (old mid : World) (errors : Option (List ℕ)) (faults : ℕ) → Performs result words old mid → errors ≡ append_known mid.streams.errors (line_of result) → Written words old (told mid errors faults) result
+written result words old mid errors faults (inl misused) line = λ name statements code asked is. absurd (misused.none.go name asked.named)
+written result words old mid errors faults (inr (inl went)) line = go.written result words old mid errors faults went.goes line
+written result words old mid errors faults (inr (inr ran)) line = λ name statements code asked is. absurd (not_both words name ran.name ran.options asked.named ran.asked)
+
+pub complete : (result : Outcome) (words : List (List ℕ)) (old mid : World) (errors : Option (List ℕ)) (faults : ℕ) → Performs result words old mid → old.streams.errors_faults ≤ mid.streams.errors_faults → mid.streams.errors_faults ≤ faults → Complete words old (told mid errors faults) result
+complete result words old mid errors faults (inl misused) rise rises = λ name statements asked. absurd (misused.none.go name asked.named)
+complete result words old mid errors faults (inr (inl went)) rise rises = go.complete result words old mid errors faults went.goes rise rises
+complete result words old mid errors faults (inr (inr ran)) rise rises = λ name statements asked. absurd (not_both words name ran.name ran.options asked.named ran.asked)
+
+pub fault : (result : Outcome) (words : List (List ℕ)) (old mid : World) (errors : Option (List ℕ)) (faults : ℕ) → Performs result words old mid → mid.streams.errors_faults ≤ faults → Faults old (told mid errors faults) result
+fault result words old mid errors faults (inl misused) rises = subst (λ (o : Outcome). Faults old (told mid errors faults) o) (sym misused.is) tt
+fault result words old mid errors faults (inr (inl went)) rises = go.fault result words old mid errors faults went.goes rises
+fault result words old mid errors faults (inr (inr ran)) rises = run.fault result ran.name ran.options old mid errors faults (ran.did ran.name ran.options ran.asked) rises
+
+refuses-so : (r : Refusal) (words : List (List ℕ)) (old mid : World) → Performs (outcome.Refused r) words old mid → Refused words old (outcome.Refused r)
+refuses-so r words old mid (inl misused) = subst (λ (o : Outcome). Refused words old o) (sym misused.is) (misused.none.go, misused.none.run)
+refuses-so r words old mid (inr (inl went)) = (go.refused r words old mid went.goes, other r)
+  where
+    other : (r : Refusal) → RunRefused words old r
+    other refusal.Usage = λ name options asked. not_both words went.name name options went.asked asked
+    other r = λ name options asked. absurd (not_both words went.name name options went.asked asked)
+refuses-so r words old mid (inr (inr ran)) = (other r, run.refused r words old mid ran)
+  where
+    other : (r : Refusal) → GoRefused words old r
+    other (refusal.MissingFile file) = λ name asked. absurd (not_both words name ran.name ran.options asked ran.asked)
+    other (refusal.NotInProfile at feature) = λ name asked. absurd (not_both words name ran.name ran.options asked ran.asked)
+    other r = λ name asked. not_both words name ran.name ran.options asked ran.asked
+
+pub refused : (result : Outcome) (words : List (List ℕ)) (old mid : World) → Performs result words old mid → Refused words old result
+refused (outcome.Refused r) words old mid did = refuses-so r words old mid did
+refused outcome.InputFault words old mid did = tt
+refused outcome.OutputFault words old mid did = tt
+refused outcome.ErrorsFault words old mid did = tt
+refused outcome.FilesFault words old mid did = tt
+refused outcome.NoMemory words old mid did = tt
+refused (outcome.Program exit) words old mid did = tt
+refused (outcome.InstructionLimit taken) words old mid did = tt
+refused (outcome.Stopped cs ip why) words old mid did = tt
+
+pub fronts : (result : Outcome) (words : List (List ℕ)) (old mid : World) (errors : Option (List ℕ)) (faults : ℕ) → Performs result words old mid → Fronts words old (told mid errors faults)
+fronts result words old mid errors faults (inl misused) = λ name statements asked. absurd (misused.none.go name asked.named)
+fronts result words old mid errors faults (inr (inl went)) = go.fronts result words old mid errors faults went.goes
+fronts result words old mid errors faults (inr (inr ran)) = λ name statements asked. absurd (not_both words name ran.name ran.options asked.named ran.asked)
+
+took_errors : (result : Outcome) (words : List (List ℕ)) (old mid : World) → Performs result words old mid → TookErrors words old mid.streams.errors
+took_errors result words old mid (inl misused) = λ name statements asked. absurd (misused.none.go name asked.named)
+took_errors result words old mid (inr (inl went)) = go.took_errors result words old mid went.goes
+took_errors result words old mid (inr (inr ran)) = λ name statements asked. absurd (not_both words name ran.name ran.options asked.named ran.asked)
+
+pub ends_with_line : (result : Outcome) (words : List (List ℕ)) (old mid : World) (errors : Option (List ℕ)) (faults : ℕ) → Performs result words old mid → errors ≡ append_known mid.streams.errors (line_of result) → EndsWithLine words old (told mid errors faults) result
+ends_with_line (outcome.Program code) words old mid errors faults did line = (mid.streams.errors, line, took_errors (outcome.Program code) words old mid did)
+ends_with_line (outcome.InstructionLimit taken) words old mid errors faults did line = (mid.streams.errors, line, took_errors (outcome.InstructionLimit taken) words old mid did)
+ends_with_line (outcome.Stopped cs ip why) words old mid errors faults did line = (mid.streams.errors, line, took_errors (outcome.Stopped cs ip why) words old mid did)
+ends_with_line (outcome.Refused r) words old mid errors faults did line = (mid.streams.errors, line, took_errors (outcome.Refused r) words old mid did)
+ends_with_line outcome.InputFault words old mid errors faults did line = (mid.streams.errors, line, took_errors outcome.InputFault words old mid did)
+ends_with_line outcome.OutputFault words old mid errors faults did line = (mid.streams.errors, line, took_errors outcome.OutputFault words old mid did)
+ends_with_line outcome.ErrorsFault words old mid errors faults did line = tt
+ends_with_line outcome.FilesFault words old mid errors faults did line = (mid.streams.errors, line, took_errors outcome.FilesFault words old mid did)
+ends_with_line outcome.NoMemory words old mid errors faults did line = (mid.streams.errors, line, took_errors outcome.NoMemory words old mid did)
+
+pub unchanged : (result : Outcome) (words : List (List ℕ)) (old mid : World) (errors : Option (List ℕ)) (faults : ℕ) → Performs result words old mid → errors ≡ append_known mid.streams.errors (line_of result) → Unchanged words old (told mid errors faults) result
+unchanged result words old mid errors faults (inl misused) line =
+    let usage : Outcome = outcome.Refused refusal.Usage in
+    subst (λ (o : Outcome). Unchanged words old (told mid errors faults) o) (sym misused.is)
+    (wrote_its_line usage old mid errors faults misused.untouched (line ∙ ap (λ (o : Outcome). append_known mid.streams.errors (line_of o)) misused.is))
+unchanged result words old mid errors faults (inr (inl went)) line = go.unchanged result words old mid errors faults went.goes line
+unchanged result words old mid errors faults (inr (inr ran)) line = run.unchanged result words old mid errors faults ran line
+
+pub files_after : (result : Outcome) (words : List (List ℕ)) (old mid : World) (errors : Option (List ℕ)) (faults : ℕ) → Performs result words old mid → FilesAfter words old (told mid errors faults)
+files_after result words old mid errors faults (inl misused) = inl misused.untouched.folder
+files_after result words old mid errors faults (inr (inl went)) = go.files_after result words old mid errors faults went.goes
+files_after result words old mid errors faults (inr (inr ran)) = inl (run.folder_kept result words old mid ran)
+
+pub causes : (result : Outcome) (words : List (List ℕ)) (old mid : World) (errors : Option (List ℕ)) (faults : ℕ) → Performs result words old mid → Refuses words old (told mid errors faults) result
+causes result words old mid errors faults (inl misused) = record {
+  usage = λ none. inl misused.is;
+  missing = λ name asked lacks. absurd (misused.none.go name asked);
+  outside = λ name text asked held none. absurd (misused.none.go name asked);
+  absent = λ name options asked lacks. absurd (misused.none.run name options asked);
+}
+causes result words old mid errors faults (inr (inl went)) = go.causes result words old mid errors faults went.goes
+causes result words old mid errors faults (inr (inr ran)) = run.causes result words old mid errors faults ran
+
+-- what was run, with the line after it or a front of the line
+ran-files : (inner result : Outcome) (words : List (List ℕ)) (old mid : World) (errors : Option (List ℕ)) (faults : ℕ) → Performs inner words old mid → AfterLine result inner mid.streams.errors errors → RanFiles words old (told mid errors faults) result
+ran-files inner result words old mid errors faults (inl misused) line = λ name options asked. absurd (misused.none.run name options asked)
+ran-files inner result words old mid errors faults (inr (inl went)) line = λ name options asked. absurd (not_both words went.name name options went.asked asked)
+ran-files inner result words old mid errors faults (inr (inr ran)) line = run.ran inner result words old mid errors faults ran line
+
+pub ran_with_line : (result : Outcome) (words : List (List ℕ)) (old mid : World) (errors : Option (List ℕ)) (faults : ℕ) → Performs result words old mid → errors ≡ append_known mid.streams.errors (line_of result) → RanFiles words old (told mid errors faults) result
+ran_with_line result words old mid errors faults did line = ran-files result result words old mid errors faults did (inl (refl, line))
+
+pub ran_without_line : (inner : Outcome) (words : List (List ℕ)) (old mid : World) (errors : Option (List ℕ)) (faults : ℕ) → Performs inner words old mid → TakesPrefix mid.streams.errors errors (line_of inner) → RanFiles words old (told mid errors faults) outcome.ErrorsFault
+ran_without_line inner words old mid errors faults did front = ran-files inner outcome.ErrorsFault words old mid errors faults did (inr (refl, front))
+
+pub line_failed : (words : List (List ℕ)) (old new : World) (mid : ℕ) → old.streams.errors_faults ≤ mid → HasRisen mid new.streams.errors_faults → Refuses words old new outcome.ErrorsFault
+line_failed words old new mid counted rose = go.line_failed words old new mid counted rose

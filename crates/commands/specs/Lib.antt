@@ -1,0 +1,9 @@
+pub mod Ending
+pub mod Files
+pub mod Go
+pub mod Line
+pub mod Performs
+pub mod Run
+pub mod Turbo
+pub mod Words
+pub mod World

@@ -1,0 +1,180 @@
+-- What the top call promises. Its clauses cite these.
+use Rattle.std.specs.Prelude.{◌≡◌, ◌⊎◌, ℕ, List, Option, IfSome}
+use Rattle.std.specs.Io.KnownBytes.{append_known}
+use Rattle.tp_outside.specs.Faults.{HasRisen}
+use Rattle.tp_outside.specs.Folder.{Folder, with_known_file}
+use Rattle.tp_outside.specs.Streams.{TakesPrefix}
+use Rattle.literal_form.specs.Source.{IsSource}
+use Rattle.literal_form.specs.Statement.{Statement, mean}
+use Rattle.literal_code.specs.Agrees.{Agrees}
+use Rattle.dos_runner.specs.declared.runner.RunEnd.{RunEnd}
+use Rattle.dos_runner.specs.Outside.{Outside}
+use Rattle.commands.specs.declared.names.FileKind.TheVariants.{Source, Executable}
+use Rattle.commands.specs.declared.words.RunOptions.{RunOptions}
+use Rattle.commands.specs.declared.outcome.Feature.TheVariants.{NotYet}
+use Rattle.commands.specs.declared.outcome.Refusal.{Refusal}
+use Rattle.commands.specs.declared.outcome.Refusal.TheVariants as refusal
+use Rattle.commands.specs.declared.outcome.Outcome.{Outcome}
+use Rattle.commands.specs.declared.outcome.Outcome.TheVariants as outcome
+use Rattle.commands.specs.Files.{file_of}
+use Rattle.commands.specs.Line.{line_of}
+use Rattle.commands.specs.Words.{IsGo, IsRun}
+use Rattle.commands.specs.World.{World, Holds, Lacks}
+use Rattle.commands.specs.Go.{Says}
+use Rattle.commands.specs.Performs.{NamesNone}
+use Rattle.commands.specs.Run.{HasNoStart, RunsFrom}
+use Rattle.commands.specs.Ending.{outcome_of}
+
+-- The words are `go` and a program's name, the files tell what they hold, and the program's source says these
+-- statements.
+pub record IsAsked (words : List (List ℕ)) (old : World) (name : List ℕ) (statements : List Statement) : Type 0 where
+  pub named : IsGo words name
+  pub text : List ℕ
+  pub held : Holds old.folder (file_of name Source) text
+  pub source : IsSource text statements
+
+-- Outcomes with which the executable has been written and run.
+abbrev pub HasRun : Outcome → Type 0
+HasRun (outcome.Program code) = Unit {0}
+HasRun (outcome.InstructionLimit taken) = Unit {0}
+HasRun (outcome.Stopped cs ip why) = Unit {0}
+HasRun outcome.InputFault = Unit {0}
+HasRun outcome.OutputFault = Unit {0}
+HasRun other = ⊥
+
+-- The headline: the executable that stands in the folder afterwards does what the source means.
+abbrev pub Headline : List (List ℕ) → World → World → Outcome → Type 0
+Headline words old new result =
+    (name : List ℕ) (statements : List Statement) → IsAsked words old name statements → HasRun result →
+    (bytes : List ℕ) × Holds new.folder (file_of name Executable) bytes × Agrees statements bytes
+
+-- What was written: where the outcome is the program's end, its code is the one that is meant, the output took just
+-- what is meant, and so did the errors.
+pub record IsWritten (statements : List Statement) (code : ℕ) (old new : World) : Type 0 where
+  pub ended : code ≡ (mean statements).code
+  pub output : new.streams.output ≡ append_known old.streams.output (mean statements).out
+  pub errors : new.streams.errors ≡ append_known old.streams.errors (mean statements).err
+
+abbrev pub Written : List (List ℕ) → World → World → Outcome → Type 0
+Written words old new result =
+    (name : List ℕ) (statements : List Statement) (code : ℕ) → IsAsked words old name statements → result ≡ outcome.Program code →
+    IsWritten statements code old new
+
+-- The outcome of a program of literals, but for faults and want of memory, is its end.
+abbrev pub IsFaultOrNoMemory : Outcome → World → World → Type 0
+IsFaultOrNoMemory outcome.InputFault old new = HasRisen old.streams.input_faults new.streams.input_faults
+IsFaultOrNoMemory outcome.OutputFault old new = HasRisen old.streams.output_faults new.streams.output_faults
+IsFaultOrNoMemory outcome.ErrorsFault old new = HasRisen old.streams.errors_faults new.streams.errors_faults
+IsFaultOrNoMemory outcome.FilesFault old new = HasRisen old.files_faults new.files_faults
+IsFaultOrNoMemory outcome.NoMemory old new = Unit {0}
+IsFaultOrNoMemory other old new = ⊥
+
+-- A source of the form gives the program's end, or there was a fault of the object that is named, or no memory.
+abbrev pub Complete : List (List ℕ) → World → World → Outcome → Type 0
+Complete words old new result =
+    (name : List ℕ) (statements : List Statement) → IsAsked words old name statements →
+    (result ≡ outcome.Program (mean statements).code) ⊎ IsFaultOrNoMemory result old new
+
+-- A fault is answered only where the count of the object that is named rose.
+abbrev pub Faults : World → World → Outcome → Type 0
+Faults old new outcome.InputFault = HasRisen old.streams.input_faults new.streams.input_faults
+Faults old new outcome.OutputFault = HasRisen old.streams.output_faults new.streams.output_faults
+Faults old new outcome.ErrorsFault = HasRisen old.streams.errors_faults new.streams.errors_faults
+Faults old new outcome.FilesFault = HasRisen old.files_faults new.files_faults
+Faults old new other = Unit {0}
+
+-- Each refusal of `go` has its cause. It meets no other refusals.
+abbrev pub GoRefused : List (List ℕ) → World → Refusal → Type 0
+GoRefused words old (refusal.MissingFile file) =
+    (name : List ℕ) → IsGo words name → (file ≡ file_of name Source) × ((text : List ℕ) → Holds old.folder file text → ⊥)
+GoRefused words old (refusal.NotInProfile at feature) =
+    (name : List ℕ) → IsGo words name → (at ≡ record { file = file_of name Source; line = 1; column = 1 })
+    × ((text : List ℕ) (statements : List Statement) → Holds old.folder (file_of name Source) text → IsSource text statements → ⊥)
+GoRefused words old other = (name : List ℕ) → IsGo words name → ⊥
+
+-- So has each refusal of `run`, in the files of the program that the words name.
+abbrev pub RunRefused : List (List ℕ) → World → Refusal → Type 0
+RunRefused words old refusal.Usage = (name : List ℕ) (options : RunOptions) → IsRun words name options → ⊥
+RunRefused words old r =
+    (name : List ℕ) (options : RunOptions) → IsRun words name options → IfSome old.folder (λ held. HasNoStart held (outcome.Refused r) name options.buffer)
+
+abbrev pub Refused : List (List ℕ) → World → Outcome → Type 0
+Refused words old (outcome.Refused r) = GoRefused words old r × RunRefused words old r
+Refused words old other = Unit {0}
+
+-- Each cause gives its refusal, or there was a fault of the object that is named, or no memory.
+pub record Refuses (words : List (List ℕ)) (old new : World) (result : Outcome) : Type 0 where
+  pub usage : NamesNone words → (result ≡ outcome.Refused refusal.Usage) ⊎ IsFaultOrNoMemory result old new
+  pub missing : (name : List ℕ) → IsGo words name → Lacks old.folder (file_of name Source) →
+      (result ≡ outcome.Refused (refusal.MissingFile (file_of name Source))) ⊎ IsFaultOrNoMemory result old new
+  pub outside : (name text : List ℕ) → IsGo words name → Holds old.folder (file_of name Source) text → ((statements : List Statement) → IsSource text statements → ⊥) →
+      (result ≡ outcome.Refused (refusal.NotInProfile (record { file = file_of name Source; line = 1; column = 1 }) NotYet)) ⊎ IsFaultOrNoMemory result old new
+  pub absent : (name : List ℕ) (options : RunOptions) → IsRun words name options → Lacks old.folder (file_of name Executable) →
+      (result ≡ outcome.Refused (refusal.MissingFile (file_of name Executable))) ⊎ IsFaultOrNoMemory result old new
+
+-- The last line was written, which an outcome is due, or the errors took a front of it and failed.
+abbrev pub AfterLine : Outcome → Outcome → Option (List ℕ) → Option (List ℕ) → Type 0
+AfterLine result inner before after =
+    ((result ≡ inner) × (after ≡ append_known before (line_of inner))) ⊎ ((result ≡ outcome.ErrorsFault) × TakesPrefix before after (line_of inner))
+
+-- the streams before the last line
+abbrev pub streams_before : World → Option (List ℕ) → ℕ → Outside
+streams_before new errors faults = record new.streams { errors = errors; errors_faults = faults }
+
+-- What `run` did with the files that a folder holds: the program did not begin, or its run came to an end, and the outcome is
+-- that end's; then came the line.
+pub record RunsFiles (held : Folder) (result : Outcome) (name : List ℕ) (options : RunOptions) (old new : World) : Type 0 where
+  pub inner : Outcome
+  pub before : Option (List ℕ)
+  pub before_faults : ℕ
+  pub did : HasNoStart held inner name options.buffer
+      ⊎ ((end : RunEnd) × (inner ≡ outcome_of end) × RunsFrom held end name options old.streams (streams_before new before before_faults))
+  pub line : AfterLine result inner before new.streams.errors
+
+-- Where the words ask for a run and the files tell what they hold, output and errors grew by the run of the program that these
+-- files hold, and the outcome is its end.
+abbrev pub RanFiles : List (List ℕ) → World → World → Outcome → Type 0
+RanFiles words old new result =
+    (name : List ℕ) (options : RunOptions) → IsRun words name options → IfSome old.folder (λ held. RunsFiles held result name options old new)
+
+-- No file changed and nothing was written but the line that the outcome is due.
+pub record WroteItsLine (old new : World) (result : Outcome) : Type 0 where
+  pub folder : new.folder ≡ old.folder
+  pub output : new.streams.output ≡ old.streams.output
+  pub errors : new.streams.errors ≡ append_known old.streams.errors (line_of result)
+
+-- A refused command and one that had no memory did nothing but write their line, and so did `go` where files failed.
+abbrev pub Unchanged : List (List ℕ) → World → World → Outcome → Type 0
+Unchanged words old new (outcome.Refused r) = WroteItsLine old new (outcome.Refused r)
+Unchanged words old new outcome.FilesFault = (name : List ℕ) → IsGo words name → WroteItsLine old new outcome.FilesFault
+Unchanged words old new outcome.NoMemory = WroteItsLine old new outcome.NoMemory
+Unchanged words old new other = Unit {0}
+
+-- Where a source was asked for, the errors took a front of what it means for them, before the line.
+abbrev pub TookErrors : List (List ℕ) → World → Option (List ℕ) → Type 0
+TookErrors words old before = (name : List ℕ) (statements : List Statement) → IsAsked words old name statements → TakesPrefix old.streams.errors before (mean statements).err
+
+-- The errors end with the line that is due.
+abbrev pub EndsWithLine : List (List ℕ) → World → World → Outcome → Type 0
+EndsWithLine words old new outcome.ErrorsFault = Unit {0}
+EndsWithLine words old new result = (before : Option (List ℕ)) × (new.streams.errors ≡ append_known before (line_of result)) × TookErrors words old before
+
+-- What the output took, whatever the outcome: the first of the bytes that are meant.
+abbrev pub Fronts : List (List ℕ) → World → World → Type 0
+Fronts words old new =
+    (name : List ℕ) (statements : List Statement) → IsAsked words old name statements →
+    TakesPrefix old.streams.output new.streams.output (mean statements).out
+
+-- The files afterwards: as they were, also after each run; or with the executable of the source that the words name, as a run without any
+-- fault leaves them.
+pub record Leaves (words : List (List ℕ)) (old new : World) : Type 0 where
+  pub name : List ℕ
+  pub named : IsGo words name
+  pub statements : List Statement
+  pub says : Says old.folder (file_of name Source) statements
+  pub bytes : List ℕ
+  pub agrees : Agrees statements bytes
+  pub written : new.folder ≡ with_known_file old.folder (file_of name Executable) bytes
+
+abbrev pub FilesAfter : List (List ℕ) → World → World → Type 0
+FilesAfter words old new = (new.folder ≡ old.folder) ⊎ Leaves words old new

@@ -1,0 +1,7 @@
+//! Programs that run, over objects in memory. Their bytes were spelled by hand.
+#![tactic(auto)]
+
+#[cfg(test)]
+mod programs;
+#[cfg(test)]
+mod tests;

@@ -1,5 +1,0 @@
-pub mod Joined
-pub mod FileLaws
-pub mod WordLaws
-pub mod RanLaws
-pub mod TurboLaws

@@ -1,6 +1,0 @@
-pub mod Words
-pub mod Files
-pub mod Line
-pub mod World
-pub mod Performs
-pub mod Turbo
