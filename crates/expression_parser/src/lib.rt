@@ -15,6 +15,3 @@ pub use error::ReadError;
 pub use front::{begins, tail};
 pub use lexemes::{identifier, letter, mark, number, skip, text};
 pub use read::{read_arguments, read_designator, read_expression, read_simple};
-
-#[cfg(test)]
-mod tests;

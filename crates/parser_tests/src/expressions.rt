@@ -1,59 +1,10 @@
-use crate::{ReadError, read_expression};
-use lexeme_list::lexemes_of;
-use pascal_grammar::{Adder, Lexeme, Position, Sign};
+use crate::outcome::{lexemes, write_error, write_place};
+use expression_parser::{ReadError, read_expression};
+use pascal_grammar::{Adder, Lexeme, Sign};
 use std::alloc::{AllocError, Global};
 use syntax_tree::{Designator, Expression, Factor, IndexMark, SimpleExpression, Term};
-use tp_lexer::{Text, tokens};
-use type_layout::{Bytes, FileName, Sequence};
 
-fn lexemes(alloc: Global, source: &str) -> Result<Sequence<Lexeme>, AllocError> {
-    let mut texts = Vec::new(alloc);
-    if let Some(name) = FileName::new("a.pas") {
-        let bytes = Bytes::from_slice(alloc, source.as_bytes())?;
-        match texts.push(Text { name, bytes }) {
-            Ok(()) => {}
-            Err(_) => return Err(AllocError),
-        }
-    }
-    if texts.is_empty() {
-        return Err(AllocError);
-    }
-    match tokens(alloc, texts.as_slice(), 0, &[]) {
-        Ok(list) => lexemes_of(alloc, list.as_slice()),
-        Err(_) => Err(AllocError),
-    }
-}
-
-// The place of the lexeme from which so many are left.
-fn write_place(out: &mut String, lexemes: &[Lexeme], left: usize) -> Result<(), AllocError> {
-    if left == 0 || left > lexemes.len() {
-        return out.push_str("end");
-    }
-    let Position { place, .. } = lexemes[lexemes.len() - left].position;
-    let column = place.column;
-    write!(out, "{column}")
-}
-
-fn write_error(out: &mut String, lexemes: &[Lexeme], error: &ReadError) -> Result<(), AllocError> {
-    match error {
-        ReadError::NoMemory => Err(AllocError),
-        ReadError::Syntax(left) => {
-            out.push_str("Syntax ")?;
-            write_place(out, lexemes, *left)
-        }
-        ReadError::LeftOut(omission, left) => {
-            let feature = omission.feature();
-            write!(out, "{feature:?} ")?;
-            write_place(out, lexemes, *left)
-        }
-        ReadError::TooDeep(left) => {
-            out.push_str("TooDeep ")?;
-            write_place(out, lexemes, *left)
-        }
-    }
-}
-
-// The fault and its column, or the column of what stands behind the expression.
+// The fault and its place, or the place of what stands behind the expression.
 fn write_outcome(
     out: &mut String,
     lexemes: &[Lexeme],
@@ -87,29 +38,29 @@ fn places_faults(rt: HostRuntime) {
     let rows = [
         ("a.b[1, 2]^.c(2, x:3) + [] in [1, 3..5]", "to end"),
         ("not (a <> ^B) and nil", "to end"),
-        ("a := b", "to 3"),
-        ("a < b < c", "to 7"),
+        ("a := b", "to 1:3"),
+        ("a < b < c", "to 1:7"),
         ("", "Syntax end"),
         ("(1", "Syntax end"),
-        ("(a:1)", "Syntax 3"),
-        ("[1, ]", "Syntax 5"),
-        ("[1..]", "Syntax 5"),
+        ("(a:1)", "Syntax 1:3"),
+        ("[1, ]", "Syntax 1:5"),
+        ("[1..]", "Syntax 1:5"),
         ("not", "Syntax end"),
         ("a +", "Syntax end"),
-        ("a + + + b", "Syntax 7"),
-        ("- - a", "Syntax 3"),
-        ("a * - - b", "Syntax 7"),
-        ("a[]", "Syntax 3"),
-        ("a[1..2]", "Syntax 4"),
-        ("a[1,]", "Syntax 5"),
-        ("a.1", "Syntax 3"),
-        ("f()", "Syntax 3"),
+        ("a + + + b", "Syntax 1:7"),
+        ("- - a", "Syntax 1:3"),
+        ("a * - - b", "Syntax 1:7"),
+        ("a[]", "Syntax 1:3"),
+        ("a[1..2]", "Syntax 1:4"),
+        ("a[1,]", "Syntax 1:5"),
+        ("a.1", "Syntax 1:3"),
+        ("f()", "Syntax 1:3"),
         ("f(1,", "Syntax end"),
-        ("f(1:)", "Syntax 5"),
-        ("f(1:2:3)", "Syntax 6"),
-        ("^ab", "Syntax 2"),
-        ("in y", "Syntax 1"),
-        ("a + begin", "Syntax 5"),
+        ("f(1:)", "Syntax 1:5"),
+        ("f(1:2:3)", "Syntax 1:6"),
+        ("^ab", "Syntax 1:2"),
+        ("in y", "Syntax 1:1"),
+        ("a + begin", "Syntax 1:5"),
     ];
     for (source, expected) in rows {
         let same = is_read_as(rt.alloc(), source, expected);
@@ -120,12 +71,12 @@ fn places_faults(rt: HostRuntime) {
 #[test]
 fn names_what_is_left_out(rt: HostRuntime) {
     let rows = [
-        ("a / b", "Reals 3"),
-        ("a + 1.5", "Reals 5"),
-        ("@a", "Addresses 1"),
-        ("f(1)^", "Casts 5"),
-        ("f(1).a", "Casts 5"),
-        ("a + f(1)[2]", "Casts 9"),
+        ("a / b", "Reals 1:3"),
+        ("a + 1.5", "Reals 1:5"),
+        ("@a", "Addresses 1:1"),
+        ("f(1)^", "Casts 1:5"),
+        ("f(1).a", "Casts 1:5"),
+        ("a + f(1)[2]", "Casts 1:9"),
     ];
     for (source, expected) in rows {
         let same = is_read_as(rt.alloc(), source, expected);
@@ -164,13 +115,13 @@ fn chain_is_read_as(
 #[test]
 fn limits_open_constructs(rt: HostRuntime) {
     let rows = [
-        (("a", "+a", ""), 200, "TooDeep 402"),
-        (("a", "*a", ""), 200, "TooDeep 402"),
-        (("a", "^", ""), 200, "TooDeep 202"),
-        (("a", ".b", ""), 200, "TooDeep 402"),
-        (("a[1", ",1", "]"), 199, "TooDeep 402"),
-        (("not (not (a", "+a", "))"), 196, "TooDeep 404"),
-        (("f([(a", "*a", ")])"), 197, "TooDeep 400"),
+        (("a", "+a", ""), 200, "TooDeep 1:402"),
+        (("a", "*a", ""), 200, "TooDeep 1:402"),
+        (("a", "^", ""), 200, "TooDeep 1:202"),
+        (("a", ".b", ""), 200, "TooDeep 1:402"),
+        (("a[1", ",1", "]"), 199, "TooDeep 1:402"),
+        (("not (not (a", "+a", "))"), 196, "TooDeep 1:404"),
+        (("f([(a", "*a", ")])"), 197, "TooDeep 1:400"),
     ];
     for (parts, within, expected) in rows {
         let (first, again, _) = parts;
