@@ -1,11 +1,11 @@
 -- How many routines are open, block by block.
-use Rattle.std.proofs.Common.{◌≡◌, ◌⊎◌, inl, inr, ℕ, ◌+◌, ◌-◌, ◌<◌, ◌≤◌, Bool, true, false, cond, nat_lt, List, take, length, get_or, Option, Some, None, option_map, count_by, slice_get, arith, ap, refl, ◌∙◌}
-use Rattle.std.proofs.lemmas.List.Sums.{count_by_more_yes, count_by_more_no, count_by-le-length}
+use Rattle.std.proofs.Common.{◌≡◌, inl, inr, ℕ, ◌+◌, ◌-◌, ◌<◌, ◌≤◌, Bool, true, false, cond, nat_lt, List, take, length, get_or, Option, Some, None, option_map, count_by, slice_get, arith, ap, refl, ◌∙◌}
+use Rattle.std.proofs.lemmas.List.Sums.{count_by_more_yes, count_by_more_no}
 use Rattle.std.proofs.lemmas.Option.{get_or_from_slice_get, slice_get_cases}
 use Rattle.std.proofs.lemmas.Bool.{ltb-true, ltb-false}
 use Rattle.scopes.specs.declared.searches.OpenBlock.{OpenBlock}
 use Rattle.scopes.specs.Environment.{Environment, first_open, block_count, kind_in, kind_of}
-use Rattle.tp_check_expr.specs.Names.{is_of_routine, is_routine, deeper, routine_depth}
+use Rattle.tp_check_expr.specs.Names.{is_routine, deeper}
 
 module _ (blocks : List OpenBlock) (i : ℕ) where
   counted : ℕ

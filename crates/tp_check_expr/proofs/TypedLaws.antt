@@ -1,33 +1,24 @@
 -- Expressions are judged lawfully.
-use Rattle.std.proofs.Common.{◌≡◌, ℕ, not, List, Option, Some, None, Result, Ok, Err, IfOk, IfErr, inl, inr, refl}
+use Rattle.std.proofs.Common.{ℕ, not, List, Option, Some, None}
 use Rattle.type_layout.specs.declared.definitions.TypeId.{TypeId}
 use Rattle.type_layout.specs.declared.definitions.TypeDef.{TypeDef}
 use Rattle.type_layout.specs.declared.texts.Place.{Place}
 use Rattle.syntax_tree.specs.declared.expression.PlacedSign.{PlacedSign}
 use Rattle.typed_tree.specs.declared.expressions.Value.{Value}
 use Rattle.typed_tree.specs.declared.expressions.Value.TheVariants as value
-use Rattle.typed_tree.specs.declared.expressions.Expr.{Expr}
-use Rattle.typed_tree.specs.Expressions.{Expression, Var, view_expr}
+use Rattle.typed_tree.specs.Expressions.{Expression, Var}
 use Rattle.scopes.specs.declared.entries.Entry.{Entry}
 use Rattle.scopes.specs.declared.entries.Entry.TheVariants as entry
 use Rattle.scopes.specs.Environment.{Environment, Meaning, named, member, find}
 use Rattle.tp_lexer.specs.declared.token.Feature.{Feature}
 use Rattle.left_out_names.specs.Names.{feature_of}
-use Rattle.typing_rules.specs.declared.faults.Fault.{Fault}
-use Rattle.typing_rules.specs.declared.faults.Refusal.{Refusal}
-use Rattle.typing_rules.specs.declared.faults.Refusal.TheVariants as refusal
-use Rattle.typing_rules.specs.Faults.{Tells}
-use Rattle.typing_rules.specs.Judgements.{Gives}
 use Rattle.typing_rules.specs.Laws.{Lawful}
-use Rattle.typing_rules.specs.Operators as operator
-use Rattle.typing_rules.specs.Selectors as selector
-use Rattle.typing_rules.proofs.JudgementLaws.{lawful_makes, lawful_refuses, lawful_part, lawful_parts, one_alone, excluded, found, is_typed, is_only, is_fault}
+use Rattle.typing_rules.proofs.JudgementLaws.{lawful_makes, lawful_refuses, lawful_part, lawful_parts}
 use Rattle.typing_rules.proofs.OperatorLaws.{lawful_combined, lawful_signed, lawful_negated}
 use Rattle.typing_rules.proofs.SelectorLaws.{lawful_loaded, lawful_selected, lawful_indexed, lawful_followed}
-use Rattle.tp_check_expr.specs.Trees.{Tree, number, text, control, nil, set, call, signed, negated, combined, name, field, index, followed, of_sign}
+use Rattle.expression_tree.specs.Trees.{Tree, number, text, control, nil, set, call, signed, negated, combined, name, field, index, followed, of_sign}
 use Rattle.tp_check_expr.specs.Names.{named_constant, variable, entered, meant, name_judged}
-use Rattle.tp_check_expr.specs.Typed.{marked, judged, IsTypedAs, FailsAt}
-use Rattle.tp_check_expr.specs.Laws.{AreExact, IsAnswered, answer_of}
+use Rattle.tp_check_expr.specs.Typed.{marked, judged}
 
 module _ (g : Environment) (place : Place) where
   lawful_constant : (ty : TypeId) (v : Value) → Lawful (named_constant g.types.types place ty v)
@@ -61,42 +52,12 @@ lawful g (number place n) = lawful_makes _
 lawful g (text place bytes) = lawful_makes _
 lawful g (control place letter) = lawful_makes _
 lawful g (nil place) = lawful_refuses _
-lawful g (set place) = lawful_refuses _
-lawful g (call place) = lawful_refuses _
+lawful g (set here listed) = lawful_refuses _
+lawful g (call here callee given) = lawful_refuses _
 lawful g (signed mark a) = lawful_part (judged g a) _ (lawful g a) (λ x. lawful_marked g.types.types mark x)
 lawful g (negated place a) = lawful_part (judged g a) _ (lawful g a) (λ x. lawful_negated g.types.types place x)
 lawful g (combined here op a b) = lawful_parts (judged g a) (judged g b) _ (lawful g a) (lawful g b) (λ x y. lawful_combined g.types.types here.place op (not here.switches.b) x y)
-lawful g (name place one) = lawful_name g place one
-lawful g (field place a one) = lawful_part (judged g a) _ (lawful g a) (λ x. lawful_selected g.types.types place x one)
+lawful g (name here one) = lawful_name g here.place one
+lawful g (field here a one) = lawful_part (judged g a) _ (lawful g a) (λ x. lawful_selected g.types.types here.place x one)
 lawful g (index here a i) = lawful_parts (judged g a) (judged g i) _ (lawful g a) (lawful g i) (λ x y. lawful_indexed g.types.types here.place here.switches.r x y)
 lawful g (followed place a) = lawful_part (judged g a) _ (lawful g a) (λ x. lawful_followed g.types.types place x)
-
-pub are_exact : AreExact
-are_exact = record {
-  one = λ g tree e f p q. one_alone _ _ (judged g tree).run (lawful g tree) e f p q;
-  excludes = λ g tree e fault p q. excluded _ _ (judged g tree).run (lawful g tree) e fault p q;
-  suffices = λ g tree n. found _ _ (judged g tree).run (lawful g tree) n;
-}
-
--- ---- what follows for what code answers
-
-module _ (g : Environment) (tree : Tree) where
-  there : (fault : Fault) → (judged g tree).run ≡ Err fault → FailsAt g tree fault
-  there fault e = is_fault view_expr _ _ (judged g tree).run fault e (lawful g tree)
-
-  never : (fault : Fault) → (judged g tree).run ≡ Err fault → (e : Expression) → IsTypedAs g tree e → ⊥
-  never fault r e h = excluded _ _ (judged g tree).run (lawful g tree) e fault h (there fault r)
-
-  pub typed_answer : (found : Result Expr Refusal) → Gives view_expr found (judged g tree).run → IfOk (answer_of found) (λ x. IsTypedAs g tree (view_expr x))
-  typed_answer (Ok x) gives = is_typed view_expr _ _ (Ok x) (judged g tree).run gives (lawful g tree)
-  typed_answer (Err r) gives = tt
-
-  pub complete_answer : (found : Result Expr Refusal) → Gives view_expr found (judged g tree).run → (e : Expression) → IsTypedAs g tree e → IsAnswered e (answer_of found)
-  complete_answer (Ok x) gives e h = let only : Ok e ≡ Ok (view_expr x) = is_only view_expr _ _ (Ok x) (judged g tree).run gives (lawful g tree) e h in cc
-  complete_answer (Err refusal.NoMemory) gives e h = tt
-  complete_answer (Err (refusal.Because fault)) gives e h = absurd (never fault gives e h)
-
-  pub fails_answer : (found : Result Expr Refusal) → Gives view_expr found (judged g tree).run → IfErr (answer_of found) (λ error. Tells (FailsAt g tree) error)
-  fails_answer (Ok x) gives = tt
-  fails_answer (Err refusal.NoMemory) gives = inl refl
-  fails_answer (Err (refusal.Because fault)) gives = inr (fault, refl, there fault gives)

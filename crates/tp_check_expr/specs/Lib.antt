@@ -1,4 +1,3 @@
-pub mod Trees
 pub mod Names
 pub mod Typed
 pub mod Laws

@@ -16,8 +16,7 @@ use Rattle.scopes.specs.Environment.{Environment, Meaning, named, member, find}
 use Rattle.tp_lexer.specs.declared.token.Feature.{Feature}
 use Rattle.left_out_names.specs.Names.{feature_of}
 use Rattle.typing_rules.specs.declared.faults.Rule.TheVariants as rule
-use Rattle.typing_rules.specs.declared.faults.Fault.{Fault}
-use Rattle.typing_rules.specs.Faults.{broken, left_out, not_yet}
+use Rattle.typing_rules.specs.Faults.{broken, not_yet, undeclared}
 use Rattle.typing_rules.specs.Judgements.{Judgement, makes, refuses}
 use Rattle.typing_rules.specs.Wanted.{constant}
 use Rattle.typing_rules.specs.Selectors.{loaded}
@@ -63,14 +62,9 @@ entered g place (entry.Var unit level number ty) = loaded g.types.types place ty
 entered g place (entry.Ty ty) = refuses (broken place rule.Stands)
 entered g place _ = refuses (not_yet place)
 
--- what a name is told as that isn't declared: unknown, or of a feature that is left out
-abbrev pub unknown : Place → Option Feature → Fault
-unknown place None = broken place rule.Declared
-unknown place (Some feature) = left_out place feature
-
 -- members of a `with` and of Self are not built yet
 abbrev pub meant : Environment → Place → Option Feature → Option Meaning → Judgement Expression
-meant g place feature None = refuses (unknown place feature)
+meant g place feature None = refuses (undeclared place feature)
 meant g place feature (Some (named number one)) = entered g place one
 meant g place feature (Some (member number one)) = refuses (not_yet place)
 

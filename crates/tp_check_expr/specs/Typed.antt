@@ -11,7 +11,7 @@ use Rattle.typing_rules.specs.Judgements.{Judgement, makes, refuses, part, parts
 use Rattle.typing_rules.specs.Sorts.{char, string, number_type}
 use Rattle.typing_rules.specs.Operators as operator
 use Rattle.typing_rules.specs.Selectors as selector
-use Rattle.tp_check_expr.specs.Trees.{Tree, number, text, control, nil, set, call, signed, negated, combined, name, field, index, followed, of_sign}
+use Rattle.expression_tree.specs.Trees.{Tree, number, text, control, nil, set, call, signed, negated, combined, name, field, index, followed, of_sign}
 use Rattle.tp_check_expr.specs.Names.{name_judged}
 
 -- a literal number has the first of Integer, Word and LongInt that holds it
@@ -42,13 +42,13 @@ judged g (number place n) = makes (number_constant n)
 judged g (text place bytes) = makes (text_constant bytes)
 judged g (control place letter) = makes (control_constant letter)
 judged g (nil place) = refuses (not_yet place)
-judged g (set place) = refuses (not_yet place)
-judged g (call place) = refuses (not_yet place)
+judged g (set here listed) = refuses (not_yet here.place)
+judged g (call here callee given) = refuses (not_yet here.place)
 judged g (signed mark a) = part (judged g a) (λ x. marked g.types.types mark x)
 judged g (negated place a) = part (judged g a) (λ x. operator.negated g.types.types place x)
 judged g (combined here op a b) = parts (judged g a) (judged g b) (λ x y. operator.combined g.types.types here.place op (not here.switches.b) x y)
-judged g (name place one) = name_judged g place one
-judged g (field place a one) = part (judged g a) (λ x. selector.selected g.types.types place x one)
+judged g (name here one) = name_judged g here.place one
+judged g (field here a one) = part (judged g a) (λ x. selector.selected g.types.types here.place x one)
 judged g (index here a i) = parts (judged g a) (judged g i) (λ x y. selector.indexed g.types.types here.place here.switches.r x y)
 judged g (followed place a) = part (judged g a) (λ x. selector.followed g.types.types place x)
 

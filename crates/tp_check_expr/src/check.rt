@@ -2,26 +2,17 @@
 
 ghost use Rattle.std.specs.Prelude.{◌≡◌, IfOk, IfErr};
 ghost use Rattle.typed_tree.specs.Expressions.{Expression as TypedExpression, view_expr};
-ghost use Rattle.typing_rules.specs.Faults.{Tells};
-ghost use Rattle.tp_check_expr.specs.Trees.{view_expression};
+ghost use Rattle.typing_rules.specs.Faults.{Tells, answer_of, IsAnswered};
+ghost use Rattle.expression_tree.specs.Trees.{view_expression};
 ghost use Rattle.tp_check_expr.specs.Typed.{IsTypedAs, FailsAt};
-ghost use Rattle.tp_check_expr.specs.Laws.{AreExact, IsAnswered, error_for, answer_of};
+ghost use Rattle.tp_check_expr.specs.Laws.{AreExact};
 
 use crate::expressions::judged_expression;
 use scopes::Scope;
 use std::alloc::Global;
 use syntax_tree::Expression;
 use typed_tree::Expr;
-use typing_rules::{CheckError, Refusal, error_of};
-
-fn error_for(refusal: Refusal) -> CheckError
-    ensures { result ≡ error_for refusal }
-{
-    match refusal {
-        Refusal::NoMemory => CheckError::NoMemory,
-        Refusal::Because(fault) => error_of(fault),
-    }
-}
+use typing_rules::{CheckError, Refusal, error_for};
 
 // What users are told.
 fn answered(found: Result<Expr, Refusal>) -> Result<Expr, CheckError>
@@ -39,7 +30,7 @@ pub fn check_expr(alloc: Global, tree: &Expression, scope: &mut Scope) -> Result
     // Every rule holds in the expression, and this is its node.
     ensures typed { IfOk result (λ e. IsTypedAs scope.old (view_expression tree.now) (view_expr e)) }
     // An expression with a node is given it, but for want of memory.
-    ensures complete { (e : TypedExpression) → IsTypedAs scope.old (view_expression tree.now) e → IsAnswered e result }
+    ensures complete { (e : TypedExpression) → IsTypedAs scope.old (view_expression tree.now) e → IsAnswered view_expr e result }
     // What is told of fails there.
     ensures fails { IfErr result (λ error. Tells (FailsAt scope.old (view_expression tree.now)) error) }
     ensures unchanged { scope.new ≡ scope.old }

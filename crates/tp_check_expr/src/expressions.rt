@@ -3,12 +3,13 @@
 ghost use Rattle.std.specs.Prelude.{◌≡◌};
 ghost use Rattle.typed_tree.specs.Expressions.{view_expr};
 ghost use Rattle.typing_rules.specs.Judgements.{Gives};
-ghost use Rattle.tp_check_expr.specs.Trees.{view_expression, view_simple, view_term, view_factor, view_designator};
+ghost use Rattle.expression_tree.specs.Trees.{view_expression, view_simple, view_term, view_factor, view_designator};
 ghost use Rattle.tp_check_expr.specs.Typed.{judged};
 
 use crate::constants::{control_constant, number_constant, text_constant};
 use crate::names::named;
-use crate::operations::{begins, combined, marked, of_adder, of_multiplier, of_relator};
+use crate::operations::{combined, marked};
+use expression_tree::{begins, of_adder, of_multiplier, of_relator};
 use scopes::Scope;
 use std::alloc::Global;
 use syntax_tree::{Designator, Expression, Factor, SimpleExpression, Term};
@@ -123,7 +124,7 @@ fn judged_factor(alloc: Global, tree: &Factor, scope: &Scope) -> Result<Expr, Re
         }
         Factor::Group { inner, .. } => judged_expression(alloc, inner, scope),
         Factor::Designator(one) => judged_designator(alloc, one, scope),
-        Factor::Call { callee, .. } => Err(Refusal::Because(not_yet(begins(callee)))),
+        Factor::Call { callee, .. } => Err(Refusal::Because(not_yet(begins(callee).place))),
     }
 }
 

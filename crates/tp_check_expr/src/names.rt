@@ -3,15 +3,14 @@
 ghost use Rattle.std.specs.Prelude.{◌≡◌, ◌+◌, ◌<◌, ◌≤◌, option_copied};
 ghost use Rattle.typed_tree.specs.Expressions.{view_expr};
 ghost use Rattle.typing_rules.specs.Judgements.{Gives};
-ghost use Rattle.tp_check_expr.specs.Names.{is_of_routine, deeper, routine_depth, level_from, variable, named_constant, entered, unknown, name_judged};
+ghost use Rattle.tp_check_expr.specs.Names.{is_of_routine, deeper, routine_depth, level_from, variable, named_constant, entered, name_judged};
 
 use left_out_names::feature_of;
 use scopes::{BlockKind, Entry, Found, Scope};
 use std::alloc::Global;
-use tp_lexer::Feature;
 use type_layout::{Name, Place, TypeId, Types};
 use typed_tree::{Expr, PlaceExpr, Value, Variable};
-use typing_rules::{Fault, Refusal, Rule, broken, constant, left_out, loaded, not_yet};
+use typing_rules::{Refusal, Rule, broken, constant, loaded, not_yet, undeclared};
 
 fn is_of_routine(kind: &BlockKind) -> bool
     ensures { result ≡ is_of_routine kind.now }
@@ -104,16 +103,6 @@ fn entered(alloc: Global, scope: &Scope, place: Place, entry: &Entry) -> Result<
     }
 }
 
-// What a name is told as that isn't declared.
-fn unknown(place: Place, feature: Option<Feature>) -> Fault
-    ensures { result ≡ unknown place feature }
-{
-    match feature {
-        Some(feature) => left_out(place, feature),
-        None => broken(place, Rule::Declared),
-    }
-}
-
 /// The node of a name at a place.
 #[tactic(auto, unfolding(crate::specs::Names::name_judged))]
 pub(crate) fn named(
@@ -125,7 +114,7 @@ pub(crate) fn named(
     ensures { Gives view_expr result (name_judged scope.now place name.now).run }
 {
     match scope.find(name) {
-        None => Err(Refusal::Because(unknown(place, feature_of(name)))),
+        None => Err(Refusal::Because(undeclared(place, feature_of(name)))),
         Some(Found::Named { entry, .. }) => entered(alloc, scope, place, entry),
         Some(Found::Member { .. }) => Err(Refusal::Because(not_yet(place))),
     }

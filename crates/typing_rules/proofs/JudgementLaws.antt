@@ -1,10 +1,11 @@
 -- What is read is what holds, and what is refused is what fails.
-use Rattle.std.proofs.Common.{◌≡◌, ◌⊎◌, Bool, true, false, cond, Result, Ok, Err, Decides, refl, subst, IfOk}
+use Rattle.std.proofs.Common.{◌≡◌, ◌⊎◌, inl, inr, Bool, true, false, cond, Result, Ok, Err, Decides, refl, subst, IfOk, IfErr}
 use Rattle.typing_rules.specs.declared.faults.Fault.{Fault}
 use Rattle.typing_rules.specs.declared.faults.Refusal.{Refusal}
 use Rattle.typing_rules.specs.declared.faults.Refusal.TheVariants as refusal
 use Rattle.typing_rules.specs.Judgements.{◌>>=◌, Judgement, makes, refuses, rule, Meets, Breaks, either, part, parts, Both, FailsBoth, on_left, on_right, joint, Through, FailsThrough, inside, here, Gives}
-use Rattle.typing_rules.specs.Laws.{Found, Refused, Agrees, Lawful}
+use Rattle.typing_rules.specs.Faults.{Tells, answer_of, IsAnswered}
+use Rattle.typing_rules.specs.Laws.{Found, Refused, Agrees, Lawful, IsExact}
 
 pub lawful_makes : {C : Type 0} (c : C) → Lawful (makes c)
 lawful_makes c = record { holds = refl; only = λ o h. h; fine = λ f h. h }
@@ -135,3 +136,33 @@ module _ {C : Type 0} (P : C → Type 0) (F : Fault → Type 0) where
   pub one_alone : (z : Result C Fault) → Agrees z P F → (c d : C) → P c → P d → c ≡ d
   one_alone (Ok a) m c d p q = let e : c ≡ a = m.only c p in let h : d ≡ a = m.only d q in cc
   one_alone (Err f) m c d p q = absurd (m.none c p)
+
+-- ---- what follows of judgements of trees, and for what users are told
+
+pub exact : {T C : Type 0} (j : T → Judgement C) → ((t : T) → Lawful (j t)) → IsExact j
+exact j m = record {
+  one = λ t c d p q. one_alone _ _ (j t).run (m t) c d p q;
+  excludes = λ t c f p q. excluded _ _ (j t).run (m t) c f p q;
+  suffices = λ t n. found _ _ (j t).run (m t) n;
+}
+
+module _ {X C : Type 0} (view : X → C) (j : Judgement C) (m : Lawful j) where
+  there : (fault : Fault) → j.run ≡ Err fault → j.fails fault
+  there fault e = is_fault view _ _ j.run fault e m
+
+  never : (fault : Fault) → j.run ≡ Err fault → (c : C) → j.holds c → ⊥
+  never fault r c h = excluded _ _ j.run m c fault h (there fault r)
+
+  pub typed_answer : (answer : Result X Refusal) → Gives view answer j.run → IfOk (answer_of answer) (λ x. j.holds (view x))
+  typed_answer (Ok x) gives = is_typed view _ _ (Ok x) j.run gives m
+  typed_answer (Err r) gives = tt
+
+  pub complete_answer : (answer : Result X Refusal) → Gives view answer j.run → (c : C) → j.holds c → IsAnswered view c (answer_of answer)
+  complete_answer (Ok x) gives c h = let only : Ok c ≡ Ok (view x) = is_only view _ _ (Ok x) j.run gives m c h in cc
+  complete_answer (Err refusal.NoMemory) gives c h = tt
+  complete_answer (Err (refusal.Because fault)) gives c h = absurd (never fault gives c h)
+
+  pub fails_answer : (answer : Result X Refusal) → Gives view answer j.run → IfErr (answer_of answer) (λ error. Tells j.fails error)
+  fails_answer (Ok x) gives = tt
+  fails_answer (Err refusal.NoMemory) gives = inl refl
+  fails_answer (Err (refusal.Because fault)) gives = inr (fault, refl, there fault gives)

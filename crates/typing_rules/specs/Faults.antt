@@ -1,5 +1,5 @@
 -- What users are told of a fault.
-use Rattle.std.specs.Prelude.{◌≡◌, ◌⊎◌, ℕ}
+use Rattle.std.specs.Prelude.{◌≡◌, ◌⊎◌, ℕ, Option, Some, None, Result, Ok, Err}
 use Rattle.type_layout.specs.declared.texts.Place.{Place}
 use Rattle.tp_lexer.specs.declared.token.Feature.{Feature}
 use Rattle.tp_lexer.specs.declared.token.Feature.TheVariants as feature
@@ -8,27 +8,47 @@ use Rattle.typing_rules.specs.declared.faults.Rule.TheVariants as rule
 use Rattle.typing_rules.specs.declared.faults.Cause.{Cause}
 use Rattle.typing_rules.specs.declared.faults.Cause.TheVariants as cause
 use Rattle.typing_rules.specs.declared.faults.Fault.{Fault}
+use Rattle.typing_rules.specs.declared.faults.Refusal.{Refusal}
+use Rattle.typing_rules.specs.declared.faults.Refusal.TheVariants as refusal
 use Rattle.typing_rules.specs.declared.faults.CheckError.{CheckError}
-use Rattle.typing_rules.specs.declared.faults.CheckError.TheVariants.{NoMemory, UnknownName, TypeMismatch, BadCall, NotInProfile}
+use Rattle.typing_rules.specs.declared.faults.CheckError.TheVariants.{NoMemory, UnknownName, TypeMismatch, NotAVariable, BadConstant, BadCall, NotInProfile}
 
 -- the numbers of the rules
 abbrev pub number_of : Rule → ℕ
 number_of rule.Declared = 1
+number_of rule.Constant = 3
 number_of rule.Arithmetic = 10
 number_of rule.Logic = 11
 number_of rule.Joined = 12
 number_of rule.Compared = 13
 number_of rule.Membership = 14
+number_of rule.Listed = 15
 number_of rule.Indexed = 16
 number_of rule.Selected = 17
 number_of rule.Dereferenced = 18
+number_of rule.Called = 19
 number_of rule.Stands = 20
 number_of rule.Assigned = 21
+number_of rule.Conditional = 22
+number_of rule.Counted = 23
+number_of rule.Labelled = 24
+number_of rule.Opened = 25
+number_of rule.Written = 26
+number_of rule.Read = 27
+number_of rule.Target = 28
+number_of rule.RoutineValue = 32
 
 abbrev pub broken_error : Place → Rule → CheckError
 broken_error place rule.Declared = UnknownName place (number_of rule.Declared)
 broken_error place rule.Selected = UnknownName place (number_of rule.Selected)
+broken_error place rule.Constant = BadConstant place (number_of rule.Constant)
+broken_error place rule.Labelled = BadConstant place (number_of rule.Labelled)
+broken_error place rule.Counted = NotAVariable place (number_of rule.Counted)
+broken_error place rule.Read = NotAVariable place (number_of rule.Read)
+broken_error place rule.Target = NotAVariable place (number_of rule.Target)
+broken_error place rule.Called = BadCall place (number_of rule.Called)
 broken_error place rule.Stands = BadCall place (number_of rule.Stands)
+broken_error place rule.RoutineValue = BadCall place (number_of rule.RoutineValue)
 broken_error place broken = TypeMismatch place (number_of broken)
 
 abbrev pub error_by : Place → Cause → CheckError
@@ -37,6 +57,21 @@ error_by place (cause.LeftOut feature) = NotInProfile place feature
 
 abbrev pub error_of : Fault → CheckError
 error_of fault = error_by fault.place fault.cause
+
+-- what users are told in place of a refusal
+abbrev pub error_for : Refusal → CheckError
+error_for refusal.NoMemory = NoMemory
+error_for (refusal.Because fault) = error_of fault
+
+abbrev pub answer_of : {X : Type 0} → Result X Refusal → Result X CheckError
+answer_of (Ok x) = Ok x
+answer_of (Err r) = Err (error_for r)
+
+-- this is what was answered, without where it lies in memory; but for want of memory
+abbrev pub IsAnswered : {X C : Type 0} → (X → C) → C → Result X CheckError → Type 0
+IsAnswered view c (Ok x) = view x ≡ c
+IsAnswered view c (Err NoMemory) = Unit {0}
+IsAnswered view c (Err _) = ⊥
 
 -- a construct that breaks a rule; one of a feature that is left out; one whose form is not built yet
 abbrev pub broken : Place → Rule → Fault
@@ -47,6 +82,11 @@ left_out place one = record { place = place; cause = cause.LeftOut one }
 
 abbrev pub not_yet : Place → Fault
 not_yet place = left_out place feature.NotYet
+
+-- what a name is told as that isn't declared: unknown, or of a feature that is left out
+abbrev pub undeclared : Place → Option Feature → Fault
+undeclared place None = broken place rule.Declared
+undeclared place (Some one) = left_out place one
 
 -- an error tells of a fault that is there, or of want of memory
 abbrev pub Tells : (Fault → Type 0) → CheckError → Type 0

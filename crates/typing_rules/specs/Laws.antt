@@ -30,6 +30,12 @@ Agrees (Err f) P F = Refused P F f
 abbrev pub Lawful : {C : Type 0} → Judgement C → Type 0
 Lawful j = Agrees j.run j.holds j.fails
 
+-- Of every tree at most one thing holds; where one holds nothing fails; and where nothing fails, one holds.
+pub record IsExact {T C : Type 0} (j : T → Judgement C) : Type 0 where
+  pub one : (t : T) (c d : C) → (j t).holds c → (j t).holds d → c ≡ d
+  pub excludes : (t : T) (c : C) (f : Fault) → (j t).holds c → (j t).fails f → ⊥
+  pub suffices : (t : T) → ((f : Fault) → (j t).fails f → ⊥) → (c : C) × (j t).holds c
+
 -- the judgements of operators, selectors and assigned values are lawful
 pub record AreLawful : Type 0 where
   pub combined : (types : List TypeDef) (place : Place) (op : BinaryOp) (early : Bool) (a b : Expression) → Lawful (combined types place op early a b)

@@ -19,7 +19,8 @@ fn is_string(sort: Sort) -> bool
     matches!(sort, Sort::Text)
 }
 
-fn is_of_type(ty: TypeId, own: Option<TypeId>) -> bool
+/// Whether this is the type.
+pub fn is_of_type(ty: TypeId, own: Option<TypeId>) -> bool
     ensures { result ≡ is_of_type ty own }
 {
     match own {
@@ -28,7 +29,8 @@ fn is_of_type(ty: TypeId, own: Option<TypeId>) -> bool
     }
 }
 
-fn is_assignable(target: Sort, sort: Sort, ty: TypeId, own: Option<TypeId>) -> bool
+/// Whether a value may be assigned to a target: an ordinal of its host, a text to a string, or a value of the same type.
+pub fn is_assignable(target: Sort, sort: Sort, ty: TypeId, own: Option<TypeId>) -> bool
     ensures { result ≡ is_assignable target sort ty own }
 {
     are_of_one_host(target, sort) || is_string(target) && is_text(sort) || is_of_type(ty, own)
@@ -122,7 +124,8 @@ fn stored_in(
     }
 }
 
-fn assigned_by(
+/// The node of a value that is assigned to a target of a type with this definition.
+pub fn assigned_by(
     alloc: Global,
     ty: TypeId,
     one: Option<&TypeDef>,

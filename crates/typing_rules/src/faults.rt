@@ -1,7 +1,7 @@
 //! Why a source is not typed.
 
 ghost use Rattle.std.specs.Prelude.{◌≡◌};
-ghost use Rattle.typing_rules.specs.Faults.{number_of, error_of, broken, left_out, not_yet};
+ghost use Rattle.typing_rules.specs.Faults.{number_of, error_of, error_for, broken, left_out, not_yet, undeclared};
 ghost use Rattle.typing_rules.specs.declared.faults.Refusal.TheVariants.{NoMemory};
 
 use std::alloc::{AllocError, AllocFailed};
@@ -13,6 +13,8 @@ use type_layout::Place;
 pub enum Rule {
     /// A name that is used is declared.
     Declared,
+    /// A declared constant, a bound or a label is a constant expression, and no divisor in it is 0.
+    Constant,
     /// Arithmetic and shifts have integers.
     Arithmetic,
     /// `and`, `or`, `xor` and `not` have integers or Booleans.
@@ -23,16 +25,36 @@ pub enum Rule {
     Compared,
     /// `in` has an ordinal and a set of its host.
     Membership,
+    /// What a set constructor lists is of one host, and its constants lie in 0..255.
+    Listed,
     /// An index stands behind an array and has the host of its index type.
     Indexed,
     /// A field that is selected is there.
     Selected,
     /// `^` follows a pointer.
     Dereferenced,
+    /// A call has an argument for each parameter, and each fits its own.
+    Called,
     /// A name of a type, a procedure or a function stands where its kind may.
     Stands,
     /// What is assigned joins its target.
     Assigned,
+    /// A condition is Boolean.
+    Conditional,
+    /// A `for` counts by an ordinal variable of this block or of the unit.
+    Counted,
+    /// A `case` selects by an ordinal, and its labels are of that host and distinct.
+    Labelled,
+    /// A `with` opens records and objects.
+    Opened,
+    /// What is written is an integer, a Char, a string or a Boolean, and widths are integers.
+    Written,
+    /// What is read is a variable of an integer type, a Char or a string.
+    Read,
+    /// What is assigned to is a variable, or a function within its body.
+    Target,
+    /// A procedural value is a far routine of the sources that is not nested and no method.
+    RoutineValue,
 }
 
 /// What is wrong with a construct: it breaks a rule, or it is of what this profile leaves out.
@@ -62,6 +84,8 @@ pub enum CheckError {
     NoMemory,
     UnknownName { place: Place, rule: u16 },
     TypeMismatch { place: Place, rule: u16 },
+    NotAVariable { place: Place, rule: u16 },
+    BadConstant { place: Place, rule: u16 },
     BadCall { place: Place, rule: u16 },
     NotInProfile { place: Place, feature: Feature },
 }
@@ -89,16 +113,27 @@ impl Rule {
     {
         match self {
             Rule::Declared => 1,
+            Rule::Constant => 3,
             Rule::Arithmetic => 10,
             Rule::Logic => 11,
             Rule::Joined => 12,
             Rule::Compared => 13,
             Rule::Membership => 14,
+            Rule::Listed => 15,
             Rule::Indexed => 16,
             Rule::Selected => 17,
             Rule::Dereferenced => 18,
+            Rule::Called => 19,
             Rule::Stands => 20,
             Rule::Assigned => 21,
+            Rule::Conditional => 22,
+            Rule::Counted => 23,
+            Rule::Labelled => 24,
+            Rule::Opened => 25,
+            Rule::Written => 26,
+            Rule::Read => 27,
+            Rule::Target => 28,
+            Rule::RoutineValue => 32,
         }
     }
 }
@@ -115,7 +150,15 @@ pub fn error_of(fault: Fault) -> CheckError
                 place,
                 rule: rule.number(),
             },
-            Rule::Stands => CheckError::BadCall {
+            Rule::Constant | Rule::Labelled => CheckError::BadConstant {
+                place,
+                rule: rule.number(),
+            },
+            Rule::Counted | Rule::Read | Rule::Target => CheckError::NotAVariable {
+                place,
+                rule: rule.number(),
+            },
+            Rule::Called | Rule::Stands | Rule::RoutineValue => CheckError::BadCall {
                 place,
                 rule: rule.number(),
             },
@@ -124,6 +167,16 @@ pub fn error_of(fault: Fault) -> CheckError
                 rule: rule.number(),
             },
         },
+    }
+}
+
+/// What users are told in place of a refusal.
+pub fn error_for(refusal: Refusal) -> CheckError
+    ensures { result ≡ error_for refusal }
+{
+    match refusal {
+        Refusal::NoMemory => CheckError::NoMemory,
+        Refusal::Because(fault) => error_of(fault),
     }
 }
 
@@ -152,4 +205,14 @@ pub fn not_yet(place: Place) -> Fault
     ensures { result ≡ not_yet place }
 {
     left_out(place, Feature::NotYet)
+}
+
+/// What a name at a place is told as that isn't declared: unknown, or of a feature that is left out.
+pub fn undeclared(place: Place, feature: Option<Feature>) -> Fault
+    ensures { result ≡ undeclared place feature }
+{
+    match feature {
+        Some(feature) => left_out(place, feature),
+        None => broken(place, Rule::Declared),
+    }
 }

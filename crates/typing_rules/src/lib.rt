@@ -10,11 +10,19 @@ mod selectors;
 mod sorts;
 mod wanting;
 
-pub use assignments::assigned;
-pub use faults::{Cause, CheckError, Fault, Refusal, Rule, broken, error_of, left_out, not_yet};
+pub use assignments::{assigned, assigned_by, is_assignable, is_of_type};
+pub use faults::{
+    Cause, CheckError, Fault, Refusal, Rule, broken, error_for, error_of, left_out, not_yet,
+    undeclared,
+};
 pub use laws::rule_laws;
-pub use operators::{combined, negated, signed};
-pub use plans::{Operation, Plan};
+pub use operators::{combined, negated, sign_value, signed};
+pub use plans::{
+    Operation, Plan, allows, allows_not, are_of_one_host, is_boolean, is_integer, is_text,
+    operation_of, rule_of, turned,
+};
 pub use selectors::{followed, indexed, loaded, selected};
-pub use sorts::{Range, Sort, number_type, sort_of};
-pub use wanting::{constant, wanted};
+pub use sorts::{
+    Range, Sort, definition, holding_type, number_type, sort_of, sort_of_type, type_of,
+};
+pub use wanting::{as_text, constant, converted, predefined, stored_of_type, wanted};

@@ -73,7 +73,8 @@ fn negative(number: i32) -> i32
     if number == i32::MIN { number } else { -number }
 }
 
-fn sign_value(op: UnaryOp, number: i32) -> i32
+/// What a sign makes of a number, on 32 bits.
+pub fn sign_value(op: UnaryOp, number: i32) -> i32
     ensures { result ≡ sign_value op number }
 {
     match op {

@@ -30,7 +30,7 @@ pub struct Plan {
 }
 
 /// The rule that an operator is under.
-pub(crate) fn operation_of(op: BinaryOp) -> Operation
+pub fn operation_of(op: BinaryOp) -> Operation
     ensures { result ≡ operation_of op }
 {
     match op {
@@ -50,27 +50,28 @@ pub(crate) fn operation_of(op: BinaryOp) -> Operation
 }
 
 /// Whether it is an integer.
-pub(crate) fn is_integer(sort: Sort) -> bool
+pub fn is_integer(sort: Sort) -> bool
     ensures { result ≡ is_integer sort }
 {
     matches!(sort, Sort::Integer(_))
 }
 
-fn is_boolean(sort: Sort) -> bool
+/// Whether it is a Boolean.
+pub fn is_boolean(sort: Sort) -> bool
     ensures { result ≡ is_boolean sort }
 {
     matches!(sort, Sort::Boolean)
 }
 
 /// Whether it is a string or a Char, which stands as one.
-pub(crate) fn is_text(sort: Sort) -> bool
+pub fn is_text(sort: Sort) -> bool
     ensures { result ≡ is_text sort }
 {
     matches!(sort, Sort::Text | Sort::Char)
 }
 
 /// Whether two are ordinals of one host.
-pub(crate) fn are_of_one_host(left: Sort, right: Sort) -> bool
+pub fn are_of_one_host(left: Sort, right: Sort) -> bool
     ensures { result ≡ are_of_one_host left right }
 {
     match (left, right) {
@@ -101,7 +102,7 @@ fn are_texts(left: Sort, right: Sort) -> bool
 }
 
 /// Whether an operator's rule holds of two operands.
-pub(crate) fn allows(operation: Operation, left: Sort, right: Sort) -> bool
+pub fn allows(operation: Operation, left: Sort, right: Sort) -> bool
     ensures { result ≡ allows operation left right }
 {
     match operation {
@@ -114,7 +115,7 @@ pub(crate) fn allows(operation: Operation, left: Sort, right: Sort) -> bool
 }
 
 /// Whether the rule on `not` holds of an operand.
-pub(crate) fn allows_not(sort: Sort) -> bool
+pub fn allows_not(sort: Sort) -> bool
     ensures { result ≡ allows_not sort }
 {
     is_integer(sort) || is_boolean(sort)
@@ -131,7 +132,7 @@ fn sum_rule(left: Sort, right: Sort) -> Rule
 }
 
 /// The rule that is broken where an operator's rule doesn't hold.
-pub(crate) fn rule_of(operation: Operation, left: Sort, right: Sort) -> Rule
+pub fn rule_of(operation: Operation, left: Sort, right: Sort) -> Rule
     ensures { result ≡ rule_of operation left right }
 {
     match operation {
@@ -217,7 +218,7 @@ pub(crate) fn plan_of(operation: Operation, left: Sort, right: Sort) -> Plan
 }
 
 /// The type of a sign's or a `not`'s result, in which the operand is wanted too.
-pub(crate) fn turned(sort: Sort) -> TypeId
+pub fn turned(sort: Sort) -> TypeId
     ensures { result ≡ turned sort }
 {
     match sort {

@@ -55,7 +55,7 @@ fn is_within(stored: Host, range: Range) -> bool
 }
 
 /// The first of Integer, Word and LongInt that holds the range.
-pub(crate) fn holding_type(range: Range) -> TypeId
+pub fn holding_type(range: Range) -> TypeId
     ensures { result ≡ holding_type range }
 {
     if is_within(Host::Integer, range) {
@@ -99,7 +99,7 @@ fn sort_stored(ty: TypeId, stored: Host) -> Sort
 }
 
 /// The type with this id, if the table has it.
-pub(crate) fn definition(types: &Types, ty: TypeId) -> Option<&TypeDef>
+pub fn definition(types: &Types, ty: TypeId) -> Option<&TypeDef>
     ensures { option_copied result ≡ definition types.now.types ty }
 {
     if ty.0 < types.count() {
@@ -122,7 +122,7 @@ fn sort_by(ty: TypeId, one: &TypeDef) -> Sort
 }
 
 /// What the values of a type are.
-pub(crate) fn sort_of_type(types: &Types, ty: TypeId) -> Sort
+pub fn sort_of_type(types: &Types, ty: TypeId) -> Sort
     ensures { result ≡ sort_of_type types.now.types ty }
 {
     match definition(types, ty) {
@@ -150,7 +150,7 @@ fn sort_of_constant(types: &Types, ty: TypeId, value: &Value) -> Sort
 }
 
 /// The type of an expression, which a call of a procedure does not have.
-pub(crate) fn type_of(expr: &Expr) -> Option<TypeId>
+pub fn type_of(expr: &Expr) -> Option<TypeId>
     ensures { result ≡ type_of (view_expr expr.now) }
 {
     match expr {

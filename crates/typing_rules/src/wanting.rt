@@ -12,8 +12,8 @@ use std::alloc::Global;
 use type_layout::{Bytes, Host, TypeDef, TypeId, Types, storage_of};
 use typed_tree::{Expr, Value};
 
-// The predefined type of a host; of an enumeration, the type itself.
-fn predefined(stored: Host, ty: TypeId) -> TypeId
+/// The predefined type of a host; of an enumeration, the type itself.
+pub fn predefined(stored: Host, ty: TypeId) -> TypeId
     ensures { result ≡ predefined stored ty }
 {
     match stored {
@@ -29,7 +29,7 @@ fn predefined(stored: Host, ty: TypeId) -> TypeId
 }
 
 /// How the values of a type are stored, if they are ordinals.
-pub(crate) fn stored_of_type(types: &Types, ty: Option<TypeId>) -> Option<Host>
+pub fn stored_of_type(types: &Types, ty: Option<TypeId>) -> Option<Host>
     ensures { result ≡ stored_of_type types.now.types ty }
 {
     match definition(types, ty?) {
@@ -48,7 +48,7 @@ fn convert(alloc: Global, ty: TypeId, operand: Expr) -> Result<Expr, Refusal>
 }
 
 /// An ordinal by the low bytes of another predefined type, where it is stored in another.
-pub(crate) fn converted(
+pub fn converted(
     alloc: Global,
     ty: TypeId,
     wanted: Host,
@@ -85,7 +85,7 @@ fn as_ordinal(
 }
 
 /// A Char as a string.
-pub(crate) fn as_text(alloc: Global, stored: Option<Host>, expr: Expr) -> Result<Expr, Refusal>
+pub fn as_text(alloc: Global, stored: Option<Host>, expr: Expr) -> Result<Expr, Refusal>
     ensures { Gives view_expr result (Ok (as_text stored (view_expr expr))) }
 {
     if stored != Some(Host::Char) {

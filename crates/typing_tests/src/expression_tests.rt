@@ -1,12 +1,12 @@
 //! The nodes of small expressions, and what they are refused for, worked out by hand.
 
-use crate::check_expr;
 use crate::samples::{
     Operand, Operator, combined, element, factor, field, negated, scope, signed, simple, target,
 };
 use pascal_grammar::{Adder, Multiplier, Relator, Sign};
 use std::alloc::{AllocError, Global};
 use syntax_tree::Expression;
+use tp_check_expr::check_expr;
 use typed_tree::{Expr, PlaceExpr, Value};
 use typing_rules::CheckError;
 
@@ -49,6 +49,8 @@ fn outcome(answer: &Result<Expr, CheckError>) -> Told {
         Err(CheckError::NoMemory) => Told::Memory,
         Err(CheckError::UnknownName { place, rule })
         | Err(CheckError::TypeMismatch { place, rule })
+        | Err(CheckError::NotAVariable { place, rule })
+        | Err(CheckError::BadConstant { place, rule })
         | Err(CheckError::BadCall { place, rule }) => Told::Refused(*rule, place.column),
         Err(CheckError::NotInProfile { place, .. }) => Told::Refused(0, place.column),
     }

@@ -1,5 +1,5 @@
 -- Expressions as operators and operands: the levels of the grammar, parentheses and where nodes lie in memory are left out.
-use Rattle.std.specs.Prelude.{ℕ, ℤ, List, Option, Some, None}
+use Rattle.std.specs.Prelude.{ℕ, ℤ, List, [], ◌∷◌, Option, Some}
 use Rattle.type_layout.specs.declared.texts.Place.{Place}
 use Rattle.pascal_grammar.specs.declared.lexeme.Position.{Position}
 use Rattle.pascal_grammar.specs.declared.operator.Relator.{Relator}
@@ -17,8 +17,12 @@ use Rattle.syntax_tree.specs.declared.expression.SimpleExpression.{SimpleExpress
 use Rattle.syntax_tree.specs.declared.expression.SimpleExpression.TheVariants as s
 use Rattle.syntax_tree.specs.declared.expression.Term.{Term}
 use Rattle.syntax_tree.specs.declared.expression.Term.TheVariants as t
-use Rattle.syntax_tree.specs.declared.expression.Factor.{Factor}
+use Rattle.syntax_tree.specs.declared.expression.Factor.{Factor, Row_of-Element, end_of-Element, more_of-Element, Row_of-Argument, end_of-Argument, more_of-Argument}
 use Rattle.syntax_tree.specs.declared.expression.Factor.TheVariants as f
+use Rattle.syntax_tree.specs.declared.expression.Element.{Element}
+use Rattle.syntax_tree.specs.declared.expression.Element.TheVariants as x
+use Rattle.syntax_tree.specs.declared.expression.Argument.{Argument}
+use Rattle.syntax_tree.specs.declared.expression.Argument.TheVariants as a
 use Rattle.syntax_tree.specs.declared.expression.Designator.{Designator}
 use Rattle.syntax_tree.specs.declared.expression.Designator.TheVariants as d
 use Rattle.typed_tree.specs.declared.expressions.UnaryOp.{UnaryOp}
@@ -26,23 +30,41 @@ use Rattle.typed_tree.specs.declared.expressions.UnaryOp.TheVariants as unary
 use Rattle.typed_tree.specs.declared.expressions.BinaryOp.{BinaryOp}
 use Rattle.typed_tree.specs.declared.expressions.BinaryOp.TheVariants as binary
 
--- Each with its place: that of its first lexeme, of an operator or a selector that lexeme's own. An operator and an index come
--- with the switches that hold there. Before an operand a sign may stand. Nothing is kept of set constructors and calls, which
--- are not built yet.
-pub data Tree : Type 0 where
-  number : Place → ℤ → Tree
-  text : Place → List ℕ → Tree
-  control : Place → List ℕ → Tree
-  nil : Place → Tree
-  set : Place → Tree
-  call : Place → Tree
-  signed : Option PlacedSign → Tree → Tree
-  negated : Place → Tree → Tree
-  combined : Position → BinaryOp → Tree → Tree → Tree
-  name : Place → List ℕ → Tree
-  field : Place → Tree → List ℕ → Tree
-  index : Position → Tree → Tree → Tree
-  followed : Place → Tree → Tree
+mutual
+  -- Each with its place: that of its first lexeme, of an operator or a selector that lexeme's own. Those whose nodes may
+  -- depend on switches come with the ones that hold there. Before an operand a sign may stand.
+  pub data Tree : Type 0 where
+    number : Place → ℤ → Tree
+    text : Place → List ℕ → Tree
+    control : Place → List ℕ → Tree
+    nil : Place → Tree
+    set : Position → Elements → Tree
+    call : Position → Tree → Operands → Tree
+    signed : Option PlacedSign → Tree → Tree
+    negated : Place → Tree → Tree
+    combined : Position → BinaryOp → Tree → Tree → Tree
+    name : Position → List ℕ → Tree
+    field : Position → Tree → List ℕ → Tree
+    index : Position → Tree → Tree → Tree
+    followed : Place → Tree → Tree
+
+  -- what a set constructor lists: one, or all from one to another
+  pub data Listed : Type 0 where
+    single : Tree → Listed
+    span : Tree → Tree → Listed
+
+  pub data Elements : Type 0 where
+    no_elements : Elements
+    and_element : Listed → Elements → Elements
+
+  -- an argument, alone or with a width
+  pub data Operand : Type 0 where
+    plain : Tree → Operand
+    wide : Tree → Tree → Operand
+
+  pub data Operands : Type 0 where
+    no_operands : Operands
+    and_operand : Operand → Operands → Operands
 
 -- ---- operators
 
@@ -76,8 +98,8 @@ of_sign sign.Minus = unary.Minus
 -- ---- trees
 
 -- where a designator begins
-abbrev pub begins : Designator → Place
-begins (d.Name i) = i.position.place
+abbrev pub begins : Designator → Position
+begins (d.Name i) = i.position
 begins (d.Field' p o here i) = begins o
 begins (d.Index' p o mark here q i) = begins o
 begins (d.Dereference' p o here) = begins o
@@ -103,12 +125,38 @@ abbrev mutual
   view_factor (f.Nil here) = nil here.place
   view_factor (f.Negation' here p operand) = negated here.place (view_factor operand)
   view_factor (f.Group' here p inner) = view_expression inner
-  view_factor (f.Set' here shape elements) = set here.place
+  view_factor (f.Set' here shape elements) = set here (view_element_row elements)
   view_factor (f.Designator one) = view_designator one
-  view_factor (f.Call' callee shape arguments) = call (begins callee)
+  view_factor (f.Call' callee shape arguments) = call (begins callee) (view_designator callee) (view_argument_row arguments)
 
   pub view_designator : Designator → Tree
-  view_designator (d.Name i) = name i.position.place i.name
-  view_designator (d.Field' p owner here i) = field here.place (view_designator owner) i.name
+  view_designator (d.Name i) = name i.position i.name
+  view_designator (d.Field' p owner here i) = field here (view_designator owner) i.name
   view_designator (d.Index' p owner mark here q i) = index here (view_designator owner) (view_expression i)
   view_designator (d.Dereference' p owner here) = followed here.place (view_designator owner)
+
+  pub view_element_row : {n : _} → Row_of-Element n → Elements
+  view_element_row end_of-Element = no_elements
+  view_element_row (more_of-Element one rest) = and_element (view_element one) (view_element_row rest)
+
+  pub view_element : Element → Listed
+  view_element (x.Single one) = single (view_expression one)
+  view_element (x.Range low high) = span (view_expression low) (view_expression high)
+
+  pub view_argument_row : {n : _} → Row_of-Argument n → Operands
+  view_argument_row end_of-Argument = no_operands
+  view_argument_row (more_of-Argument one rest) = and_operand (view_argument one) (view_argument_row rest)
+
+  pub view_argument : Argument → Operand
+  view_argument (a.Plain one) = plain (view_expression one)
+  view_argument (a.Wide one width) = wide (view_expression one) (view_expression width)
+
+-- the elements of a list
+abbrev pub view_elements : List Element → Elements
+view_elements [] = no_elements
+view_elements (one ∷ rest) = and_element (view_element one) (view_elements rest)
+
+-- the arguments of a list
+abbrev pub view_arguments : List Argument → Operands
+view_arguments [] = no_operands
+view_arguments (one ∷ rest) = and_operand (view_argument one) (view_arguments rest)

@@ -1,0 +1,93 @@
+-- When an expression is a constant, its value and type, and when a fault is in it.
+use Rattle.std.specs.Prelude.{ℕ, pos, bit_xor, List, [], ◌∷◌, Option, Some, None}
+use Rattle.type_layout.specs.declared.definitions.TypeId.{TypeId}
+use Rattle.type_layout.specs.declared.definitions.TypeDef.{TypeDef}
+use Rattle.type_layout.specs.declared.texts.Place.{Place}
+use Rattle.tp_lexer.specs.declared.token.Feature.{Feature}
+use Rattle.left_out_names.specs.Names.{feature_of}
+use Rattle.syntax_tree.specs.declared.expression.PlacedSign.{PlacedSign}
+use Rattle.typed_tree.specs.declared.expressions.Value.{Value}
+use Rattle.typed_tree.specs.declared.expressions.Value.TheVariants as value
+use Rattle.scopes.specs.declared.entries.Entry.{Entry}
+use Rattle.scopes.specs.declared.entries.Entry.TheVariants as entry
+use Rattle.scopes.specs.Environment.{Environment, Meaning, named, member, find}
+use Rattle.typing_rules.specs.declared.faults.Fault.{Fault}
+use Rattle.typing_rules.specs.declared.faults.Rule.TheVariants as rules
+use Rattle.typing_rules.specs.Faults.{broken, not_yet, undeclared}
+use Rattle.typing_rules.specs.Judgements.{Judgement, makes, refuses, part, parts}
+use Rattle.typing_rules.specs.Sorts.{char, sort_of_type}
+use Rattle.typing_rules.specs.Wanted.{constant_type}
+use Rattle.expression_tree.specs.Trees.{Tree, number, text, control, nil, set, call, signed, negated, combined, name, field, index, followed, of_sign}
+use Rattle.constant_expressions.specs.declared.constants.Constant.{Constant}
+use Rattle.constant_expressions.specs.Values as values
+use Rattle.constant_expressions.specs.Values.{integer}
+
+-- ---- literals
+
+abbrev pub character : ℕ → Constant
+character byte = record { ty = char; value = value.Number (pos byte) }
+
+-- a text of one byte is a Char
+abbrev pub of_text : List ℕ → Constant
+of_text (byte ∷ []) = character byte
+of_text bytes = values.text bytes
+
+-- the control character of a letter
+abbrev pub of_control : List ℕ → Constant
+of_control (letter ∷ []) = character (bit_xor letter 64)
+of_control bytes = values.text bytes
+
+-- ---- names
+
+-- a named constant: an integer has the first type that holds it
+abbrev pub of_value : List TypeDef → TypeId → Value → Constant
+of_value types ty (value.Number n) = record { ty = constant_type ty n (sort_of_type types ty); value = value.Number n }
+of_value types ty v = record { ty = ty; value = v }
+
+-- a type stands nowhere in a constant, and a variable or a routine is none
+abbrev pub of_entry : List TypeDef → Place → Entry → Judgement Constant
+of_entry types place (entry.Const ty v) = makes (of_value types ty v)
+of_entry types place (entry.Ty ty) = refuses (broken place rules.Stands)
+of_entry types place _ = refuses (broken place rules.Constant)
+
+-- a field of a `with` or of Self is a variable
+abbrev pub of_meaning : List TypeDef → Place → Option Feature → Option Meaning → Judgement Constant
+of_meaning types place feature None = refuses (undeclared place feature)
+of_meaning types place feature (Some (named n one)) = of_entry types place one
+of_meaning types place feature (Some (member n one)) = refuses (broken place rules.Constant)
+
+unfoldable pub of_name : Environment → Place → List ℕ → Judgement Constant
+of_name g place word = of_meaning g.types.types place (feature_of word) (find g word)
+
+-- ---- expressions
+
+-- a sign that may stand before an operand
+abbrev pub marked : List TypeDef → Option PlacedSign → Constant → Judgement Constant
+marked types None a = makes a
+marked types (Some mark) a = values.signed types mark.position.place (of_sign mark.sign) a
+
+-- What a checker answers for a constant expression, what its value is, and which faults are in it: from the judgements of its
+-- parts. A constant is no record, array or pointer, so that nothing is selected from it. Calls of standard functions and set
+-- constructors are not built yet.
+abbrev pub judged : Environment → Tree → Judgement Constant
+judged g (number place n) = makes (integer n)
+judged g (text place bytes) = makes (of_text bytes)
+judged g (control place letter) = makes (of_control letter)
+judged g (nil place) = refuses (broken place rules.Constant)
+judged g (set here listed) = refuses (not_yet here.place)
+judged g (call here callee given) = refuses (not_yet here.place)
+judged g (signed mark a) = part (judged g a) (λ x. marked g.types.types mark x)
+judged g (negated place a) = part (judged g a) (λ x. values.negated g.types.types place x)
+judged g (combined here op a b) = parts (judged g a) (judged g b) (λ x y. values.combined g.types.types here.place op x y)
+judged g (name here one) = of_name g here.place one
+judged g (field here a one) = part (judged g a) (λ x. refuses (broken here.place rules.Selected))
+judged g (index here a i) = part (judged g a) (λ x. refuses (broken here.place rules.Indexed))
+judged g (followed place a) = part (judged g a) (λ x. refuses (broken place rules.Dereferenced))
+
+-- the expression is this constant: every rule holds in it
+abbrev pub IsConstant : Environment → Tree → Constant → Type 0
+IsConstant g tree c = (judged g tree).holds c
+
+-- a rule fails at a place in the expression, while all hold in the parts of the construct that stands there
+abbrev pub FailsAt : Environment → Tree → Fault → Type 0
+FailsAt g tree fault = (judged g tree).fails fault

@@ -1,0 +1,122 @@
+-- Operators on constants. Integers are computed on 32 bits and wrap there.
+use Rattle.std.specs.Prelude.{ℕ, ℤ, pos, ◌+ℤ◌, ◌-ℤ◌, ◌*ℤ◌, unsigned_abs, Bool, true, false, ◌||◌, cond, List, [], ◌∷◌, Option, Some, None}
+use Rattle.std.specs.Ordering.{int_eq}
+use Rattle.type_layout.specs.declared.definitions.TypeDef.{TypeDef}
+use Rattle.type_layout.specs.declared.definitions.Host.TheVariants as host
+use Rattle.type_layout.specs.declared.texts.Place.{Place}
+use Rattle.type_layout.specs.Storage.{holds}
+use Rattle.typed_tree.specs.declared.expressions.Value.{Value}
+use Rattle.typed_tree.specs.declared.expressions.Value.TheVariants as value
+use Rattle.typed_tree.specs.declared.expressions.UnaryOp.{UnaryOp}
+use Rattle.typed_tree.specs.declared.expressions.BinaryOp.{BinaryOp}
+use Rattle.typed_tree.specs.declared.expressions.BinaryOp.TheVariants as op
+use Rattle.values.specs.declared.ordinals.IntegerType.TheVariants.{LongInt}
+use Rattle.values.specs.Ordinals.{kept, quotient, remainder, left_shift, right_shift}
+use Rattle.values.specs.Bits.{conjunction, disjunction, exclusive_disjunction, complement}
+use Rattle.values.specs.Strings.{joined}
+use Rattle.typing_rules.specs.declared.faults.Rule.TheVariants as rules
+use Rattle.typing_rules.specs.declared.plans.Operation.{Operation}
+use Rattle.typing_rules.specs.declared.plans.Operation.TheVariants as operation
+use Rattle.typing_rules.specs.declared.sorts.Sort.{Sort}
+use Rattle.typing_rules.specs.declared.sorts.Sort.TheVariants as sort
+use Rattle.typing_rules.specs.Faults.{broken, not_yet}
+use Rattle.typing_rules.specs.Judgements.{Judgement, makes, refuses, rule, either}
+use Rattle.typing_rules.specs.Selectors.{asking}
+use Rattle.typing_rules.specs.Sorts.{boolean, string, number_type, sort_of_type}
+use Rattle.typing_rules.specs.Operators.{sign_value}
+use Rattle.typing_rules.specs.Plans.{operation_of, Asks, AsksNot, IsInteger, is_integer, is_text, allows, allows_not, rule_of}
+use Rattle.constant_expressions.specs.declared.constants.Constant.{Constant}
+
+-- a constant as it stands, for `Gives`
+abbrev pub itself : Constant → Constant
+itself c = c
+
+-- an integer has the first of Integer, Word and LongInt that holds it
+abbrev pub integer : ℤ → Constant
+integer n = record { ty = number_type n; value = value.Number n }
+
+abbrev pub truth : ℤ → Constant
+truth n = record { ty = boolean; value = value.Number n }
+
+abbrev pub text : List ℕ → Constant
+text bytes = record { ty = string; value = value.Chars bytes }
+
+-- the number of an ordinal
+abbrev pub number_of : Value → ℤ
+number_of (value.Number n) = n
+number_of _ = pos 0
+
+-- the bytes of a string, or of a Char that stands as one
+abbrev pub bytes_of : Value → List ℕ
+bytes_of (value.Number n) = cond (holds host.Char n n) (unsigned_abs n ∷ []) []
+bytes_of (value.Chars bytes) = bytes
+bytes_of _ = []
+
+-- ---- numbers
+
+-- nothing where the divisor is 0
+abbrev pub divided : ℤ → ℤ → Option ℤ
+divided b n = cond (int_eq b (pos 0)) None (Some n)
+
+-- Booleans are 0 and 1, and are computed as such
+abbrev pub computed : BinaryOp → ℤ → ℤ → Option ℤ
+computed op.Add a b = Some (kept LongInt (a +ℤ b))
+computed op.Subtract a b = Some (kept LongInt (a -ℤ b))
+computed op.Multiply a b = Some (kept LongInt (a *ℤ b))
+computed op.Divide a b = divided b (quotient LongInt a b)
+computed op.Modulo a b = divided b (remainder LongInt a b)
+computed op.ShiftLeft a b = Some (left_shift LongInt a b)
+computed op.ShiftRight a b = Some (right_shift LongInt a b)
+computed op.And a b = Some (conjunction LongInt a b)
+computed op.Or a b = Some (disjunction LongInt a b)
+computed op.Xor a b = Some (exclusive_disjunction LongInt a b)
+computed _ a b = None
+
+-- relations and `in` don't stand in a constant
+abbrev pub compares : Operation → Bool
+compares operation.Relation = true
+compares operation.Membership = true
+compares _ = false
+
+-- ---- judgements
+
+abbrev pub of_sort : Sort → ℤ → Constant
+of_sort s n = cond (is_integer s) (integer n) (truth n)
+
+abbrev pub numbered : Place → Sort → Option ℤ → Judgement Constant
+numbered place s None = refuses (broken place rules.Constant)
+numbered place s (Some n) = makes (of_sort s n)
+
+-- numbers under an operator, or texts that are joined
+abbrev pub combined_values : Place → BinaryOp → Sort → Value → Value → Judgement Constant
+combined_values place one s a b =
+    either (is_text s) (makes (text (joined (bytes_of a) (bytes_of b)))) (numbered place s (computed one (number_of a) (number_of b)))
+
+abbrev pub is_set : Sort → Bool
+is_set sort.Set = true
+is_set _ = false
+
+-- operators on sets are not built yet
+abbrev pub combined_by : Place → BinaryOp → Sort → Sort → Value → Value → Judgement Constant
+combined_by place one s t a b =
+    either (compares (operation_of one)) (refuses (broken place rules.Constant))
+    (either (is_set s || is_set t) (refuses (not_yet place))
+    (asking (rule (broken place (rule_of (operation_of one) s t)) (allows (operation_of one) s t) (Asks (operation_of one) s t) tt)
+    (combined_values place one s a b)))
+
+-- An operator at a place: its rule on types holds, it is none that compares, and no divisor is 0.
+unfoldable pub combined : List TypeDef → Place → BinaryOp → Constant → Constant → Judgement Constant
+combined types place one a b = combined_by place one (sort_of_type types a.ty) (sort_of_type types b.ty) a.value b.value
+
+-- a sign
+unfoldable pub signed : List TypeDef → Place → UnaryOp → Constant → Judgement Constant
+signed types place one a =
+    rule (broken place rules.Arithmetic) (is_integer (sort_of_type types a.ty)) (IsInteger (sort_of_type types a.ty)) (integer (sign_value one (number_of a.value)))
+
+abbrev pub turned : Sort → ℤ → Constant
+turned s n = cond (is_integer s) (integer (complement LongInt n)) (truth (cond (int_eq n (pos 0)) (pos 1) (pos 0)))
+
+-- `not`
+unfoldable pub negated : List TypeDef → Place → Constant → Judgement Constant
+negated types place a =
+    rule (broken place rules.Logic) (allows_not (sort_of_type types a.ty)) (AsksNot (sort_of_type types a.ty)) (turned (sort_of_type types a.ty) (number_of a.value))

@@ -1,0 +1,46 @@
+//! The checker of constant expressions.
+
+ghost use Rattle.std.specs.Prelude.{◌≡◌, IfOk, IfErr};
+ghost use Rattle.typing_rules.specs.Faults.{Tells, answer_of, IsAnswered};
+ghost use Rattle.expression_tree.specs.Trees.{view_simple};
+ghost use Rattle.constant_expressions.specs.Values.{itself};
+ghost use Rattle.constant_expressions.specs.Constants.{IsConstant, FailsAt};
+ghost use Rattle.constant_expressions.specs.Laws.{AreExact};
+
+use crate::constants::Constant;
+use crate::expressions::constant_of;
+use scopes::Scope;
+use std::alloc::Global;
+use syntax_tree::SimpleExpression;
+use typing_rules::{CheckError, Refusal, error_for};
+
+// What users are told.
+fn answered(found: Result<Constant, Refusal>) -> Result<Constant, CheckError>
+    ensures { result ≡ answer_of found }
+{
+    match found {
+        Ok(constant) => Ok(constant),
+        Err(refusal) => Err(error_for(refusal)),
+    }
+}
+
+/// The value of a constant expression, and its type. An error names a rule that fails, or what is left out, and the place.
+pub fn check_constant(
+    alloc: Global,
+    tree: &SimpleExpression,
+    scope: &Scope,
+) -> Result<Constant, CheckError>
+    // Every rule holds in the expression, and this is its value.
+    ensures typed { IfOk result (λ c. IsConstant scope.now (view_simple tree.now) c) }
+    // What is a constant is answered, but for want of memory.
+    ensures complete { (c : Constant) → IsConstant scope.now (view_simple tree.now) c → IsAnswered itself c result }
+    // What is told of fails there.
+    ensures fails { IfErr result (λ error. Tells (FailsAt scope.now (view_simple tree.now)) error) }
+{
+    answered(constant_of(alloc, tree, scope))
+}
+
+/// An expression is a constant exactly where no rule on constants fails in it, and then it is one alone.
+pub fn constant_laws()
+    ensures { AreExact }
+{}

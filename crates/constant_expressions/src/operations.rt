@@ -1,0 +1,168 @@
+//! Operators on constants.
+
+ghost use Rattle.std.specs.Prelude.{◌≡◌, Ok};
+ghost use Rattle.typing_rules.specs.Judgements.{Gives};
+ghost use Rattle.constant_expressions.specs.Values.{itself, text, bytes_of, computed, compares, is_set, of_sort, numbered, combined_values, combined, signed, turned, negated};
+ghost use Rattle.values.specs.Strings.{joined};
+
+use crate::constants::{Constant, bytes_of, integer, number_of, truth};
+use scopes::STRING;
+use std::alloc::Global;
+use type_layout::{Bytes, Place, Types};
+use typed_tree::{BinaryOp, UnaryOp, Value};
+use typing_rules::{
+    Operation, Refusal, Rule, Sort, allows, allows_not, broken, is_integer, is_text, not_yet,
+    operation_of, rule_of, sign_value, sort_of_type,
+};
+use values::bits::{bitwise_and, bitwise_not, bitwise_or, bitwise_xor};
+use values::ordinals::{IntegerType, kept, left_shift, quotient, remainder, right_shift};
+use values::strings::joined;
+
+const WIDE: IntegerType = IntegerType::LongInt;
+
+// An operator on 32 bits; nothing where a divisor is 0.
+fn computed(op: BinaryOp, left: i32, right: i32) -> Option<i32>
+    ensures { result ≡ computed op left right }
+{
+    match op {
+        BinaryOp::Add => Some(kept(WIDE, i64::from(left) + i64::from(right))),
+        BinaryOp::Subtract => Some(kept(WIDE, i64::from(left) - i64::from(right))),
+        BinaryOp::Multiply => Some(kept(WIDE, i64::from(left) * i64::from(right))),
+        BinaryOp::Divide if right != 0 => Some(quotient(WIDE, left, right)),
+        BinaryOp::Modulo if right != 0 => Some(remainder(WIDE, left, right)),
+        BinaryOp::ShiftLeft => Some(left_shift(WIDE, left, right)),
+        BinaryOp::ShiftRight => Some(right_shift(WIDE, left, right)),
+        BinaryOp::And => Some(bitwise_and(WIDE, left, right)),
+        BinaryOp::Or => Some(bitwise_or(WIDE, left, right)),
+        BinaryOp::Xor => Some(bitwise_xor(WIDE, left, right)),
+        _ => None,
+    }
+}
+
+fn compares(operation: Operation) -> bool
+    ensures { result ≡ compares operation }
+{
+    matches!(operation, Operation::Relation | Operation::Membership)
+}
+
+fn is_set(sort: Sort) -> bool
+    ensures { result ≡ is_set sort }
+{
+    matches!(sort, Sort::Set)
+}
+
+fn of_sort(sort: Sort, number: i32) -> Constant
+    ensures { result ≡ of_sort sort number }
+{
+    if is_integer(sort) {
+        integer(number)
+    } else {
+        truth(number)
+    }
+}
+
+fn numbered(place: Place, sort: Sort, number: Option<i32>) -> Result<Constant, Refusal>
+    ensures { Gives itself result (numbered place sort number).run }
+{
+    match number {
+        Some(number) => Ok(of_sort(sort, number)),
+        None => Err(Refusal::Because(broken(place, Rule::Constant))),
+    }
+}
+
+fn join(alloc: Global, left: &Value, right: &Value) -> Result<Constant, Refusal>
+    ensures { Gives itself result (Ok (text (joined (bytes_of left.now) (bytes_of right.now)))) }
+{
+    let left = bytes_of(alloc, left)?;
+    let right = bytes_of(alloc, right)?;
+    let whole = joined(alloc, left.as_slice(), right.as_slice())?;
+    Ok(Constant {
+        ty: STRING,
+        value: Value::Chars(Bytes::from_vec(whole)),
+    })
+}
+
+fn combined_values(
+    alloc: Global,
+    place: Place,
+    op: BinaryOp,
+    sort: Sort,
+    left: &Value,
+    right: &Value,
+) -> Result<Constant, Refusal>
+    ensures { Gives itself result (combined_values place op sort left.now right.now).run }
+{
+    if is_text(sort) {
+        join(alloc, left, right)
+    } else {
+        numbered(place, sort, computed(op, number_of(left), number_of(right)))
+    }
+}
+
+/// An operator at a place with two constants.
+#[tactic(auto, unfolding(crate::specs::Values::combined))]
+pub(crate) fn combined(
+    alloc: Global,
+    types: &Types,
+    place: Place,
+    op: BinaryOp,
+    left: Constant,
+    right: Constant,
+) -> Result<Constant, Refusal>
+    ensures { Gives itself result (combined types.now.types place op left right).run }
+{
+    let first = sort_of_type(types, left.ty);
+    let second = sort_of_type(types, right.ty);
+    let operation = operation_of(op);
+    if compares(operation) {
+        return Err(Refusal::Because(broken(place, Rule::Constant)));
+    }
+    if is_set(first) || is_set(second) {
+        return Err(Refusal::Because(not_yet(place)));
+    }
+    if !allows(operation, first, second) {
+        let rule = rule_of(operation, first, second);
+        return Err(Refusal::Because(broken(place, rule)));
+    }
+    combined_values(alloc, place, op, first, &left.value, &right.value)
+}
+
+/// A sign at a place.
+#[tactic(auto, unfolding(crate::specs::Values::signed))]
+pub(crate) fn signed(
+    types: &Types,
+    place: Place,
+    op: UnaryOp,
+    operand: Constant,
+) -> Result<Constant, Refusal>
+    ensures { Gives itself result (signed types.now.types place op operand).run }
+{
+    if is_integer(sort_of_type(types, operand.ty)) {
+        Ok(integer(sign_value(op, number_of(&operand.value))))
+    } else {
+        Err(Refusal::Because(broken(place, Rule::Arithmetic)))
+    }
+}
+
+fn turned(sort: Sort, number: i32) -> Constant
+    ensures { result ≡ turned sort number }
+{
+    if is_integer(sort) {
+        integer(bitwise_not(WIDE, number))
+    } else {
+        truth(if number == 0 { 1 } else { 0 })
+    }
+}
+
+/// A `not` at a place.
+#[tactic(auto, unfolding(crate::specs::Values::negated))]
+pub(crate) fn negated(types: &Types, place: Place, operand: Constant) -> Result<Constant, Refusal>
+    ensures { Gives itself result (negated types.now.types place operand).run }
+{
+    let sort = sort_of_type(types, operand.ty);
+    if allows_not(sort) {
+        Ok(turned(sort, number_of(&operand.value)))
+    } else {
+        Err(Refusal::Because(broken(place, Rule::Logic)))
+    }
+}
