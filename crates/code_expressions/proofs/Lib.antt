@@ -1,0 +1,10 @@
+pub mod States
+pub mod Operands
+pub mod Loads
+pub mod Places
+pub mod Values
+pub mod Runs
+pub mod Operators
+pub mod Division
+pub mod Stack
+pub mod Expressions
