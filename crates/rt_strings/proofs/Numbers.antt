@@ -1,76 +1,27 @@
--- What the routines compute, as numbers.
-use Rattle.std.proofs.Common.{◌≡◌, ℕ, ◌+◌, ◌*◌, ◌/◌, ◌%◌, ◌<◌, Bool, true, false, [], ◌∷◌, refl, sym, ap, ◌∙◌, arith}
-use Rattle.std.specs.Prelude.{nat_lt, ◌==◌, ◌&&◌, ◌||◌, bit_and, bit_or}
-use Rattle.std.proofs.lemmas.Bool.Decides.{nat_tests}
-use Rattle.std.proofs.lemmas.Int.{ints}
-use Rattle.std.proofs.Math.Nat.{add-mul, mul-add, mul_assoc, mul_comm}
-use Rattle.integers.specs.Words.{w16, w32, wrapping_add, wrapping_mul, high_product, is_signed_less, low_byte, high_byte}
-use Rattle.flat_code.specs.Meaning.{number_bytes, truth}
-use Rattle.flat_code.specs.Runtime.{long_word}
+-- The routines on LongInts, as they stand in the unit.
+use Rattle.std.proofs.Common.{refl, sym}
+use Rattle.flat_code.specs.Program.{FlatProgram, Choice}
+use Rattle.flat_code.specs.Legal.{StackFits}
+use Rattle.flat_code.specs.Runtime.{IsRuntime}
+use Rattle.rt_numbers.specs.Promises.{NumbersWork}
+use Rattle.rt_numbers.proofs.Laws as law
+use Rattle.rt_strings.specs.Unit.{strings_code, HoldsStrings}
 
-pub long-bytes : (a b : ℕ) → a < 65536 → b < 65536 → number_bytes 4 (a + 65536 * b) ≡ low_byte a ∷ high_byte a ∷ low_byte b ∷ high_byte b ∷ []
-long-bytes a b p q =
-    let e0 : (a + 65536 * b) % 256 ≡ a % 256 = omega arith in
-    let e1 : (a + 65536 * b) / 256 % 256 ≡ a / 256 % 256 = omega arith in
-    let e2 : (a + 65536 * b) / 256 / 256 % 256 ≡ b % 256 = omega arith in
-    let e3 : (a + 65536 * b) / 256 / 256 / 256 % 256 ≡ b / 256 % 256 = omega arith in
-    cc
+module _ (program : FlatProgram) (choice : Choice) (fits : StackFits program choice) (holds : HoldsStrings program) where
+  pub numbers-work : NumbersWork program choice
+  numbers-work = record {
+    negation = law.negation program choice strings_code fits (record { unit_is = sym holds.is_there; routine_is = refl; resident = holds.resident; untested = refl; far = refl; locals = refl });
+    product = law.product program choice strings_code fits (record { unit_is = sym holds.is_there; routine_is = refl; resident = holds.resident; untested = refl; far = refl; locals = refl });
+    less = law.less program choice strings_code fits (record { unit_is = sym holds.is_there; routine_is = refl; resident = holds.resident; untested = refl; far = refl; locals = refl });
+    quotient = law.quotient program choice strings_code fits (record { unit_is = sym holds.is_there; routine_is = refl; resident = holds.resident; untested = refl; far = refl; locals = refl });
+    remainder = law.remainder program choice strings_code fits (record { unit_is = sym holds.is_there; routine_is = refl; resident = holds.resident; untested = refl; far = refl; locals = refl });
+    sum = law.sum program choice strings_code fits (record { unit_is = sym holds.is_there; routine_is = refl; resident = holds.resident; untested = refl; far = refl; locals = refl });
+    difference = law.difference program choice strings_code fits (record { unit_is = sym holds.is_there; routine_is = refl; resident = holds.resident; untested = refl; far = refl; locals = refl });
+    equal = law.equal program choice strings_code fits (record { unit_is = sym holds.is_there; routine_is = refl; resident = holds.resident; untested = refl; far = refl; locals = refl });
+    left_shift = law.left_shift program choice strings_code fits (record { unit_is = sym holds.is_there; routine_is = refl; resident = holds.resident; untested = refl; far = refl; locals = refl });
+    right_shift = law.right_shift program choice strings_code fits (record { unit_is = sym holds.is_there; routine_is = refl; resident = holds.resident; untested = refl; far = refl; locals = refl });
+    range = law.range program choice strings_code fits (record { unit_is = sym holds.is_there; routine_is = refl; resident = holds.resident; untested = refl; far = refl; locals = refl });
+  }
 
--- ---- products
-
-abbrev pub product_low : ℕ → ℕ → ℕ
-product_low a c = wrapping_mul w16 a c
-
-abbrev pub product_high : ℕ → ℕ → ℕ → ℕ → ℕ
-product_high a b c d = wrapping_add w16 (high_product w16 a c) (wrapping_add w16 (wrapping_mul w16 a d) (wrapping_mul w16 b c))
-
--- with the four products as numbers of their own
-expanded : (p q r s : ℕ) → (p + 65536 * (q + r) + 4294967296 * s) % 4294967296 ≡ p % 65536 + 65536 * ((p / 65536 + (q % 65536 + r % 65536) % 65536) % 65536)
-expanded p q r s = omega arith
-
-multiplied : (a b c d : ℕ) → (a + 65536 * b) * (c + 65536 * d) ≡ a * c + 65536 * (a * d + b * c) + 4294967296 * (b * d)
-multiplied a b c d =
-    let left : a * (c + 65536 * d) ≡ a * c + a * (65536 * d) = mul-add a c (65536 * d) in
-    let right : 65536 * b * (c + 65536 * d) ≡ 65536 * b * c + 65536 * b * (65536 * d) = mul-add (65536 * b) c (65536 * d) in
-    let across : a * (65536 * d) ≡ 65536 * (a * d) = sym (mul_assoc a 65536 d) ∙ ap (λ (k : ℕ). k * d) (mul_comm a 65536) ∙ mul_assoc 65536 a d in
-    let back : 65536 * b * c ≡ 65536 * (b * c) = mul_assoc 65536 b c in
-    let inner : b * (65536 * d) ≡ 65536 * (b * d) = sym (mul_assoc b 65536 d) ∙ ap (λ (k : ℕ). k * d) (mul_comm b 65536) ∙ mul_assoc 65536 b d in
-    let upper : 65536 * b * (65536 * d) ≡ 65536 * (65536 * (b * d)) = mul_assoc 65536 b (65536 * d) ∙ ap (λ (k : ℕ). 65536 * k) inner in
-    add-mul a (65536 * b) (c + 65536 * d) ∙ omega (arith, left, right, across, back, upper)
-
-pub product-is : (a b c d : ℕ) → wrapping_mul w32 (long_word a b) (long_word c d) ≡ product_low a c + 65536 * product_high a b c d
-product-is a b c d = ap (λ (n : ℕ). n % 4294967296) (multiplied a b c d) ∙ expanded (a * c) (a * d) (b * c) (b * d)
-
-pub low-small : (a c : ℕ) → product_low a c < 65536
-low-small a c = omega arith
-
-pub high-small : (a b c d : ℕ) → product_high a b c d < 65536
-high-small a b c d = omega arith
-
--- ---- comparing
-
-abbrev pub less_word : ℕ → ℕ → ℕ → ℕ → ℕ
-less_word a b c d = bit_or (truth (is_signed_less w16 b d)) (bit_and (truth (b == d)) (truth (nat_lt a c)))
-
-one-bit : (p q r : Bool) → bit_or (truth p) (bit_and (truth q) (truth r)) ≡ truth (p || (q && r))
-one-bit true true true = refl
-one-bit true true false = refl
-one-bit true false true = refl
-one-bit true false false = refl
-one-bit false true true = refl
-one-bit false true false = refl
-one-bit false false true = refl
-one-bit false false false = refl
-
-compared : (a b c d : ℕ) → a < 65536 → b < 65536 → c < 65536 → d < 65536 → (is_signed_less w16 b d || ((b == d) && nat_lt a c)) ≡ is_signed_less w32 (a + 65536 * b) (c + 65536 * d)
-compared a b c d p q r s = grind (arith, ints, nat_tests)
-
-pub less-is : (a b c d : ℕ) → a < 65536 → b < 65536 → c < 65536 → d < 65536 → less_word a b c d ≡ truth (is_signed_less w32 (long_word a b) (long_word c d))
-less-is a b c d p q r s = one-bit (is_signed_less w16 b d) (b == d) (nat_lt a c) ∙ ap truth (compared a b c d p q r s)
-
-truth-small : (p : Bool) → truth p < 65536
-truth-small true = omega arith
-truth-small false = omega arith
-
-pub less-small : (a b c d : ℕ) → less_word a b c d < 65536
-less-small a b c d = let e = one-bit (is_signed_less w16 b d) (b == d) (nat_lt a c) in omega (arith, e, truth-small (is_signed_less w16 b d || ((b == d) && nat_lt a c)))
+  pub is-runtime : IsRuntime program choice
+  is-runtime = record { negation = numbers-work.negation; product = numbers-work.product; less = numbers-work.less; quotient = numbers-work.quotient; remainder = numbers-work.remainder }

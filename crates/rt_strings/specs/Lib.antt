@@ -1,1 +1,1 @@
-pub mod Longs
+pub mod Unit

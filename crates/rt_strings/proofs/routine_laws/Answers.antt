@@ -1,13 +1,8 @@
-use Rattle.rt_strings.proofs.Negation.{negation-computes}
-use Rattle.rt_strings.proofs.Product.{product-computes}
-use Rattle.rt_strings.proofs.Less.{less-computes}
+use Rattle.rt_strings.proofs.Numbers.{numbers-work, is-runtime}
 use Rattle.rt_strings.proofs.routine_laws.Goals as goal
 
-pub returns-clause-negation : goal.returns-clause-negation
-returns-clause-negation c = negation-computes
+pub returns-clause-numbers : goal.returns-clause-numbers
+returns-clause-numbers c = numbers-work
 
-pub returns-clause-product : goal.returns-clause-product
-returns-clause-product c = product-computes
-
-pub returns-clause-less : goal.returns-clause-less
-returns-clause-less c = less-computes
+pub returns-clause-runtime : goal.returns-clause-runtime
+returns-clause-runtime c = is-runtime

@@ -1,0 +1,9 @@
+pub mod Words
+pub mod Sight
+pub mod Stores
+pub mod Rules
+pub mod Steps
+pub mod Entry
+pub mod Doing
+pub mod Calls
+pub mod Replies

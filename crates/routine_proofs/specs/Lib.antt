@@ -1,0 +1,5 @@
+pub mod Activation
+pub mod Straight
+pub mod Comes
+pub mod Entry
+pub mod Promises

@@ -1,0 +1,11 @@
+pub mod Bytes
+pub mod Products
+pub mod Comparing
+pub mod WordReplies
+pub mod RangeReplies
+pub mod ShiftReplies
+pub mod LongDivision
+pub mod Rounds
+pub mod Signs
+pub mod DivisionReplies
+pub mod Laws
