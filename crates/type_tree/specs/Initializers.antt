@@ -7,12 +7,8 @@ use Rattle.type_tree.specs.declared.initializer.Initializer.{Initializer, Row_of
 use Rattle.type_tree.specs.declared.initializer.Initializer.TheVariants as i
 use Rattle.type_tree.specs.declared.initializer.FieldValue.{FieldValue}
 use Rattle.type_tree.specs.declared.initializer.FieldValue.TheVariants as f
-use Rattle.type_tree.specs.Regrouped.{value_of, simple_first}
+use Rattle.type_tree.specs.Regrouped.{value_of, first_value}
 use Rattle.type_tree.specs.Types.{simple_of}
-
--- a list in parentheses: where it stands, and what the grammar makes of what is inside
-abbrev pub list_at : Parsed → Parsed → Parsed
-list_at here items = of p.initializer_list (here ∷ items ∷ [])
 
 abbrev mutual
   pub of_initializer : Initializer → Parsed
@@ -23,16 +19,14 @@ abbrev mutual
   -- the values in parentheses; none at all are spelled by nothing
   pub first_of : {n : _} → Row_of-Initializer n → Parsed
   first_of end_of-Initializer = nil
-  first_of (more_of-Initializer (i.Value x) all) = simple_first (simple_of x) (more_initializers all)
-  first_of (more_of-Initializer (i.List' here shape inner) all) = of p.begins_with_list (of p.initializer_list (mark_at here ∷ first_of inner ∷ []) ∷ more_initializers all ∷ word ∷ [])
-  first_of (more_of-Initializer (i.Record' here shape inner) all) = of p.begins_with_list (of p.initializer_list (mark_at here ∷ field_values inner ∷ []) ∷ more_initializers all ∷ word ∷ [])
+  first_of (more_of-Initializer x all) = first_value (of_initializer x) (more_initializers all) word
 
   pub more_initializers : {n : _} → Row_of-Initializer n → Parsed
   more_initializers end_of-Initializer = of p.no_initializers []
   more_initializers (more_of-Initializer x all) = of p.next_initializer (word ∷ of_initializer x ∷ more_initializers all ∷ [])
 
   pub field_values : {n : _} → Row_of-FieldValue n → Parsed
-  field_values end_of-FieldValue = nil
+  field_values end_of-FieldValue = of p.begins_with_name (nil ∷ of p.field_values (nil ∷ nil ∷ nil ∷ word ∷ []) ∷ [])
   field_values (more_of-FieldValue (f.Field name x) all) = of p.begins_with_name (name_of name ∷ of p.field_values (word ∷ of_initializer x ∷ more_field_values all ∷ word ∷ []) ∷ [])
 
   pub more_field_values : {n : _} → Row_of-FieldValue n → Parsed
@@ -45,6 +39,24 @@ abbrev pub next_initializers : List Initializer → Parsed → Parsed
 next_initializers [] more = more
 next_initializers (x ∷ all) more = of p.next_initializer (word ∷ of_initializer x ∷ next_initializers all more ∷ [])
 
+-- the first value, and those behind it
+abbrev pub initializer_list : List Initializer → Parsed → Parsed × Parsed
+initializer_list [] more = (nil, nil)
+initializer_list (x ∷ all) more = (of_initializer x, next_initializers all more)
+
+-- the values in parentheses, and what comes behind the last
+abbrev pub value_list : List Initializer → Parsed → Parsed
+value_list all more = first_value (initializer_list all more).0 (initializer_list all more).1 word
+
 abbrev pub next_field_values : List FieldValue → Parsed → Parsed
 next_field_values [] more = more
 next_field_values (f.Field name x ∷ all) more = of p.next_field_value (word ∷ name_of name ∷ word ∷ of_initializer x ∷ next_field_values all more ∷ [])
+
+-- the first field with its colon and its value, and those behind it
+abbrev pub field_list : List FieldValue → Parsed → (Parsed × Parsed × Parsed) × Parsed
+field_list [] more = ((nil, nil, nil), nil)
+field_list (f.Field name x ∷ all) more = ((name_of name, word, of_initializer x), next_field_values all more)
+
+-- the fields in parentheses, and what comes behind the last
+abbrev pub field_value_list : List FieldValue → Parsed → Parsed
+field_value_list all more = of p.begins_with_name ((field_list all more).0.0 ∷ of p.field_values ((field_list all more).0.1 ∷ (field_list all more).0.2 ∷ (field_list all more).1 ∷ word ∷ []) ∷ [])

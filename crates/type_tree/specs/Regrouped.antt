@@ -2,7 +2,7 @@
 -- the first of a list of values. Its parts stay, in other productions. Which they are shows in how many parts a node has.
 use Rattle.std.specs.Prelude.{List, [], ◌∷◌}
 use Rattle.pascal_grammar.specs.Productions as p
-use Rattle.predictive_grammar.specs.Grammar.{nil, pair, node}
+use Rattle.predictive_grammar.specs.Grammar.{nil, pair, leaf, node}
 use Rattle.syntax_tree.specs.Expressions.{Parsed, of, word}
 
 -- ---- subranges: the first bound, and what comes behind it
@@ -42,15 +42,18 @@ value_of (node q (pair sign (pair t (pair us nil)))) = of p.signed_value (sign �
 value_of (node q (pair (node r (pair (node w (pair f nil)) (pair fs nil))) (pair us nil))) = of p.value (f ∷ fs ∷ us ∷ [])
 value_of i = nil
 
--- the first value in parentheses, by its first factor, and the values behind it
-abbrev pub factor_first : Parsed → Parsed → Parsed → Parsed → Parsed
-factor_first (node q (pair name (pair s (pair c nil)))) fs us more = of p.begins_with_name (name ∷ of p.named_value (s ∷ c ∷ fs ∷ us ∷ more ∷ word ∷ []) ∷ [])
-factor_first (node q (pair here (pair letter nil))) fs us more = of p.begins_with_control (here ∷ letter ∷ fs ∷ us ∷ more ∷ word ∷ [])
-factor_first (node q (pair f nil)) fs us more = of p.begins_with_closed (f ∷ fs ∷ us ∷ more ∷ word ∷ [])
-factor_first f fs us more = nil
+-- ---- the first of several values in parentheses, with those behind it and the parenthesis
 
--- the same of a simple expression
-abbrev pub simple_first : Parsed → Parsed → Parsed
-simple_first (node q (pair sign (pair t (pair us nil)))) more = of p.begins_with_sign (sign ∷ t ∷ us ∷ more ∷ word ∷ [])
-simple_first (node q (pair (node r (pair (node w (pair f nil)) (pair fs nil))) (pair us nil))) more = factor_first f fs us more
-simple_first i more = nil
+-- by the first factor of a value that has no sign
+abbrev pub factor_first : Parsed → Parsed → Parsed → Parsed → Parsed → Parsed
+factor_first (node q (pair name (pair s (pair c nil)))) fs us more close = of p.begins_with_name (name ∷ of p.named_value (s ∷ c ∷ fs ∷ us ∷ more ∷ close ∷ []) ∷ [])
+factor_first (node q (pair here (pair letter nil))) fs us more close = of p.begins_with_control (here ∷ letter ∷ fs ∷ us ∷ more ∷ close ∷ [])
+factor_first (node q (pair f nil)) fs us more close = of p.begins_with_closed (f ∷ fs ∷ us ∷ more ∷ close ∷ [])
+factor_first f fs us more close = nil
+
+-- a list, a value with a sign, or one without
+abbrev pub first_value : Parsed → Parsed → Parsed → Parsed
+first_value (node q (pair l nil)) more close = of p.begins_with_list (l ∷ more ∷ close ∷ [])
+first_value (node q (pair (leaf x) (pair t (pair us nil)))) more close = of p.begins_with_sign (leaf x ∷ t ∷ us ∷ more ∷ close ∷ [])
+first_value (node q (pair (node r f) (pair fs (pair us nil)))) more close = factor_first (node r f) fs us more close
+first_value i more close = nil

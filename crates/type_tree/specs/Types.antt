@@ -66,7 +66,7 @@ abbrev mutual
 
   -- no index types at all are spelled by nothing
   pub of_indexes : {n : _} → Row_of-TypeDenoter n → Parsed
-  of_indexes end_of-TypeDenoter = nil
+  of_indexes end_of-TypeDenoter = of p.index_types (word ∷ nil ∷ nil ∷ word ∷ [])
   of_indexes (more_of-TypeDenoter x all) = of p.index_types (word ∷ of_type x ∷ more_indexes all ∷ word ∷ [])
 
   pub more_indexes : {n : _} → Row_of-TypeDenoter n → Parsed
@@ -99,23 +99,3 @@ next_index_types (x ∷ all) more = of p.next_index_type (word ∷ of_type x ∷
 abbrev pub index_type_list : List TypeDenoter → Parsed → Parsed × Parsed
 index_type_list [] more = (nil, nil)
 index_type_list (x ∷ all) more = (of_type x, next_index_types all more)
-
--- one group of a record, and what comes behind it
-abbrev pub record_fields : FieldGroup → Parsed → Parsed
-record_fields (f.Fields names x) more = of p.fields (identifiers_of names.items ∷ word ∷ of_type x ∷ more ∷ [])
-
-abbrev pub next_record_fields : List FieldGroup → Parsed → Parsed
-next_record_fields [] more = more
-next_record_fields (x ∷ all) more = of p.next_fields (word ∷ record_fields x (next_record_fields all more) ∷ [])
-
--- the groups of a record, and what comes behind the last; more is nothing where there are none
-abbrev pub record_fields_of : List FieldGroup → Parsed → Parsed
-record_fields_of [] more = of p.no_fields []
-record_fields_of (x ∷ all) more = record_fields x (next_record_fields all more)
-
-abbrev pub object_fields : FieldGroup → Parsed → Parsed
-object_fields (f.Fields names x) more = of p.object_fields (identifiers_of names.items ∷ word ∷ of_type x ∷ more ∷ [])
-
-abbrev pub next_object_fields : List FieldGroup → Parsed → Parsed
-next_object_fields [] more = more
-next_object_fields (x ∷ all) more = of p.next_object_part (word ∷ object_fields x (next_object_fields all more) ∷ [])
