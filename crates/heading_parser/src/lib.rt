@@ -1,0 +1,10 @@
+//! Uses clauses, headings of programs and headers of routines, read from lexemes.
+#![tactic(auto)]
+
+mod front;
+mod header;
+mod heading;
+mod read;
+mod uses;
+
+pub use read::{read_header, read_heading, read_uses};
