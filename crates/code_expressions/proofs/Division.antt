@@ -1,6 +1,7 @@
 -- Unsigned division: by a word that isn't 0, or to the error routine.
-use Rattle.std.proofs.Common.{◌≡◌, ℕ, zero, suc, ◌+◌, ◌/◌, ◌%◌, ◌<◌, ◌≤◌, ◌==◌, Bool, true, false, not, List, [], ◌∷◌, ◌++◌, arith, refl, ap, ◌∙◌, div-le_self}
+use Rattle.std.proofs.Common.{◌≡◌, ℕ, zero, suc, ◌+◌, ◌-◌, ◌/◌, ◌%◌, ◌<◌, ◌≤◌, ◌==◌, Bool, true, false, not, List, [], ◌∷◌, ◌++◌, arith, refl, ap, ◌∙◌, div-le_self}
 use Rattle.std.proofs.Math.Dec.{eqb-suc-zero}
+use Rattle.std.specs.Prelude.{nat_le}
 use Rattle.x86_table.specs.declared.instr.Cond.TheVariants as cond
 use Rattle.x86_table.specs.declared.instr.Instr.{Instr}
 use Rattle.x86_table.specs.declared.instr.Instr.TheVariants as instr
@@ -31,14 +32,16 @@ use Rattle.code_expressions.proofs.Loads.{ones_front}
 use Rattle.code_expressions.proofs.Operators.{Operands}
 
 -- quotient and remainder
-record Divided (p : Program) (framed : Bool) (cs : Segment) (n ip : ℕ) (r : ResidentState) (q m : ℕ) : Type 0 where
-  registers : Registers
-  comes : Comes p framed cs n ip r registers r.cells
-  ax : registers.ax ≡ q
-  dx : registers.dx ≡ m
+pub record Divided (p : Program) (framed : Bool) (cs : Segment) (n ip : ℕ) (r : ResidentState) (q m : ℕ) : Type 0 where
+  pub registers : Registers
+  pub comes : Comes p framed cs n ip r registers r.cells
+  pub ax : registers.ax ≡ q
+  pub dx : registers.dx ≡ m
+  pub bx : registers.bx ≡ r.registers.bx
+  pub cx : registers.cx ≡ r.registers.cx
 
 module _ (p : Program) (framed : Bool) (cs : Segment) (code : List ℕ) (at labels : ℕ → ℕ) (pl : Placed p cs code at) (x : Context) (named : IsCode p x.addresses.error_routine) where
-  abbrev to_test : List Instr
+  abbrev pub to_test : List Instr
   to_test = compare_with word.Cx 0 ∷ []
 
   tested_comes : (k : ℕ) (r : ResidentState) → IsAt cs (at k) r → Stands (IsSpelledAt code) at labels k (ones to_test) → Comes p framed cs 1 (at (k + 1)) r (registers_past at k to_test r.registers r.cells) r.cells
@@ -47,7 +50,7 @@ module _ (p : Program) (framed : Bool) (cs : Segment) (code : List ℕ) (at labe
       let c = line p framed cs code at labels pl k to_test r refl here s tt in
       carried_comes p framed cs 1 (at (k + 1)) r (registers_past at k to_test r.registers r.cells) r.cells c (keeps_same r.registers (registers_past at k to_test r.registers r.cells) r.cells refl refl refl refl refl)
 
-  tested_keeps : (k : ℕ) (r : ResidentState) → ((registers_past at k to_test r.registers r.cells).ax ≡ r.registers.ax) × ((registers_past at k to_test r.registers r.cells).cx ≡ r.registers.cx) × ((registers_past at k to_test r.registers r.cells).bx ≡ r.registers.bx)
+  pub tested_keeps : (k : ℕ) (r : ResidentState) → ((registers_past at k to_test r.registers r.cells).ax ≡ r.registers.ax) × ((registers_past at k to_test r.registers r.cells).cx ≡ r.registers.cx) × ((registers_past at k to_test r.registers r.cells).bx ≡ r.registers.bx)
   unfolding act word_then
   tested_keeps k r = (refl, refl, refl)
 
@@ -55,6 +58,13 @@ module _ (p : Program) (framed : Bool) (cs : Segment) (code : List ℕ) (at labe
   tested_flag : (k b : ℕ) (r : ResidentState) → r.registers.cx ≡ b → b < 65536 → holds (registers_past at k to_test r.registers r.cells) cond.NotEqual ≡ not (b == 0)
   unfolding act word_then
   tested_flag k b r e small = compare_decides r.registers width.Word r.registers.cx 0 cond.NotEqual (omega arith) (omega arith) ∙ ap (λ n. not (n == 0)) e
+
+  -- and its sign
+  pub tested_sign : (k b : ℕ) (r : ResidentState) → r.registers.cx ≡ b → b < 65536 → holds (registers_past at k to_test r.registers r.cells) cond.NoSign ≡ not (nat_le 32768 b)
+  unfolding act word_then
+  tested_sign k b r e small =
+      let whole : (r.registers.cx + 65536 - 0) % 65536 ≡ b = omega arith in
+      compare_decides r.registers width.Word r.registers.cx 0 cond.NoSign (omega arith) (omega arith) ∙ ap (λ n. not (nat_le 32768 n)) whole
 
   -- where CX isn't 0, over the error's two instructions
   pub passes_test : (k n a : ℕ) (r : ResidentState) → r.registers.cx ≡ suc n → suc n < 65536 → IsAt cs (at k) r → Stands (IsSpelledAt code) at labels k (ones (tested x)) → Comes p framed cs 2 (at (k + 1 + 1 + 1 + 1)) r (at_offset (registers_past at k to_test r.registers r.cells) (at (k + 1 + 1 + 1 + 1))) r.cells
@@ -115,7 +125,7 @@ module _ (p : Program) (framed : Bool) (cs : Segment) (code : List ℕ) (at labe
       carried_comes p framed cs 1 (at (k + 1)) r (record (at_offset r.registers (at (k + 1))) { dx = 0 }) r.cells (line p framed cs code at labels pl k (instr.MovWord word.Dx 0 ∷ []) r refl here s tt) (keeps_same r.registers (record (at_offset r.registers (at (k + 1))) { dx = 0 }) r.cells refl refl refl refl refl)
 
   -- DX becomes 0, and DX:AX is divided by CX
-  division : (k n a : ℕ) (r : ResidentState) → r.registers.ax ≡ a → r.registers.cx ≡ suc n → a < 65536 → IsAt cs (at k) r → Stands (IsSpelledAt code) at labels k (ones (instr.MovWord word.Dx 0 ∷ on_word unary.Div word.Cx ∷ [])) → Divided p framed cs 2 (at (k + 1 + 1)) r (a / suc n) (a % suc n)
+  pub division : (k n a : ℕ) (r : ResidentState) → r.registers.ax ≡ a → r.registers.cx ≡ suc n → a < 65536 → IsAt cs (at k) r → Stands (IsSpelledAt code) at labels k (ones (instr.MovWord word.Dx 0 ∷ on_word unary.Div word.Cx ∷ [])) → Divided p framed cs 2 (at (k + 1 + 1)) r (a / suc n) (a % suc n)
   division k n a r ax cx small here s =
       let g = record (at_offset r.registers (at (k + 1))) { dx = 0 } in
       let first = dx_cleared k r here (s.0, tt) in
@@ -126,6 +136,8 @@ module _ (p : Program) (framed : Bool) (cs : Segment) (code : List ℕ) (at labe
         comes = comes_on p framed cs 1 1 (at (k + 1)) (at (k + 1 + 1)) r g h r.cells r.cells first (carried_comes p framed cs 1 (at (k + 1 + 1)) (with_memory r g r.cells) h r.cells d (keeps_same g h r.cells refl refl refl refl refl));
         ax = ap (λ v. v / suc n) ax;
         dx = ap (λ v. v % suc n) ax;
+        bx = refl;
+        cx = refl;
       }
 
   unsigned_run : (k n a : ℕ) (r : ResidentState) → Operands a (suc n) r.registers → IsAt cs (at k) r → Stands (IsSpelledAt code) at labels k (ones (unsigned_division x)) → Divided p framed cs 4 (at (k + 1 + 1 + 1 + 1 + 1 + 1)) r (a / suc n) (a % suc n)
@@ -134,7 +146,7 @@ module _ (p : Program) (framed : Bool) (cs : Segment) (code : List ℕ) (at labe
       let h = at_offset (registers_past at k to_test r.registers r.cells) (at (k + 1 + 1 + 1 + 1)) in
       let first = passes_test k n a r o.cx o.right_small here (ones_front (IsSpelledAt code) at labels k (tested x) (instr.MovWord word.Dx 0 ∷ on_word unary.Div word.Cx ∷ []) s) in
       let d = division (k + 1 + 1 + 1 + 1) n a (with_memory r h r.cells) (keep.0 ∙ o.ax) (keep.1 ∙ o.cx) o.left_small first.here s.1.1.1.1 in
-      record { registers = d.registers; comes = comes_on p framed cs 2 2 (at (k + 1 + 1 + 1 + 1)) (at (k + 1 + 1 + 1 + 1 + 1 + 1)) r h d.registers r.cells r.cells first d.comes; ax = d.ax; dx = d.dx }
+      record { registers = d.registers; comes = comes_on p framed cs 2 2 (at (k + 1 + 1 + 1 + 1)) (at (k + 1 + 1 + 1 + 1 + 1 + 1)) r h d.registers r.cells r.cells first d.comes; ax = d.ax; dx = d.dx; bx = d.bx ∙ keep.2; cx = d.cx ∙ keep.1 }
 
   pub fails_as : (m n c : ℕ) (r : ResidentState) → m ≤ n → Fails p framed x.addresses.error_routine m r c → Fails p framed x.addresses.error_routine n r c
   fails_as m n c r e f =

@@ -31,7 +31,7 @@ use Rattle.code_lines.specs.Addresses.{Context, key_in, name_or_own}
 use Rattle.code_lines.specs.Expressions.{move, op_code, segment_code, expr_code}
 use Rattle.code_lines.specs.Operands.{memory_at, load, loads, operand_place, operand}
 use Rattle.code_expressions.specs.Active.{Suits, Active, Keeps}
-use Rattle.code_expressions.specs.Evaluates.{HasWords, IsUnsigned, HasNoSignedDivision, IsCode, Gives, Fails, Evaluates}
+use Rattle.code_expressions.specs.Evaluates.{HasWords, IsCode, Gives, Fails, Evaluates}
 use Rattle.code_expressions.proofs.States.{active_keeps, active_lower}
 use Rattle.code_expressions.proofs.Loads.{ones_front, ones_back}
 use Rattle.code_expressions.proofs.Places.{loads_run}
@@ -39,6 +39,7 @@ use Rattle.code_expressions.proofs.Values.{number_run, byte_run, word_run, addre
 use Rattle.code_expressions.proofs.Runs.{Comes, Lowers, fails_on, then_evaluates, evaluates_as}
 use Rattle.code_expressions.proofs.Operators.{Operands, add_run, sub_run, mul_run, high_run, and_run, or_run, xor_run, equal_run, less_run, below_run, shl_run, shr_run}
 use Rattle.code_expressions.proofs.Division.{fails_as, div_run, mod_run}
+use Rattle.code_expressions.proofs.Signed.{signed_div_run, signed_mod_run}
 use Rattle.code_expressions.proofs.Stack.{pushed_at, registers_pushed, cells_pushed, registers_popped, push_carries, push_holds, push_lowers, pop_carries}
 
 lowers_on : (g h i : Registers) (c d e : Cells) → Keeps g c h d → Lowers h d i e → Lowers g c i e
@@ -61,23 +62,23 @@ segment_length (Outer levels d) = refl
 segment_length (Through slot plus) = refl
 
 module _ (p : Program) (framed : Bool) (cs : Segment) (code : List ℕ) (at labels : ℕ → ℕ) (pl : Placed p cs code at) (x : Context) (named_error : IsCode p x.addresses.error_routine) where
-  op_run : (o : FlatOp) → IsUnsigned o → (k a b : ℕ) (r : ResidentState) → Operands a b r.registers → 64 ≤ r.registers.sp → IsAt cs (at k) r → Stands (IsSpelledAt code) at labels k (ones (op_code x o)) → Evaluates p framed cs x.addresses.error_routine (length (op_code x o)) (at (k + length (op_code x o))) r (op_of o a b)
-  op_run op.Add d k a b r o room here s = add_run p framed cs code at labels pl x k a b r o here s
-  op_run op.Sub d k a b r o room here s = sub_run p framed cs code at labels pl x k a b r o here s
-  op_run op.Mul d k a b r o room here s = mul_run p framed cs code at labels pl x k a b r o here s
-  op_run op.MulHigh d k a b r o room here s = high_run p framed cs code at labels pl x k a b r o here s
-  op_run op.Div d k a b r o room here s = absurd d
-  op_run op.Mod d k a b r o room here s = absurd d
-  op_run op.DivUnsigned d k a b r o room here s = div_run p framed cs code at labels pl x named_error k a b r o room here s
-  op_run op.ModUnsigned d k a b r o room here s = mod_run p framed cs code at labels pl x named_error k a b r o room here s
-  op_run op.And d k a b r o room here s = and_run p framed cs code at labels pl x k a b r o here s
-  op_run op.Or d k a b r o room here s = or_run p framed cs code at labels pl x k a b r o here s
-  op_run op.Xor d k a b r o room here s = xor_run p framed cs code at labels pl x k a b r o here s
-  op_run op.Shl d k a b r o room here s = shl_run p framed cs code at labels pl x k a b r o here s (b % 256) refl
-  op_run op.Shr d k a b r o room here s = shr_run p framed cs code at labels pl x k a b r o here s (b % 256) refl
-  op_run op.Equal d k a b r o room here s = equal_run p framed cs code at labels pl x k a b r o here s
-  op_run op.Less d k a b r o room here s = less_run p framed cs code at labels pl x k a b r o here s
-  op_run op.Below d k a b r o room here s = below_run p framed cs code at labels pl x k a b r o here s
+  op_run : (o : FlatOp) (k a b : ℕ) (r : ResidentState) → Operands a b r.registers → 64 ≤ r.registers.sp → IsAt cs (at k) r → Stands (IsSpelledAt code) at labels k (ones (op_code x o)) → Evaluates p framed cs x.addresses.error_routine (length (op_code x o)) (at (k + length (op_code x o))) r (op_of o a b)
+  op_run op.Add k a b r o room here s = add_run p framed cs code at labels pl x k a b r o here s
+  op_run op.Sub k a b r o room here s = sub_run p framed cs code at labels pl x k a b r o here s
+  op_run op.Mul k a b r o room here s = mul_run p framed cs code at labels pl x k a b r o here s
+  op_run op.MulHigh k a b r o room here s = high_run p framed cs code at labels pl x k a b r o here s
+  op_run op.Div k a b r o room here s = signed_div_run p framed cs code at labels pl x named_error k a b r o room here s
+  op_run op.Mod k a b r o room here s = signed_mod_run p framed cs code at labels pl x named_error k a b r o room here s
+  op_run op.DivUnsigned k a b r o room here s = div_run p framed cs code at labels pl x named_error k a b r o room here s
+  op_run op.ModUnsigned k a b r o room here s = mod_run p framed cs code at labels pl x named_error k a b r o room here s
+  op_run op.And k a b r o room here s = and_run p framed cs code at labels pl x k a b r o here s
+  op_run op.Or k a b r o room here s = or_run p framed cs code at labels pl x k a b r o here s
+  op_run op.Xor k a b r o room here s = xor_run p framed cs code at labels pl x k a b r o here s
+  op_run op.Shl k a b r o room here s = shl_run p framed cs code at labels pl x k a b r o here s (b % 256) refl
+  op_run op.Shr k a b r o room here s = shr_run p framed cs code at labels pl x k a b r o here s (b % 256) refl
+  op_run op.Equal k a b r o room here s = equal_run p framed cs code at labels pl x k a b r o here s
+  op_run op.Less k a b r o room here s = less_run p framed cs code at labels pl x k a b r o here s
+  op_run op.Below k a b r o room here s = below_run p framed cs code at labels pl x k a b r o here s
 
   more_few : (m n : ℕ) (r : ResidentState) → m ≤ n → Fails p framed x.addresses.error_routine m r 200 → Fails p framed x.addresses.error_routine n r 200
   more_few m n r e h = fails_as p framed cs code at labels pl x named_error m n 200 r e h
@@ -88,8 +89,8 @@ module _ (p : Program) (framed : Bool) (cs : Segment) (code : List ℕ) (at labe
     Right n k j r vb = (t : ResidentState) → IsAt cs (at k) t → Active p.installed choice f m t.registers t.cells → t.registers.sp + 2 ≡ r.registers.sp → Evaluates p framed cs x.addresses.error_routine n (at j) t vb
 
     -- both operands have their values
-    both_there : (o : FlatOp) → IsUnsigned o → (na nb k kb : ℕ) (r : ResidentState) (v w : ℕ) (a : Gives p framed cs na (at k) r v) (push : Carried p framed cs 1 (at (k + 1)) (with_memory r a.registers a.cells) (registers_pushed a.registers (at (k + 1))) (cells_pushed a.registers a.cells)) → Lowers a.registers a.cells (registers_pushed a.registers (at (k + 1))) (cells_pushed a.registers a.cells) → HoldsWord (cells_pushed a.registers a.cells) a.registers.ss (pushed_at a.registers) a.registers.ax → Gives p framed cs nb (at kb) (with_memory r (registers_pushed a.registers (at (k + 1))) (cells_pushed a.registers a.cells)) w → 66 ≤ r.registers.sp → r.registers.sp < 65536 → 16 * r.registers.ss + r.registers.sp ≤ 1048576 → Stands (IsSpelledAt code) at labels kb (ones (move word.Cx word.Ax ∷ instr.Pop word.Ax ∷ op_code x o)) → Evaluates p framed cs x.addresses.error_routine (na + 1 + nb + 2 + length (op_code x o)) (at (kb + 2 + length (op_code x o))) r (op_of o v w)
-    both_there o unsigned na nb k kb r v w a push lower holds b room top inside s = done
+    both_there : (o : FlatOp) (na nb k kb : ℕ) (r : ResidentState) (v w : ℕ) (a : Gives p framed cs na (at k) r v) (push : Carried p framed cs 1 (at (k + 1)) (with_memory r a.registers a.cells) (registers_pushed a.registers (at (k + 1))) (cells_pushed a.registers a.cells)) → Lowers a.registers a.cells (registers_pushed a.registers (at (k + 1))) (cells_pushed a.registers a.cells) → HoldsWord (cells_pushed a.registers a.cells) a.registers.ss (pushed_at a.registers) a.registers.ax → Gives p framed cs nb (at kb) (with_memory r (registers_pushed a.registers (at (k + 1))) (cells_pushed a.registers a.cells)) w → 66 ≤ r.registers.sp → r.registers.sp < 65536 → 16 * r.registers.ss + r.registers.sp ≤ 1048576 → Stands (IsSpelledAt code) at labels kb (ones (move word.Cx word.Ax ∷ instr.Pop word.Ax ∷ op_code x o)) → Evaluates p framed cs x.addresses.error_routine (na + 1 + nb + 2 + length (op_code x o)) (at (kb + 2 + length (op_code x o))) r (op_of o v w)
+    both_there o na nb k kb r v w a push lower holds b room top inside s = done
       where
         g1 : Registers
         g1 = a.registers
@@ -177,11 +178,11 @@ module _ (p : Program) (framed : Bool) (cs : Segment) (code : List ℕ) (at labe
 
         done : Evaluates p framed cs x.addresses.error_routine (na + 1 + nb + 2 + length (op_code x o)) (at (kb + 2 + length (op_code x o))) r (op_of o v w)
         done = then_evaluates p framed cs x.addresses.error_routine (na + 1 + nb + 2) (length (op_code x o)) (at (kb + 2)) (at (kb + 2 + length (op_code x o))) r g4 b.cells (op_of o v w) comes
-            (op_run o unsigned (kb + 2) v w (with_memory r g4 b.cells) operands (let e = sp3 in let d = down in let z = sp1 in let t = top in let q = room in omega arith) pop.here back)
+            (op_run o (kb + 2) v w (with_memory r g4 b.cells) operands (let e = sp3 in let d = down in let z = sp1 in let t = top in let q = room in omega arith) pop.here back)
 
     -- the left operand has its value: it is pushed, and the right one follows
-    left_there : (o : FlatOp) → IsUnsigned o → (na nb k : ℕ) (r : ResidentState) (v : ℕ) → Gives p framed cs na (at k) r v → Active p.installed choice f m r.registers r.cells → 66 ≤ r.registers.sp → Stands (IsSpelledAt code) at labels k (ones (instr.Push word.Ax ∷ [])) → Stands (IsSpelledAt code) at labels (k + 1 + nb) (ones (move word.Cx word.Ax ∷ instr.Pop word.Ax ∷ op_code x o)) → (vb : Found ℕ) → Right nb (k + 1) (k + 1 + nb) r vb → Evaluates p framed cs x.addresses.error_routine (na + 1 + nb + 2 + length (op_code x o)) (at (k + 1 + nb + 2 + length (op_code x o))) r (vb >>= op_of o v)
-    left_there o unsigned na nb k r v a active room push back vb right = by vb (right r2 carried.here active2 (let e = a.keeps.sp in let d = down in let q = room in omega arith))
+    left_there : (o : FlatOp) (na nb k : ℕ) (r : ResidentState) (v : ℕ) → Gives p framed cs na (at k) r v → Active p.installed choice f m r.registers r.cells → 66 ≤ r.registers.sp → Stands (IsSpelledAt code) at labels k (ones (instr.Push word.Ax ∷ [])) → Stands (IsSpelledAt code) at labels (k + 1 + nb) (ones (move word.Cx word.Ax ∷ instr.Pop word.Ax ∷ op_code x o)) → (vb : Found ℕ) → Right nb (k + 1) (k + 1 + nb) r vb → Evaluates p framed cs x.addresses.error_routine (na + 1 + nb + 2 + length (op_code x o)) (at (k + 1 + nb + 2 + length (op_code x o))) r (vb >>= op_of o v)
+    left_there o na nb k r v a active room push back vb right = by vb (right r2 carried.here active2 (let e = a.keeps.sp in let d = down in let q = room in omega arith))
       where
         r1 : ResidentState
         r1 = with_memory r a.registers a.cells
@@ -208,7 +209,7 @@ module _ (p : Program) (framed : Bool) (cs : Segment) (code : List ℕ) (at labe
         active2 = active_lower p.installed choice f m a.registers r2.registers a.cells r2.cells active1 lower.sp refl refl refl lower.bytes lower.free
 
         by : (vb : Found ℕ) → Evaluates p framed cs x.addresses.error_routine nb (at (k + 1 + nb)) r2 vb → Evaluates p framed cs x.addresses.error_routine (na + 1 + nb + 2 + length (op_code x o)) (at (k + 1 + nb + 2 + length (op_code x o))) r (vb >>= op_of o v)
-        by (Ok w) b = both_there o unsigned na nb k (k + 1 + nb) r v w a carried lower (push_holds p framed cs code at labels pl choice f m r1 active1 room1) b room active.top active.inside back
+        by (Ok w) b = both_there o na nb k (k + 1 + nb) r v w a carried lower (push_holds p framed cs code at labels pl choice f m r1 active1 room1) b room active.top active.inside back
         by (Err ByZero) b =
             let few = a.few in
             let failed = fails_on p framed x.addresses.error_routine (na + 1) nb (a.count + 1) 200 r r2.registers r2.cells (omega arith)
@@ -217,10 +218,10 @@ module _ (p : Program) (framed : Bool) (cs : Segment) (code : List ℕ) (at labe
             more_few (na + 1 + nb) (na + 1 + nb + 2 + length (op_code x o)) r (omega arith) failed
         by (Err (Bad act)) b = tt
 
-    binary : (o : FlatOp) → IsUnsigned o → (na nb k : ℕ) (r : ResidentState) → Active p.installed choice f m r.registers r.cells → 66 ≤ r.registers.sp → Stands (IsSpelledAt code) at labels k (ones (instr.Push word.Ax ∷ [])) → Stands (IsSpelledAt code) at labels (k + 1 + nb) (ones (move word.Cx word.Ax ∷ instr.Pop word.Ax ∷ op_code x o)) → (va vb : Found ℕ) → Evaluates p framed cs x.addresses.error_routine na (at k) r va → Right nb (k + 1) (k + 1 + nb) r vb → Evaluates p framed cs x.addresses.error_routine (na + 1 + nb + 2 + length (op_code x o)) (at (k + 1 + nb + 2 + length (op_code x o))) r (va >>= λ v. vb >>= op_of o v)
-    binary o unsigned na nb k r active room push back (Ok v) vb a right = left_there o unsigned na nb k r v a active room push back vb right
-    binary o unsigned na nb k r active room push back (Err ByZero) vb a right = more_few na (na + 1 + nb + 2 + length (op_code x o)) r (omega arith) a
-    binary o unsigned na nb k r active room push back (Err (Bad act)) vb a right = tt
+    binary : (o : FlatOp) (na nb k : ℕ) (r : ResidentState) → Active p.installed choice f m r.registers r.cells → 66 ≤ r.registers.sp → Stands (IsSpelledAt code) at labels k (ones (instr.Push word.Ax ∷ [])) → Stands (IsSpelledAt code) at labels (k + 1 + nb) (ones (move word.Cx word.Ax ∷ instr.Pop word.Ax ∷ op_code x o)) → (va vb : Found ℕ) → Evaluates p framed cs x.addresses.error_routine na (at k) r va → Right nb (k + 1) (k + 1 + nb) r vb → Evaluates p framed cs x.addresses.error_routine (na + 1 + nb + 2 + length (op_code x o)) (at (k + 1 + nb + 2 + length (op_code x o))) r (va >>= λ v. vb >>= op_of o v)
+    binary o na nb k r active room push back (Ok v) vb a right = left_there o na nb k r v a active room push back vb right
+    binary o na nb k r active room push back (Err ByZero) vb a right = more_few na (na + 1 + nb + 2 + length (op_code x o)) r (omega arith) a
+    binary o na nb k r active room push back (Err (Bad act)) vb a right = tt
 
     vmt_run : (unit number k : ℕ) (r : ResidentState) → IsAt cs (at k) r → Stands (IsSpelledAt code) at labels k (ones (instr.MovWord word.Ax (x.addresses.vmt (key_in x unit number)) ∷ [])) → (o : Option Name) → named f.unit f.names unit ≡ o → Evaluates p framed cs x.addresses.error_routine 1 (at (k + 1)) r ((if_placed o >>= λ name. Ok (record { unit = name; number = number })) >>= λ key. if_placed (choice.vmt key))
     vmt_run unit number k r here s None e = tt
@@ -242,26 +243,26 @@ module _ (p : Program) (framed : Bool) (cs : Segment) (code : List ℕ) (at labe
         let l = length-append is js in
         evaluates_as p framed cs x.addresses.error_routine at (length is + n) (length (is ++ js)) (k + length is + n) (k + length (is ++ js)) r found (omega arith) (omega arith) h
 
-    pub expr_runs : (e : Expr) → HasWords e → HasNoSignedDivision e → (k : ℕ) (r : ResidentState) → IsAt cs (at k) r → Active p.installed choice f m r.registers r.cells → 64 + 2 * expr_depth e ≤ r.registers.sp → Stands (IsSpelledAt code) at labels k (ones (expr_code x e)) → Evaluates p framed cs x.addresses.error_routine (length (expr_code x e)) (at (k + length (expr_code x e))) r (value_of choice f m e)
-    expr_runs (Number n) w u k r here a room s = number_run p framed cs code at labels pl x choice f m suits x.addresses.error_routine k n r here s w
-    expr_runs (VmtOf unit number) w u k r here a room s = vmt_run unit number k r here s (named f.unit f.names unit) refl
-    expr_runs (Byte d) w u k r here a room s =
+    pub expr_runs : (e : Expr) → HasWords e → (k : ℕ) (r : ResidentState) → IsAt cs (at k) r → Active p.installed choice f m r.registers r.cells → 64 + 2 * expr_depth e ≤ r.registers.sp → Stands (IsSpelledAt code) at labels k (ones (expr_code x e)) → Evaluates p framed cs x.addresses.error_routine (length (expr_code x e)) (at (k + length (expr_code x e))) r (value_of choice f m e)
+    expr_runs (Number n) w k r here a room s = number_run p framed cs code at labels pl x choice f m suits x.addresses.error_routine k n r here s w
+    expr_runs (VmtOf unit number) w k r here a room s = vmt_run unit number k r here s (named f.unit f.names unit) refl
+    expr_runs (Byte d) w k r here a room s =
         let js = instr.Mov (pair.ByteRm byte.Al (byte_rm.Mem (operand x d 0))) ∷ instr.MovByte byte.Ah 0 ∷ [] in
         let l = loads_run p framed cs code at labels pl x choice f m suits d k r here a (omega arith) (ones_front (IsSpelledAt code) at labels k (loads x d) js s) in
         counted (loads x d) js 2 k r (value_of choice f m (Byte d)) refl (byte_run p framed cs code at labels pl x choice f m suits x.addresses.error_routine d (length (loads x d)) k r a (omega arith) (ones_back (IsSpelledAt code) at labels k (loads x d) js s) (place_of choice f m d) l)
-    expr_runs (Word d) w u k r here a room s =
+    expr_runs (Word d) w k r here a room s =
         let js = load word.Ax (operand x d 0) ∷ [] in
         let l = loads_run p framed cs code at labels pl x choice f m suits d k r here a (omega arith) (ones_front (IsSpelledAt code) at labels k (loads x d) js s) in
         counted (loads x d) js 1 k r (value_of choice f m (Word d)) refl (word_run p framed cs code at labels pl x choice f m suits x.addresses.error_routine d (length (loads x d)) k r a (omega arith) (ones_back (IsSpelledAt code) at labels k (loads x d) js s) (place_of choice f m d) l)
-    expr_runs (AddressOf d) w u k r here a room s =
+    expr_runs (AddressOf d) w k r here a room s =
         let js = instr.Lea word.Ax (memory_at (operand_place x d 0)) ∷ [] in
         let l = loads_run p framed cs code at labels pl x choice f m suits d k r here a (omega arith) (ones_front (IsSpelledAt code) at labels k (loads x d) js s) in
         counted (loads x d) js 1 k r (value_of choice f m (AddressOf d)) refl (address_run p framed cs code at labels pl x choice f m suits x.addresses.error_routine d (length (loads x d)) k r (ones_back (IsSpelledAt code) at labels k (loads x d) js s) (place_of choice f m d) l)
-    expr_runs (SegmentOf d) w u k r here a room s =
+    expr_runs (SegmentOf d) w k r here a room s =
         let js = segment_code d in
         let l = loads_run p framed cs code at labels pl x choice f m suits d k r here a (omega arith) (ones_front (IsSpelledAt code) at labels k (loads x d) js s) in
         counted (loads x d) js 1 k r (value_of choice f m (SegmentOf d)) (segment_length d) (segment_run p framed cs code at labels pl x choice f m suits x.addresses.error_routine d (length (loads x d)) k r (ones_back (IsSpelledAt code) at labels k (loads x d) js s) (place_of choice f m d) l)
-    expr_runs (Op o ea eb) w u k r here a room s =
+    expr_runs (Op o ea eb) w k r here a room s =
         let ca = expr_code x ea in
         let cb = expr_code x eb in
         let tail = move word.Cx word.Ax ∷ instr.Pop word.Ax ∷ op_code x o in
@@ -270,7 +271,7 @@ module _ (p : Program) (framed : Bool) (cs : Segment) (code : List ℕ) (at labe
         let sr = ones_back (IsSpelledAt code) at labels k ca rest s in
         let la = length-append ca rest in
         let lb = length-append cb tail in
-        let run = binary o u.0 (length ca) (length cb) (k + length ca) r a (omega arith) (sr.0, tt) (ones_back (IsSpelledAt code) at labels (k + length ca + 1) cb tail sr.1) (value_of choice f m ea) (value_of choice f m eb)
-        (expr_runs ea w.0 u.1 k r here a (omega arith) sa)
-        (λ t there active sp. expr_runs eb w.1 u.2 (k + length ca + 1) t there active (omega arith) (ones_front (IsSpelledAt code) at labels (k + length ca + 1) cb tail sr.1)) in
+        let run = binary o (length ca) (length cb) (k + length ca) r a (omega arith) (sr.0, tt) (ones_back (IsSpelledAt code) at labels (k + length ca + 1) cb tail sr.1) (value_of choice f m ea) (value_of choice f m eb)
+        (expr_runs ea w.0 k r here a (omega arith) sa)
+        (λ t there active sp. expr_runs eb w.1 (k + length ca + 1) t there active (omega arith) (ones_front (IsSpelledAt code) at labels (k + length ca + 1) cb tail sr.1)) in
         evaluates_as p framed cs x.addresses.error_routine at (length ca + 1 + length cb + 2 + length (op_code x o)) (length (expr_code x (Op o ea eb))) (k + length ca + 1 + length cb + 2 + length (op_code x o)) (k + length (expr_code x (Op o ea eb))) r (value_of choice f m (Op o ea eb)) (omega arith) (omega arith) run

@@ -7,4 +7,6 @@ pub mod Runs
 pub mod Operators
 pub mod Division
 pub mod Stack
+pub mod Magnitudes
+pub mod Signed
 pub mod Expressions

@@ -2,8 +2,6 @@
 use Rattle.std.specs.Prelude.{◌≡◌, ℕ, ◌≤◌, ◌<◌, Bool, List, Ok, Err, Some}
 use Rattle.flat_code.specs.declared.memory.Place.{Place}
 use Rattle.flat_code.specs.declared.memory.Trap.TheVariants.{ByZero, Bad}
-use Rattle.flat_code.specs.declared.tree.FlatOp.{FlatOp}
-use Rattle.flat_code.specs.declared.tree.FlatOp.TheVariants as op
 use Rattle.flat_code.specs.Memory.{Found}
 use Rattle.flat_code.specs.Tree.{Expr, Number, Byte, Word, AddressOf, SegmentOf, VmtOf, Op}
 use Rattle.cpu_8086.specs.declared.registers.Registers.{Registers}
@@ -25,16 +23,6 @@ HasWords (AddressOf at) = Unit {0}
 HasWords (SegmentOf at) = Unit {0}
 HasWords (VmtOf unit number) = Unit {0}
 HasWords (Op op a b) = HasWords a × HasWords b
-
--- no signed division: its code is not proved yet
-abbrev pub IsUnsigned : FlatOp → Type 0
-IsUnsigned op.Div = ⊥
-IsUnsigned op.Mod = ⊥
-IsUnsigned _ = Unit {0}
-
-abbrev pub HasNoSignedDivision : Expr → Type 0
-HasNoSignedDivision (Op o a b) = IsUnsigned o × HasNoSignedDivision a × HasNoSignedDivision b
-HasNoSignedDivision _ = Unit {0}
 
 -- At most n events lead to the line at this offset, with a word in AX; the frame and what can be reached are as before.
 pub record Gives (p : Program) (framed : Bool) (cs : Segment) (n ip : ℕ) (r : ResidentState) (v : ℕ) : Type 0 where

@@ -3,4 +3,4 @@
 
 mod laws;
 
-pub use laws::example_law;
+pub use laws::{example_law, weight_law};
