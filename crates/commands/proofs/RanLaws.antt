@@ -17,11 +17,11 @@ use Rattle.dos_runner.proofs.Composition.{risen_later}
 use Rattle.overlay_manager.specs.Manager.{Manager}
 use Rattle.overlay_runner.specs.declared.runner.Runner.{Runner}
 use Rattle.overlay_runner.specs.Event.{Rises}
-use Rattle.overlay_runner.specs.Runner.{RunsOn}
+use Rattle.overlay_runner.specs.Runner.{with_retry, RunsOn}
 use Rattle.dos_runner.proofs.Conclusion.{Ends, Concludes, concludes}
 use Rattle.commands.specs.declared.names.FileKind.TheVariants.{Source, Executable, Overlays}
 use Rattle.commands.specs.declared.words.RunOptions.{RunOptions}
-use Rattle.commands.specs.Run.{limit_of, BeginsNamed, RunsFrom}
+use Rattle.commands.specs.Run.{limit_of, retry_of, BeginsNamed, RunsFrom}
 use Rattle.commands.specs.Files.{file_of}
 use Rattle.commands.specs.Words.{IsGo}
 use Rattle.commands.specs.World.{World, Holds}
@@ -116,15 +116,19 @@ performs_ran ends.ErrorsFault words old new r = r
 performs_ran ends.FilesFault words old new r = absurd r.run.run.leaves
 
 -- a run of a program that was opened
-pub ran_from : (known now_known : Option Folder) (end : RunEnd) (name : List ℕ) (options : RunOptions) (first last : Runner) (limit : ℕ) (o o' : Outside) → now_known ≡ known → limit ≡ limit_of options
-    → IfSome known (λ held. BeginsNamed held name options.buffer first) → IfSome now_known (λ held. RunsOn (bytes_of held first.course.ovr.name) end limit first last o o')
-    → IfSome known (λ held. RunsFrom held end name options o o')
-ran_from None now_known end name options first last limit o o' same limit_is begins runs = tt
-ran_from (Some held) now_known end name options first last limit o o' same limit_is begins runs =
-    let R : Folder → List ℕ → ℕ → Type 0 = λ held name limit. RunsOn (bytes_of held name) end limit first last o o' in
-    let names : first.course.ovr.name ≡ file_of name Overlays = ap (λ (m : Manager). m.name) begins.begins.opened.manager_is in
-    let run : R held first.course.ovr.name limit = subst (λ (known : Option Folder). IfSome known (λ held. R held first.course.ovr.name limit)) same runs in
-    record { first = first; last = last; begins = begins; runs = subst (R held (file_of name Overlays)) limit_is (subst (λ (n : List ℕ). R held n limit) names run) }
+pub ran_from : (known now_known : Option Folder) (end : RunEnd) (name : List ℕ) (options : RunOptions) (opened first last : Runner) (retry limit : ℕ) (o o' : Outside) → now_known ≡ known → first ≡ with_retry opened retry
+    → retry ≡ retry_of options → limit ≡ limit_of options → IfSome known (λ held. BeginsNamed held name options.buffer opened)
+    → IfSome now_known (λ held. RunsOn (bytes_of held first.course.ovr.name) end limit first last o o') → IfSome known (λ held. RunsFrom held end name options o o')
+ran_from None now_known end name options opened first last retry limit o o' same first_is retry_is limit_is begins runs = tt
+ran_from (Some held) now_known end name options opened first last retry limit o o' same first_is retry_is limit_is begins runs =
+    let R : Folder → List ℕ → ℕ → Runner → Type 0 = λ held name limit first. RunsOn (bytes_of held name) end limit first last o o' in
+    let names : opened.course.ovr.name ≡ file_of name Overlays = ap (λ (m : Manager). m.name) begins.begins.opened.manager_is in
+    let kept : first.course.ovr.name ≡ file_of name Overlays = ap (λ (r : Runner). r.course.ovr.name) first_is ∙ names in
+    let set : first ≡ with_retry opened (retry_of options) = first_is ∙ ap (with_retry opened) retry_is in
+    let run : R held first.course.ovr.name limit first = subst (λ (known : Option Folder). IfSome known (λ held. R held first.course.ovr.name limit first)) same runs in
+    let named : R held (file_of name Overlays) limit first = subst (λ (n : List ℕ). R held n limit first) kept run in
+    let limited : R held (file_of name Overlays) (limit_of options) first = subst (λ (limit : ℕ). R held (file_of name Overlays) limit first) limit_is named in
+    record { first = opened; last = last; begins = begins; runs = subst (R held (file_of name Overlays) (limit_of options)) set limited }
 
 -- faults of files count from the opening on
 pub rises_behind : (end : RunEnd) (o o' : Outside) (files files1 files2 : ℕ) → files ≤ files1 → Rises (Some end) o o' files1 files2 → Rises (Some end) o o' files files2

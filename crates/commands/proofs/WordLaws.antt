@@ -3,7 +3,7 @@ use Rattle.std.proofs.Common.{◌≡◌, ℕ, ◌<◌, ◌≤◌, List, [], ◌�
 use Rattle.std.proofs.lemmas.List.{take_all}
 use Rattle.std.specs.Prelude.{codes, slice_index}
 use Rattle.commands.specs.declared.words.RunOptions.{RunOptions}
-use Rattle.commands.specs.Words.{IsNamed, IsBuffer, IsLimit, IsOption, AreOptions, IsGo, IsRun}
+use Rattle.commands.specs.Words.{IsNamed, IsBuffer, IsLimit, IsRetry, IsOption, AreOptions, IsGo, IsRun}
 
 -- the first two words, and those behind them
 pub two_and_rest : {S : Type 0} (f : S → List ℕ) (xs : List S) (a b : S) (first second : List ℕ) → 2 ≤ length xs → a ≡ get_or xs 0 a → b ≡ get_or xs 1 b → first ≡ f a → second ≡ f b
@@ -53,14 +53,27 @@ more_options (Some after) words rest key value before next is option behind =
     let all : AreOptions (key ∷ value ∷ rest) before after = (next, option, behind) in
     subst (λ (ws : List (List ℕ)). AreOptions ws before after) (sym is) all
 
--- the names of the two options differ in their third byte
-apart : ◌≡◌ {A = ℕ} 98 108 → ⊥
-apart e = omega arith
+-- the names of two options differ in their third byte
+apart-bl : ◌≡◌ {A = ℕ} 98 108 → ⊥
+apart-bl e = omega arith
+
+apart-br : ◌≡◌ {A = ℕ} 98 114 → ⊥
+apart-br e = omega arith
+
+apart-lr : ◌≡◌ {A = ℕ} 108 114 → ⊥
+apart-lr e = omega arith
 
 pub buffer_only : (key value : List ℕ) (before after : RunOptions) → key ≡ codes "--buffer" → IsOption key value before after → IsBuffer value before after
 buffer_only key value before after is (inl option) = option.1
-buffer_only key value before after is (inr option) = absurd (apart (ap (λ (w : List ℕ). slice_index w 2) (sym is ∙ option.0)))
+buffer_only key value before after is (inr (inl option)) = absurd (apart-bl (ap (λ (w : List ℕ). slice_index w 2) (sym is ∙ option.0)))
+buffer_only key value before after is (inr (inr option)) = absurd (apart-br (ap (λ (w : List ℕ). slice_index w 2) (sym is ∙ option.0)))
 
 pub limit_only : (key value : List ℕ) (before after : RunOptions) → key ≡ codes "--limit" → IsOption key value before after → IsLimit value before after
-limit_only key value before after is (inl option) = absurd (apart (ap (λ (w : List ℕ). slice_index w 2) (sym option.0 ∙ is)))
-limit_only key value before after is (inr option) = option.1
+limit_only key value before after is (inl option) = absurd (apart-bl (ap (λ (w : List ℕ). slice_index w 2) (sym option.0 ∙ is)))
+limit_only key value before after is (inr (inl option)) = option.1
+limit_only key value before after is (inr (inr option)) = absurd (apart-lr (ap (λ (w : List ℕ). slice_index w 2) (sym is ∙ option.0)))
+
+pub retry_only : (key value : List ℕ) (before after : RunOptions) → key ≡ codes "--retry" → IsOption key value before after → IsRetry value before after
+retry_only key value before after is (inl option) = absurd (apart-br (ap (λ (w : List ℕ). slice_index w 2) (sym option.0 ∙ is)))
+retry_only key value before after is (inr (inl option)) = absurd (apart-lr (ap (λ (w : List ℕ). slice_index w 2) (sym option.0 ∙ is)))
+retry_only key value before after is (inr (inr option)) = option.1

@@ -9,7 +9,7 @@ use Rattle.opened_program.specs.declared.error.OpenError.TheVariants as errors
 use Rattle.opened_program.specs.Opening.{IsRefused}
 use Rattle.overlay_runner.specs.declared.runner.Runner.{Runner}
 use Rattle.overlay_runner.specs.Event.{Rises}
-use Rattle.overlay_runner.specs.Runner.{Begins, RunsOn}
+use Rattle.overlay_runner.specs.Runner.{Begins, with_retry, RunsOn}
 use Rattle.commands.specs.declared.names.FileKind.TheVariants.{Executable, Overlays}
 use Rattle.commands.specs.declared.outcome.Outcome.{Outcome}
 use Rattle.commands.specs.declared.outcome.Outcome.TheVariants as outcome
@@ -81,12 +81,16 @@ pub record BeginsNamed (held : Folder) (name : List ℕ) (buffer : Option ℕ) (
 abbrev pub limit_of : RunOptions → ℕ
 limit_of options = unwrap_or options.limit 1000000000
 
--- The run of the program that these files hold, with this buffer and this limit, ends so, and does this to the streams.
+-- how many paragraphs of overlays that live returns need are kept and moved
+abbrev pub retry_of : RunOptions → ℕ
+retry_of options = unwrap_or options.retry 0
+
+-- The run of the program that these files hold, with these options, ends so, and does this to the streams.
 pub record RunsFrom (held : Folder) (end : RunEnd) (name : List ℕ) (options : RunOptions) (o o' : Outside) : Type 0 where
   pub first : Runner
   pub last : Runner
   pub begins : BeginsNamed held name options.buffer first
-  pub runs : RunsOn (bytes_of held (file_of name Overlays)) end (limit_of options) first last o o'
+  pub runs : RunsOn (bytes_of held (file_of name Overlays)) end (limit_of options) (with_retry first (retry_of options)) last o o'
 
 -- The program of this name did not begin.
 pub record GaveUp (result : Outcome) (name : List ℕ) (buffer : Option ℕ) (old new : World) : Type 0 where

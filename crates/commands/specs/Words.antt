@@ -23,7 +23,8 @@ pub record IsNumber (most : ℕ) (word : List ℕ) (number : ℕ) : Type 0 where
   pub value : number ≡ digits_value 10 (without_leading_plus word)
   pub small : number ≤ most
 
--- The size of the buffer in paragraphs, and the limit on instructions. Each is said once at the most.
+-- The size of the buffer in paragraphs, the limit on instructions, and how many paragraphs of overlays that live returns need
+-- are kept and moved. Each is said once at the most.
 abbrev pub IsBuffer : List ℕ → RunOptions → RunOptions → Type 0
 IsBuffer value before after = (before.buffer ≡ None) × ((number : ℕ) × IsNumber 40960 value number × (after ≡ record before { buffer = Some number }))
 
@@ -31,9 +32,14 @@ abbrev pub IsLimit : List ℕ → RunOptions → RunOptions → Type 0
 IsLimit value before after =
     (before.limit ≡ None) × ((number : ℕ) × IsNumber 1000000000000000000 value number × (after ≡ record before { limit = Some number }))
 
+abbrev pub IsRetry : List ℕ → RunOptions → RunOptions → Type 0
+IsRetry value before after = (before.retry ≡ None) × ((number : ℕ) × IsNumber 40960 value number × (after ≡ record before { retry = Some number }))
+
 -- Two words that add an option to those before.
 abbrev pub IsOption : List ℕ → List ℕ → RunOptions → RunOptions → Type 0
-IsOption key value before after = ((key ≡ codes "--buffer") × IsBuffer value before after) ⊎ ((key ≡ codes "--limit") × IsLimit value before after)
+IsOption key value before after =
+    ((key ≡ codes "--buffer") × IsBuffer value before after)
+    ⊎ (((key ≡ codes "--limit") × IsLimit value before after) ⊎ ((key ≡ codes "--retry") × IsRetry value before after))
 
 -- The words are options, two words each, that make of the first options the last ones.
 abbrev pub AreOptions : List (List ℕ) → RunOptions → RunOptions → Type 0
@@ -42,7 +48,7 @@ AreOptions (key ∷ []) before after = ⊥
 AreOptions (key ∷ value ∷ rest) before after = (middle : RunOptions) × IsOption key value before middle × AreOptions rest middle after
 
 abbrev pub no_options : RunOptions
-no_options = record { buffer = None; limit = None }
+no_options = record { buffer = None; limit = None; retry = None }
 
 -- The words are `go` and the name of a program.
 abbrev pub IsGo : List (List ℕ) → List ℕ → Type 0

@@ -108,6 +108,7 @@ pub fn run_program<F: Files, S: Source, K: Sink, E: Sink>(
 {
     match open_named(alloc, name, options.buffer, files) {
         Ok(mut runner) => {
+            runner.set_retry(options.retry.unwrap_or(0));
             let limit = options.limit.unwrap_or(LIMIT);
             outcome_of(runner.run(files, input, output, errors, limit))
         }

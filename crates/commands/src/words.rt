@@ -2,7 +2,7 @@
 
 ghost use Rattle.std.specs.Prelude.{◌≡◌, ℕ, List, map, Some, None, IfSome, string_bytes, codes, [], ◌∷◌};
 ghost use Rattle.std.specs.List.{list_all};
-ghost use Rattle.commands.specs.Words.{is_identifier_byte, IsNamed, IsNumber, IsBuffer, IsLimit, IsOption, AreOptions, IsGo, IsRun, IsCommand};
+ghost use Rattle.commands.specs.Words.{is_identifier_byte, IsNamed, IsNumber, IsBuffer, IsLimit, IsRetry, IsOption, AreOptions, IsGo, IsRun, IsCommand};
 ghost use Rattle.commands.specs.declared.words.RunOptions.{RunOptions};
 ghost use Rattle.commands.specs.declared.words.Command.{Command};
 
@@ -27,6 +27,8 @@ pub struct RunOptions {
     pub buffer: Option<u16>,
     /// How many instructions the program may take.
     pub limit: Option<u64>,
+    /// How many paragraphs of overlays that live returns need are kept and moved.
+    pub retry: Option<u16>,
 }
 
 /// What the words ask for.
@@ -72,6 +74,7 @@ fn with_buffer(value: &str, options: RunOptions) -> Option<RunOptions>
     Some(RunOptions {
         buffer: Some(paragraphs as u16),
         limit: options.limit,
+        retry: options.retry,
     })
 }
 
@@ -86,6 +89,22 @@ fn with_limit(value: &str, options: RunOptions) -> Option<RunOptions>
     Some(RunOptions {
         buffer: options.buffer,
         limit: Some(limit),
+        retry: options.retry,
+    })
+}
+
+fn with_retry(value: &str, options: RunOptions) -> Option<RunOptions>
+    ensures found { IfSome result (IsRetry value.now options) }
+    ensures only { (after : RunOptions) → IsRetry value.now options after → result ≡ Some after }
+{
+    if options.retry.is_some() {
+        return None;
+    }
+    let paragraphs = number_of(value, 40960)?;
+    Some(RunOptions {
+        buffer: options.buffer,
+        limit: options.limit,
+        retry: Some(paragraphs as u16),
     })
 }
 
@@ -99,6 +118,9 @@ fn with_option(key: &[u8], value: &str, options: RunOptions) -> Option<RunOption
     }
     if key == b"--limit".as_slice() {
         return with_limit(value, options);
+    }
+    if key == b"--retry".as_slice() {
+        return with_retry(value, options);
     }
     None
 }
@@ -140,6 +162,7 @@ fn run_by(word: &[u8], rest: &[String]) -> Option<Command>
     let none = RunOptions {
         buffer: None,
         limit: None,
+        retry: None,
     };
     let options = with_options(rest, none)?;
     Some(Command::Run { name, options })

@@ -16,6 +16,10 @@ pub record Begins (bytes name : List ℕ) (held : Option (List ℕ)) (buffer : O
   pub traps : runner.traps ≡ 0
   pub instructions : runner.instructions ≡ 0
 
+-- the runner for which so many paragraphs of overlays that live returns need are kept and moved
+abbrev pub with_retry : Runner → ℕ → Runner
+with_retry runner retry = record runner { course = record runner.course { ovr = record runner.course.ovr { retry = retry } } }
+
 -- a count with so many more; at the greatest u64 it stays
 abbrev pub more : ℕ → ℕ → ℕ
 more count by = min (count + by) (2 ^ 64 - 1)

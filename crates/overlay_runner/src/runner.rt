@@ -6,7 +6,7 @@ ghost use Rattle.tp_outside.specs.Folder.{bytes_of};
 ghost use Rattle.opened_program.specs.declared.error.OpenError.{OpenError};
 ghost use Rattle.opened_program.specs.Opening.{IsRefused};
 ghost use Rattle.overlay_runner.specs.Event.{Rises};
-ghost use Rattle.overlay_runner.specs.Runner.{Begins, RunsOn, lasting, counts_of};
+ghost use Rattle.overlay_runner.specs.Runner.{Begins, with_retry, RunsOn, lasting, counts_of};
 
 use crate::counts::Counts;
 use crate::course::Course;
@@ -66,6 +66,13 @@ impl Runner {
             traps: 0,
             instructions: 0,
         })
+    }
+
+    /// From now on so many paragraphs of overlays that live returns need are kept and moved.
+    pub fn set_retry(&mut self, retry: u16)
+        ensures { self.new ≡ with_retry self.old retry }
+    {
+        self.course.ovr.set_retry(retry);
     }
 
     /// Takes the run further, for at most so many instructions. Once it has ended but by its limit, each further call

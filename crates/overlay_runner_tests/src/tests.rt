@@ -102,7 +102,7 @@ fn echoes_its_input(rt: HostRuntime) -> Result<(), Fail> {
     let exe = executable(alloc, &ECHO)?;
     let left = run_with(alloc, &exe, &[], &[], b"to the end", NONE)?;
     assert_eq!(rt; left.end, RunEnd::Ended { code: 0 });
-    assert_eq!(rt; left.output.as_slice(), b"to the end");
+    assert_eq!(rt; left.output.as_slice(), b"to the end".as_slice());
     Ok(())
 }
 
@@ -112,7 +112,7 @@ fn echoes_its_input(rt: HostRuntime) -> Result<(), Fail> {
 fn two_overlays_call_each_other(rt: HostRuntime) -> Result<(), Fail> {
     let left = run_with(rt.alloc(), &CALLS, &OVR, &OVR, b"", NONE)?;
     assert_eq!(rt; left.end, RunEnd::Ended { code: 7 });
-    assert_eq!(rt; left.output.as_slice(), b"ABAB");
+    assert_eq!(rt; left.output.as_slice(), b"ABAB".as_slice());
     let counts = Counts {
         loads: 7,
         traps: 7,
@@ -141,7 +141,7 @@ fn goes_on_after_each_limit(rt: HostRuntime) -> Result<(), Fail> {
     for _ in 0..2u32 {
         let end = runner.run(&mut files, &mut source, &mut output, &mut errors, 1);
         assert_eq!(rt; end, RunEnd::Ended { code: 7 });
-        assert_eq!(rt; output.bytes(), b"ABAB");
+        assert_eq!(rt; output.bytes(), b"ABAB".as_slice());
         assert_eq!(rt; runner.counts().instructions, 65);
     }
     Ok(())
@@ -166,7 +166,7 @@ fn each_call_fails_once(rt: HostRuntime) -> Result<(), Fail> {
     };
     let left = run_with(alloc, &CALLS, &OVR, &OVR, b"", output)?;
     assert_eq!(rt; left.end, RunEnd::OutputFault);
-    assert_eq!(rt; left.output.as_slice(), b"A");
+    assert_eq!(rt; left.output.as_slice(), b"A".as_slice());
     let input = Failing {
         input: &[3],
         ..NONE
@@ -174,7 +174,7 @@ fn each_call_fails_once(rt: HostRuntime) -> Result<(), Fail> {
     let exe = executable(alloc, &ECHO)?;
     let left = run_with(alloc, &exe, &[], &[], b"xyz", input)?;
     assert_eq!(rt; left.end, RunEnd::InputFault);
-    assert_eq!(rt; left.output.as_slice(), b"xy");
+    assert_eq!(rt; left.output.as_slice(), b"xy".as_slice());
     Ok(())
 }
 
