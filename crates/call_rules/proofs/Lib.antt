@@ -1,0 +1,4 @@
+pub mod ListLaws
+pub mod Nodes
+pub mod Single
+pub mod CallLaws

@@ -1,0 +1,4 @@
+pub mod Lists
+pub mod Casts
+pub mod Given
+pub mod Laws
