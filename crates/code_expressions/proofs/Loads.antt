@@ -51,7 +51,7 @@ SegmentIn (Outer levels d) q g = g.ss ≡ q.segment
 SegmentIn (Through slot plus) q g = g.es ≡ q.segment
 
 -- the operand leads to the place, with so many bytes more
-pub record Leads_to (x : Context) (a : Address) (q : Place) (g : Registers) : Type 0 where
+pub record LeadsTo (x : Context) (a : Address) (q : Place) (g : Registers) : Type 0 where
   pub segment : (h : Registers) (more : ℕ) (next : ℕ → Act) → SameBases g h → segment_then h (operand x a more) next ≡ next q.segment
   pub offset : (h : Registers) (more : ℕ) → SameBases g h → offset_of h (operand_place x a more) ≡ (q.offset + more) % 65536
   pub segment_in : SegmentIn a q g
@@ -78,7 +78,7 @@ pub record Fetched (p : Program) (framed : Bool) (cs : Segment) (n ip : ℕ) (r 
 pub record Loaded (p : Program) (framed : Bool) (cs : Segment) (n ip : ℕ) (x : Context) (a : Address) (r : ResidentState) (q : Place) : Type 0 where
   pub registers : Registers
   pub fetched : Fetched p framed cs n ip r registers
-  pub operand_is : Leads_to x a q registers
+  pub operand_is : LeadsTo x a q registers
   pub small : q.offset < 65536
   pub segment_small : q.segment < 65536
 

@@ -27,7 +27,7 @@ use Rattle.code_lines.specs.Operands.{frame_memory, load, hop, hops, links, load
 use Rattle.code_expressions.specs.Active.{Suits, Active}
 use Rattle.code_expressions.proofs.States.{ReadsWord, word_found, word_small, word_no_division}
 use Rattle.code_expressions.proofs.Operands.{displaced_offset, direct_offset, word_of_small}
-use Rattle.code_expressions.proofs.Loads.{Leads_to, Fetched, LoadsTo, Linked, LinksTo, aside_active, aside_bx, near_segment, stack_segment_is, extra_segment_is, data_segment_is, les_tree, load_bx_tree, hop_tree, fetch_word, fetch_pointer, fetched, none_fetched, fetched_on, fetched_as}
+use Rattle.code_expressions.proofs.Loads.{LeadsTo, Fetched, LoadsTo, Linked, LinksTo, aside_active, aside_bx, near_segment, stack_segment_is, extra_segment_is, data_segment_is, les_tree, load_bx_tree, hop_tree, fetch_word, fetch_pointer, fetched, none_fetched, fetched_on, fetched_as}
 
 module _ (p : Program) (framed : Bool) (cs : Segment) (code : List ℕ) (at labels : ℕ → ℕ) (pl : Placed p cs code at) (x : Context) (choice : Choice) (f : Frame) (m : flat_memory.Cells) (suits : Suits x choice f) where
   -- ## Links
@@ -86,35 +86,35 @@ module _ (p : Program) (framed : Bool) (cs : Segment) (code : List ℕ) (at labe
 
   -- ## Places
 
-  global_is : (unit number plus offset : ℕ) (g : Registers) → g.ds ≡ choice.data_segment → x.addresses.datum (key_in x unit number) ≡ offset → Leads_to x (Global unit number plus) (place_after (record { segment = choice.data_segment; offset = offset }) plus) g
+  global_is : (unit number plus offset : ℕ) (g : Registers) → g.ds ≡ choice.data_segment → x.addresses.datum (key_in x unit number) ≡ offset → LeadsTo x (Global unit number plus) (place_after (record { segment = choice.data_segment; offset = offset }) plus) g
   global_is unit number plus offset g ds e = record {
     segment = λ h more next s. data_segment_is h _ next ∙ ap next (s.ds ∙ ds);
     offset = λ h more s. direct_offset h _ ∙ (let z = e in omega arith);
     segment_in = ds;
   }
 
-  local_is : (at : ℤ) (g : Registers) → g.ss ≡ choice.stack_segment → g.bp ≡ f.bp → Leads_to x (Local at) (stack_place choice f.bp at) g
+  local_is : (at : ℤ) (g : Registers) → g.ss ≡ choice.stack_segment → g.bp ≡ f.bp → LeadsTo x (Local at) (stack_place choice f.bp at) g
   local_is at g ss bp = record {
     segment = λ h more next s. near_segment h _ next ∙ ap next (s.ss ∙ ss);
     offset = λ h more s. displaced_offset h base.Bp _ (omega arith) ∙ (let a = s.bp in let b = bp in omega arith);
     segment_in = ss;
   }
 
-  own_is : (at : ℤ) (g : Registers) → g.ss ≡ choice.stack_segment → g.bp ≡ f.bp → Leads_to x (Outer 0 at) (stack_place choice f.link at) g
+  own_is : (at : ℤ) (g : Registers) → g.ss ≡ choice.stack_segment → g.bp ≡ f.bp → LeadsTo x (Outer 0 at) (stack_place choice f.link at) g
   own_is at g ss bp = record {
     segment = λ h more next s. near_segment h _ next ∙ ap next (s.ss ∙ ss);
     offset = λ h more s. displaced_offset h base.Bp _ (omega arith) ∙ (let a = s.bp in let b = bp in let l = suits.link in omega arith);
     segment_in = ss;
   }
 
-  outer_is : (n link : ℕ) (at : ℤ) (g : Registers) → g.ss ≡ choice.stack_segment → g.bx ≡ link → Leads_to x (Outer (suc n) at) (stack_place choice link at) g
+  outer_is : (n link : ℕ) (at : ℤ) (g : Registers) → g.ss ≡ choice.stack_segment → g.bx ≡ link → LeadsTo x (Outer (suc n) at) (stack_place choice link at) g
   outer_is n link at g ss bx = record {
     segment = λ h more next s. stack_segment_is h _ next ∙ ap next (s.ss ∙ ss);
     offset = λ h more s. displaced_offset h base.Bx _ (omega arith) ∙ (let a = s.bx in let b = bx in omega arith);
     segment_in = ss;
   }
 
-  through_is : (slot : ℤ) (plus : ℕ) (q : Place) (g : Registers) → g.es ≡ q.segment → g.bx ≡ q.offset → Leads_to x (Through slot plus) (place_after q plus) g
+  through_is : (slot : ℤ) (plus : ℕ) (q : Place) (g : Registers) → g.es ≡ q.segment → g.bx ≡ q.offset → LeadsTo x (Through slot plus) (place_after q plus) g
   through_is slot plus q g es bx = record {
     segment = λ h more next s. extra_segment_is h _ next ∙ ap next (s.es ∙ es);
     offset = λ h more s. displaced_offset h base.Bx _ (omega arith) ∙ (let a = s.bx in let b = bx in omega arith);

@@ -36,7 +36,7 @@ use Rattle.code_lines.specs.Expressions.{segment_code}
 use Rattle.code_expressions.specs.Active.{Suits, Active}
 use Rattle.code_expressions.specs.Evaluates.{Gives, Evaluates}
 use Rattle.code_expressions.proofs.States.{keeps_same, word_found, byte_found_at, word_small, word_no_division, byte_no_division}
-use Rattle.code_expressions.proofs.Loads.{SameBases, Leads_to, SegmentIn, Fetched, LoadsTo, aside_active, fetch_word, fetch_byte, one_tree}
+use Rattle.code_expressions.proofs.Loads.{SameBases, LeadsTo, SegmentIn, Fetched, LoadsTo, aside_active, fetch_word, fetch_byte, one_tree}
 
 same_bases : (g : Registers) (n : ℕ) → SameBases g (at_offset g n)
 same_bases g n = record { bx = refl; bp = refl; es = refl; ss = refl; ds = refl }
@@ -49,23 +49,23 @@ place_is x (Outer (suc n) d) more = refl
 place_is x (Through slot plus) more = refl
 
 -- the offset of an operand that is loaded
-pub offset_is : (x : Context) (a : Address) (q : Place) (g h : Registers) → Leads_to x a q g → SameBases g h → q.offset < 65536 → offset_of h (operand x a 0).place ≡ q.offset
+pub offset_is : (x : Context) (a : Address) (q : Place) (g h : Registers) → LeadsTo x a q g → SameBases g h → q.offset < 65536 → offset_of h (operand x a 0).place ≡ q.offset
 offset_is x a q g h l s small = ap (offset_of h) (place_is x a 0) ∙ l.offset h 0 s ∙ (omega arith)
 
 -- MOV of a word and of a byte from an operand that is loaded
-load_tree : (x : Context) (a : Address) (q : Place) (g h : Registers) (r : WordReg) → Leads_to x a q g → SameBases g h → q.offset < 65536 → act h (load r (operand x a 0)) ≡ read_word q.segment q.offset (λ v. Done (with_word_reg h r v))
+load_tree : (x : Context) (a : Address) (q : Place) (g h : Registers) (r : WordReg) → LeadsTo x a q g → SameBases g h → q.offset < 65536 → act h (load r (operand x a 0)) ≡ read_word q.segment q.offset (λ v. Done (with_word_reg h r v))
 unfolding act word_then
 load_tree x a q g h r l s small =
     l.segment h 0 (λ segment. read_word segment (offset_of h (operand x a 0).place) (λ v. Done (with_word_reg h r v))) s
     ∙ ap (λ o. read_word q.segment o (λ v. Done (with_word_reg h r v))) (offset_is x a q g h l s small)
 
-byte_tree : (x : Context) (a : Address) (q : Place) (g h : Registers) → Leads_to x a q g → SameBases g h → q.offset < 65536 → act h (instr.Mov (pair.ByteRm byte.Al (byte_rm.Mem (operand x a 0)))) ≡ Read (address q.segment q.offset) (λ v. Done (record h { ax = with_low h.ax v }))
+byte_tree : (x : Context) (a : Address) (q : Place) (g h : Registers) → LeadsTo x a q g → SameBases g h → q.offset < 65536 → act h (instr.Mov (pair.ByteRm byte.Al (byte_rm.Mem (operand x a 0)))) ≡ Read (address q.segment q.offset) (λ v. Done (record h { ax = with_low h.ax v }))
 unfolding act byte_then
 byte_tree x a q g h l s small =
     l.segment h 0 (λ segment. Read (address segment (offset_of h (operand x a 0).place)) (λ v. Done (record h { ax = with_low h.ax v }))) s
     ∙ ap (λ o. Read (address q.segment o) (λ v. Done (record h { ax = with_low h.ax v }))) (offset_is x a q g h l s small)
 
-lea_tree : (x : Context) (a : Address) (q : Place) (g h : Registers) → Leads_to x a q g → SameBases g h → q.offset < 65536 → act h (instr.Lea word.Ax (memory_at (operand_place x a 0))) ≡ Done (record h { ax = q.offset })
+lea_tree : (x : Context) (a : Address) (q : Place) (g h : Registers) → LeadsTo x a q g → SameBases g h → q.offset < 65536 → act h (instr.Lea word.Ax (memory_at (operand_place x a 0))) ≡ Done (record h { ax = q.offset })
 unfolding act
 lea_tree x a q g h l s small = ap (λ n. Done (record h { ax = n })) (l.offset h 0 s ∙ (omega arith))
 
