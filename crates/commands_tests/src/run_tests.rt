@@ -39,10 +39,7 @@ fn executable(alloc: Global) -> Result<Vec<u8>, Fail> {
     let mut files = MemoryFiles::new(alloc, &[])?;
     files.put("a.pas", b"begin Write('Hi'); Halt(3) end.")?;
     command(alloc, &["go", "A"], &mut files)?;
-    Ok(Vec::from_slice(
-        alloc,
-        files.bytes("a.exe").ok_or("no a.exe")?,
-    )?)
+    Ok(Vec::from_slice(alloc, files.bytes("a.exe").ok_or("no a.exe")?)?)
 }
 
 // The files are asked for the executable's size and its bytes. A call with a number past these is not made.
