@@ -29,7 +29,7 @@ use Rattle.machine_lines.specs.Straight.{ones}
 use Rattle.code_lines.specs.Addresses.{Style, Plain, Context}
 use Rattle.code_lines.specs.Operands.{displaced, memory_at, frame_memory, load, links, loads, operand_place, operand}
 use Rattle.code_lines.specs.Expressions.{move, fail, op_code, segment_code, expr_code, args_code}
-use Rattle.code_lines.specs.Lines.{move_bytes, put, call_own, destination, moved_from, store_byte, store_word, store_two, taken_by, taken, given_by, given, call_own_if, call_code, write_code, read_code, end_code, runtime_code, Around, in_loop, leave, pointer_at, store_routine, step_lines, step_pointers, pointers, labels, tested as test_lines, code_lines, stack_test_if, enter_frame, leave_frame, make_room, prologue, return_code, epilogue, routine_lines}
+use Rattle.code_lines.specs.Lines.{move_bytes, put, call_own, destination, moved_from, store_byte, store_word, store_two, taken_by, taken, given_by, given, call_own_if, call_code, write_code, read_code, end_code, runtime_code, Around, in_loop, leave, pointer_at, store_routine, step_lines, step_pointers, pointers, labels, tested as test_lines, code_lines, stack_test_if, enter_frame, leave_frame, make_room, prologue, return_code, epilogue, framed_lines, within, routine_lines}
 use Rattle.code_lines.proofs.Sizes.{bytes, bytes-append, around, load_size, store_size, load_byte_size, store_byte_size, lea_size, les_size, lds_size, call_size, word_size, immediate_size, around_operand, around_at, links_size, reach, place_reach}
 
 op_bytes : (x : Context) (o : FlatOp) → bytes (op_code x o) ≤ op_weight o
@@ -251,7 +251,7 @@ epilogue_bytes : (x : Context) (r : Routine) → bytes (epilogue x r) ≤ 6 + re
 epilogue_bytes x r =
     omega (arith, given_bytes x r.result, (enter_bytes x.style).1, return_bytes r.far r.arguments, bytes-append (given x r.result) (leave_frame x.style ++ (return_code r.far r.arguments ∷ [])), bytes-append (leave_frame x.style) (return_code r.far r.arguments ∷ []))
 
-routine_bytes : (x : Context) (pointer : ℕ) (r : Routine) → code_size (routine_lines x pointer r) ≤ routine_weight r
+routine_bytes : (x : Context) (pointer : ℕ) (r : Routine) → code_size (framed_lines x pointer r) ≤ routine_weight r
 routine_bytes x pointer r =
     let home = length x.unit.routines in
     let body = code_lines x (record { home = home; ends = [] }) (home + 1) pointer r.body in
@@ -262,12 +262,15 @@ pub expression_weighs : (x : Context) (e : Expr) → length (assembled (ones (ex
 expression_weighs x e = omega (arith, expr_bytes x e, length-assembled (ones (expr_code x e)))
 
 pub routine_weighs : (x : Context) (pointer : ℕ) (r : Routine) → length (assembled (routine_lines x pointer r)) ≤ routine_weight r
-routine_weighs x pointer r = omega (arith, routine_bytes x pointer r, length-assembled (routine_lines x pointer r))
+routine_weighs x pointer r = omega (arith, routine_bytes (within x r) pointer r, length-assembled (routine_lines x pointer r))
 
 -- a frame is made and left
-pub routine_least : (x : Context) (pointer : ℕ) (r : Routine) → 6 ≤ length (assembled (routine_lines x pointer r))
-routine_least x pointer r =
+framed_least : (x : Context) (pointer : ℕ) (r : Routine) → 6 ≤ length (assembled (framed_lines x pointer r))
+framed_least x pointer r =
     let home = length x.unit.routines in
     let body = code_lines x (record { home = home; ends = [] }) (home + 1) pointer r.body in
     let last = Label home ∷ ones (epilogue x r) in
-    omega (arith, (enter_bytes x.style).0, immediate_size alu.Sub word.Sp (r.locals % 65536), bytes-append (enter_frame x.style) (stack_test_if x r r.frame ++ (make_room r ∷ [])), bytes-append (stack_test_if x r r.frame) (make_room r ∷ []), code_size-append (ones (prologue x r)) (body ++ last), length-assembled (routine_lines x pointer r))
+    omega (arith, (enter_bytes x.style).0, immediate_size alu.Sub word.Sp (r.locals % 65536), bytes-append (enter_frame x.style) (stack_test_if x r r.frame ++ (make_room r ∷ [])), bytes-append (stack_test_if x r r.frame) (make_room r ∷ []), code_size-append (ones (prologue x r)) (body ++ last), length-assembled (framed_lines x pointer r))
+
+pub routine_least : (x : Context) (pointer : ℕ) (r : Routine) → 6 ≤ length (assembled (routine_lines x pointer r))
+routine_least x pointer r = framed_least (within x r) pointer r

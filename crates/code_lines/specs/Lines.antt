@@ -243,8 +243,15 @@ abbrev pub epilogue : Context → Routine → List Instr
 epilogue x r = given x r.result ++ (leave_frame x.style ++ (return_code r.far r.arguments ∷ []))
 
 -- The labels below the number of the unit's routines are the routines' own.
-abbrev pub routine_lines : Context → ℕ → Routine → List Line
-routine_lines x pointer r =
+abbrev pub framed_lines : Context → ℕ → Routine → List Line
+framed_lines x pointer r =
     ones (prologue x r)
     ++ (code_lines x (record { home = length x.unit.routines; ends = [] }) (length x.unit.routines + 1) pointer r.body
     ++ (Label (length x.unit.routines) ∷ ones (epilogue x r)))
+
+-- The frame is the routine's, whatever the context says of it.
+abbrev pub within : Context → Routine → Context
+within x r = record x { far = r.far }
+
+abbrev pub routine_lines : Context → ℕ → Routine → List Line
+routine_lines x pointer r = framed_lines (within x r) pointer r
