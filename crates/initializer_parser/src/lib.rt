@@ -1,0 +1,9 @@
+//! First values of typed constants, read from lexemes.
+#![tactic(auto)]
+
+mod front;
+mod initializer;
+mod list;
+mod read;
+
+pub use read::read_initializer;

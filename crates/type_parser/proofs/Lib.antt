@@ -1,0 +1,9 @@
+pub mod Each
+pub mod Fields
+pub mod Going
+pub mod Listing
+pub mod Named
+pub mod Ranges
+pub mod Rows
+pub mod Sound
+pub mod Steps

@@ -1,0 +1,13 @@
+//! Types of Turbo Pascal, read from lexemes.
+#![tactic(auto)]
+
+mod front;
+mod lexemes;
+mod list;
+mod object;
+mod plain;
+mod range;
+mod read;
+mod types;
+
+pub use read::read_type;
