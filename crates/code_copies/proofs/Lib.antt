@@ -1,0 +1,7 @@
+pub mod Cells
+pub mod Moves
+pub mod Links
+pub mod Segments
+pub mod Destinations
+pub mod Sources
+pub mod Copies
