@@ -42,7 +42,7 @@ flag_kept flag choice f m g c a low =
 
 -- turns and work are nothing that the machine shows
 pub represents_like : (w : World) (live : Live) (s : State) (turns work : ℕ) (r : ResidentState) → Represents w live s r → Represents w live (record s { turns = turns; work = work }) r
-represents_like w live s turns work r a = record { active = a.active; sp = a.sp; direction = a.direction; flag = a.flag; set = a.set; outside = a.outside; fixed = a.fixed; records = a.records; unread = a.unread; read = a.read; out = a.out; err = a.err }
+represents_like w live s turns work r a = record { active = a.active; sp = a.sp; direction = a.direction; flag = a.flag; set = a.set; outside = a.outside; fixed = a.fixed; records = a.records; unread = a.unread; bytes = a.bytes; read = a.read; out = a.out; err = a.err }
 
 module _ (w : World) (site : Site) (live : Live) (fits : Fits w site live) where
   pub fixed_kept : (s : State) (r : ResidentState) (place byte : ℕ) → Represents w live s r → live.fixed place ≡ Some byte → IsKept r.registers place
@@ -63,6 +63,7 @@ module _ (w : World) (site : Site) (live : Live) (fits : Fits w site live) where
     fixed = λ place byte e. k.bytes place (fixed_kept s r place byte a e) ∙ a.fixed place byte e;
     records = a.records;
     unread = a.unread;
+    bytes = a.bytes;
     read = a.read;
     out = a.out;
     err = a.err;

@@ -85,6 +85,7 @@ module _ (w : World) (site : Site) (live : Live) (fits : Fits w site live) where
           fixed = λ place byte e. b.outside place (a.outside place byte e) (fixed_kept w site live fits s r place byte a e) ∙ a.fixed place byte e;
           records = a.records;
           unread = a.unread;
+          bytes = a.bytes;
           read = a.read;
           out = a.out;
           err = a.err;

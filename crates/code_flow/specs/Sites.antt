@@ -1,5 +1,5 @@
 -- What the code of a routine is proved in: the program and its choice, the place where the code stands, and the live activation.
-use Rattle.std.specs.Prelude.{◌≡◌, ◌≢◌, ℕ, suc, ◌+◌, ◌*◌, ◌≤◌, Bool, true, false, List, length, drop, Option, Some}
+use Rattle.std.specs.Prelude.{◌≡◌, ◌≢◌, ℕ, suc, ◌+◌, ◌*◌, ◌<◌, ◌≤◌, Bool, true, false, List, [], ◌∷◌, length, drop, Option, Some}
 use Rattle.flat_code.specs.declared.memory.Cell.TheVariants as flat
 use Rattle.flat_code.specs.Program.{FlatProgram, Choice}
 use Rattle.flat_code.specs.Values.{Frame}
@@ -48,6 +48,11 @@ abbrev pub IsFlag : Bool → Cell → Type 0
 IsFlag false cell = cell ≡ Known 0
 IsFlag true cell = (v : ℕ) × (cell ≡ Known (suc v))
 
+-- what is read are bytes
+abbrev pub AreBytes : List ℕ → Type 0
+AreBytes [] = Unit {0}
+AreBytes (b ∷ bs) = (b < 256) × AreBytes bs
+
 -- The machine stands for a state of flat code between two statements of an activation.
 pub record Represents (w : World) (live : Live) (s : State) (r : ResidentState) : Type 0 where
   pub active : Active w.machine.installed w.choice live.frame s.cells r.registers r.cells
@@ -60,6 +65,7 @@ pub record Represents (w : World) (live : Live) (s : State) (r : ResidentState) 
   pub fixed : (place byte : ℕ) → live.fixed place ≡ Some byte → r.cells place ≡ Known byte
   pub records : r.records ≡ live.records
   pub unread : drop r.taken r.input ≡ s.input
+  pub bytes : AreBytes s.input
   pub read : r.taken ≤ length r.input
   pub out : r.out ≡ s.out
   pub err : r.err ≡ s.err
