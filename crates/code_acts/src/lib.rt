@@ -1,0 +1,6 @@
+//! The code of arguments, of acts of the machine, and of stored routines does what they mean.
+#![tactic(auto)]
+
+mod laws;
+
+pub use laws::{act_law, argument_law, routine_law};
