@@ -3,6 +3,8 @@ pub mod Taken
 pub mod Results
 pub mod Dos
 pub mod Pops
+pub mod Inputs
 pub mod Writes
 pub mod Ends
 pub mod Routines
+pub mod Reading
