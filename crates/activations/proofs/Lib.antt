@@ -1,0 +1,3 @@
+pub mod Opened
+pub mod FrameSizes
+pub mod Outer

@@ -1,0 +1,11 @@
+//! Activations of routines, and their variables.
+#![tactic(auto)]
+
+mod callee;
+mod calls;
+mod opening;
+mod routines;
+mod variables;
+
+pub use callee::Callee;
+pub use calls::{Activation, Level, callee_of};
