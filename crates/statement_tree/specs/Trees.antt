@@ -1,5 +1,5 @@
 -- Statements over expressions as operators and operands, without where nodes lie in memory.
-use Rattle.std.specs.Prelude.{ℕ, Bool, true, false, List, [], ◌∷◌, map}
+use Rattle.std.specs.Prelude.{ℕ, List, [], ◌∷◌, map}
 use Rattle.pascal_grammar.specs.declared.lexeme.Position.{Position}
 use Rattle.pascal_grammar.specs.declared.operator.Direction.{Direction}
 use Rattle.syntax_tree.specs.declared.statement.Statement.{Statement, Row_of-Statement, end_of-Statement, more_of-Statement, Row_of-CaseArm, end_of-CaseArm, more_of-CaseArm}
