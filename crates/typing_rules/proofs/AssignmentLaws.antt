@@ -1,6 +1,6 @@
 -- The judgement of a value that is assigned is lawful.
-use Rattle.std.proofs.Common.{◌≡◌, Bool, List, Option, Some, None, Decides, refl}
-use Rattle.std.proofs.lemmas.Bool.Decides.{Decides-and, Decides-or, Decides-eqb}
+use Rattle.std.proofs.Common.{Bool, List, Option, Decides}
+use Rattle.std.proofs.lemmas.Bool.Decides.{Decides-and, Decides-or}
 use Rattle.type_layout.specs.declared.definitions.TypeId.{TypeId}
 use Rattle.type_layout.specs.declared.definitions.TypeDef.{TypeDef}
 use Rattle.type_layout.specs.declared.texts.Place.{Place}
@@ -13,35 +13,37 @@ use Rattle.typing_rules.specs.Faults.{broken, not_yet}
 use Rattle.typing_rules.specs.Judgements.{refuses, rule}
 use Rattle.typing_rules.specs.Sorts.{sort_of_type, sort_of}
 use Rattle.typing_rules.specs.Wanted.{stored_of}
-use Rattle.typing_rules.specs.Assignments.{IsString, is_string, IsOfType, is_of_type, IsAssignable, is_assignable, is_unbuilt, assigned_by, assigned_to, assigned}
+use Rattle.typing_rules.specs.Assignments.{IsString, is_string, IsLike, is_like, IsAssignable, is_assignable, is_procedural, assigned_by, assigned_to, assigned}
 use Rattle.typing_rules.specs.Laws.{Lawful}
 use Rattle.typing_rules.proofs.JudgementLaws.{lawful_refuses, lawful_rule, lawful_either}
-use Rattle.typing_rules.proofs.PlanLaws.{yes, no, tells_one_host, tells_text}
+use Rattle.typing_rules.proofs.PlanLaws.{yes, no, tells_one_host, tells_text, tells_sets}
+use Rattle.typing_rules.proofs.JoinLaws.{tells_below, tells_type, tells_nil}
 
-tells_string : (s : Sort) → Decides (is_string s) (IsString s)
+pub tells_string : (s : Sort) → Decides (is_string s) (IsString s)
 tells_string (sort.Integer r) = no
 tells_string sort.Boolean = no
 tells_string sort.Char = no
 tells_string (sort.Enumeration ty) = no
 tells_string sort.Text = yes
-tells_string sort.Set = no
+tells_string (sort.Set base) = no
 tells_string sort.Pointer = no
+tells_string sort.Nil = no
 tells_string sort.Other = no
 
-tells_type : (ty : TypeId) (own : Option TypeId) → Decides (is_of_type ty own) (IsOfType ty own)
-tells_type ty None = no
-tells_type ty (Some own) = Decides-eqb ty.0 own.0
+tells_like : (target s : Sort) → Decides (is_like target s) (IsLike target s)
+tells_like target s =
+    Decides-or _ _ (tells_one_host target s) (Decides-or _ _ (Decides-and _ _ (tells_string target) (tells_text s)) (Decides-or _ _ (tells_sets target s) (tells_nil target s)))
 
-tells_assignable : (target s : Sort) (ty : TypeId) (own : Option TypeId) → Decides (is_assignable target s ty own) (IsAssignable target s ty own)
-tells_assignable target s ty own = Decides-or _ _ (tells_one_host target s) (Decides-or _ _ (Decides-and _ _ (tells_string target) (tells_text s)) (tells_type ty own))
+pub tells_assignable : (types : List TypeDef) (target s : Sort) (ty : TypeId) (own : Option TypeId) → Decides (is_assignable types target s ty own) (IsAssignable types target s ty own)
+tells_assignable types target s ty own = Decides-or _ _ (tells_like target s) (Decides-or _ _ (tells_type ty own) (tells_below types ty own))
 
 module _ (types : List TypeDef) (place : Place) (ty : TypeId) (checked : Bool) where
   lawful_to : (target s : Sort) (e : Expression) → Lawful (assigned_to types place ty checked target s e)
   lawful_to target s e =
-      lawful_either (is_unbuilt (definition types ty)) (refuses (not_yet place))
-      (rule (broken place rules.Assigned) (is_assignable target s ty (type_of e)) (IsAssignable target s ty (type_of e)) (assigned_by ty (definition types ty) (stored_of types e) checked e))
+      lawful_either (is_procedural (definition types ty)) (refuses (not_yet place))
+      (rule (broken place rules.Assigned) (is_assignable types target s ty (type_of e)) (IsAssignable types target s ty (type_of e)) (assigned_by ty (definition types ty) (stored_of types e) checked e))
       (lawful_refuses (not_yet place))
-      (lawful_rule (broken place rules.Assigned) (is_assignable target s ty (type_of e)) (IsAssignable target s ty (type_of e)) (assigned_by ty (definition types ty) (stored_of types e) checked e) (tells_assignable target s ty (type_of e)))
+      (lawful_rule (broken place rules.Assigned) (is_assignable types target s ty (type_of e)) (IsAssignable types target s ty (type_of e)) (assigned_by ty (definition types ty) (stored_of types e) checked e) (tells_assignable types target s ty (type_of e)))
 
   pub lawful_assigned : (e : Expression) → Lawful (assigned types place ty checked e)
   unfolding assigned

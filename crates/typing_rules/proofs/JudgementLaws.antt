@@ -1,11 +1,11 @@
 -- What is read is what holds, and what is refused is what fails.
-use Rattle.std.proofs.Common.{◌≡◌, ◌⊎◌, inl, inr, Bool, true, false, cond, Result, Ok, Err, Decides, refl, subst, IfOk, IfErr}
+use Rattle.std.proofs.Common.{◌≡◌, inl, inr, Bool, true, false, Result, Ok, Err, Decides, refl, subst, IfOk, IfErr}
 use Rattle.typing_rules.specs.declared.faults.Fault.{Fault}
 use Rattle.typing_rules.specs.declared.faults.Refusal.{Refusal}
 use Rattle.typing_rules.specs.declared.faults.Refusal.TheVariants as refusal
-use Rattle.typing_rules.specs.Judgements.{◌>>=◌, Judgement, makes, refuses, rule, Meets, Breaks, either, part, parts, Both, FailsBoth, on_left, on_right, joint, Through, FailsThrough, inside, here, Gives}
+use Rattle.typing_rules.specs.Judgements.{◌>>=◌, Judgement, makes, refuses, rule, either, part, parts, Both, FailsBoth, on_left, on_right, joint, Through, FailsThrough, inside, here, Gives}
 use Rattle.typing_rules.specs.Faults.{Tells, answer_of, IsAnswered}
-use Rattle.typing_rules.specs.Laws.{Found, Refused, Agrees, Lawful, IsExact}
+use Rattle.typing_rules.specs.Laws.{Found, Agrees, Lawful, IsExact}
 
 pub lawful_makes : {C : Type 0} (c : C) → Lawful (makes c)
 lawful_makes c = record { holds = refl; only = λ o h. h; fine = λ f h. h }

@@ -1,29 +1,53 @@
 -- The judgements of operators are lawful.
-use Rattle.std.proofs.Common.{Bool, ◌||◌, ◌&&◌, List}
+use Rattle.std.proofs.Common.{Bool, false, ◌&&◌, List, Option, Decides}
+use Rattle.type_layout.specs.declared.definitions.TypeId.{TypeId}
 use Rattle.type_layout.specs.declared.definitions.TypeDef.{TypeDef}
 use Rattle.type_layout.specs.declared.texts.Place.{Place}
 use Rattle.typed_tree.specs.declared.expressions.UnaryOp.{UnaryOp}
 use Rattle.typed_tree.specs.declared.expressions.UnaryOp.TheVariants.{Not}
 use Rattle.typed_tree.specs.declared.expressions.BinaryOp.{BinaryOp}
-use Rattle.typed_tree.specs.Expressions.{Expression}
+use Rattle.typed_tree.specs.Expressions.{Expression, type_of}
 use Rattle.typing_rules.specs.declared.faults.Rule.TheVariants as rules
 use Rattle.typing_rules.specs.declared.sorts.Sort.{Sort}
-use Rattle.typing_rules.specs.Faults.{broken, not_yet}
-use Rattle.typing_rules.specs.Judgements.{refuses, rule}
+use Rattle.typing_rules.specs.declared.plans.Operation.{Operation}
+use Rattle.typing_rules.specs.declared.plans.Operation.TheVariants.{Sum, Product, Quotient, Shift, Logic, Equality, Inclusion, Order, Membership}
+use Rattle.typing_rules.specs.Faults.{broken}
+use Rattle.typing_rules.specs.Joins.{are_pointers}
 use Rattle.typing_rules.specs.Sorts.{sort_of}
-use Rattle.typing_rules.specs.Plans.{operation_of, Asks, AsksNot, IsInteger, is_integer, allows, allows_not, rule_of, is_later, plan_of, may_be_early}
-use Rattle.typing_rules.specs.Operators.{planned, combined_by, combined, signed_node, signed, turned_node, negated}
+use Rattle.typing_rules.specs.Plans.{operation_of, Asks, AsksNot, IsInteger, is_integer, allows, allows_not, rule_of, plan_of, may_be_early}
+use Rattle.typing_rules.specs.Operators.{planned, AsksOfPointers, allows_pointers, pointer_plan, pointers, plain, combined_by, combined, signed_node, signed, turned_node, negated}
 use Rattle.typing_rules.specs.Laws.{Lawful}
-use Rattle.typing_rules.proofs.JudgementLaws.{lawful_refuses, lawful_rule, lawful_either}
-use Rattle.typing_rules.proofs.PlanLaws.{tells_integer, tells_allowed, tells_not}
+use Rattle.typing_rules.proofs.JudgementLaws.{lawful_rule, lawful_either}
+use Rattle.typing_rules.proofs.PlanLaws.{no, tells_integer, tells_allowed, tells_not}
+use Rattle.typing_rules.proofs.JoinLaws.{tells_joined}
 
 module _ (types : List TypeDef) (place : Place) where
+  tells_pointers : (operation : Operation) (s t : Sort) (x y : Option TypeId) → Decides (allows_pointers types operation s t x y) (AsksOfPointers types operation s t x y)
+  tells_pointers Equality s t x y = tells_joined types s t x y
+  tells_pointers Sum s t x y = no
+  tells_pointers Product s t x y = no
+  tells_pointers Quotient s t x y = no
+  tells_pointers Shift s t x y = no
+  tells_pointers Logic s t x y = no
+  tells_pointers Inclusion s t x y = no
+  tells_pointers Order s t x y = no
+  tells_pointers Membership s t x y = no
+
+  lawful_pointers : (op : BinaryOp) (s t : Sort) (a b : Expression) → Lawful (pointers types place op s t a b)
+  lawful_pointers op s t a b =
+      let operation = operation_of op in
+      lawful_rule (broken place (rule_of operation s t)) (allows_pointers types operation s t (type_of a) (type_of b)) (AsksOfPointers types operation s t (type_of a) (type_of b))
+      (planned types op false (pointer_plan (type_of a) (type_of b)) a b) (tells_pointers operation s t (type_of a) (type_of b))
+
+  lawful_plain : (op : BinaryOp) (early : Bool) (s t : Sort) (a b : Expression) → Lawful (plain types place op early s t a b)
+  lawful_plain op early s t a b =
+      let operation = operation_of op in
+      lawful_rule (broken place (rule_of operation s t)) (allows operation s t) (Asks operation s t)
+      (planned types op (early && may_be_early op s) (plan_of operation s t (type_of a) (type_of b)) a b) (tells_allowed operation s t)
+
   lawful_combined_by : (op : BinaryOp) (early : Bool) (s t : Sort) (a b : Expression) → Lawful (combined_by types place op early s t a b)
   lawful_combined_by op early s t a b =
-      lawful_either (is_later s || is_later t) (refuses (not_yet place))
-      (rule (broken place (rule_of (operation_of op) s t)) (allows (operation_of op) s t) (Asks (operation_of op) s t) (planned types op (early && may_be_early op s) (plan_of (operation_of op) s t) a b))
-      (lawful_refuses (not_yet place))
-      (lawful_rule (broken place (rule_of (operation_of op) s t)) (allows (operation_of op) s t) (Asks (operation_of op) s t) (planned types op (early && may_be_early op s) (plan_of (operation_of op) s t) a b) (tells_allowed (operation_of op) s t))
+      lawful_either (are_pointers s t) (pointers types place op s t a b) (plain types place op early s t a b) (lawful_pointers op s t a b) (lawful_plain op early s t a b)
 
   pub lawful_combined : (op : BinaryOp) (early : Bool) (a b : Expression) → Lawful (combined types place op early a b)
   unfolding combined

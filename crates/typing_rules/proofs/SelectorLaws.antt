@@ -12,12 +12,12 @@ use Rattle.scopes.specs.declared.members.Member.{Member}
 use Rattle.scopes.specs.Members.{member_of}
 use Rattle.typing_rules.specs.declared.faults.Rule.TheVariants as rules
 use Rattle.typing_rules.specs.Faults.{broken, not_yet}
-use Rattle.typing_rules.specs.Judgements.{Judgement, makes, refuses, rule}
+use Rattle.typing_rules.specs.Judgements.{refuses, rule}
 use Rattle.typing_rules.specs.Sorts.{char, sort_of_type, sort_of}
 use Rattle.typing_rules.specs.Plans.{AreOfOneHost, are_of_one_host, IsInteger, is_integer}
-use Rattle.typing_rules.specs.Selectors.{loaded_by, loaded, field_at, field_named, selected_by, selected_of, selected, asking, indexed_by, indexed_of, indexed, target_of, followed_to, followed}
+use Rattle.typing_rules.specs.Selectors.{loaded_by, loaded, field_at, field_named, own_field, member_named, selected_by, selected, indexed_by, indexed, target_of, followed_to, followed}
 use Rattle.typing_rules.specs.Laws.{Lawful}
-use Rattle.typing_rules.proofs.JudgementLaws.{lawful_makes, lawful_refuses, lawful_rule, lawful_part}
+use Rattle.typing_rules.proofs.JudgementLaws.{lawful_makes, lawful_refuses, lawful_rule, lawful_either, lawful_part}
 use Rattle.typing_rules.proofs.PlanLaws.{tells_integer, tells_one_host}
 
 module _ (types : List TypeDef) (place : Place) where
@@ -46,6 +46,12 @@ module _ (types : List TypeDef) (place : Place) where
   lawful_named at fields None = lawful_refuses _
   lawful_named at fields (Some one) = lawful_field at one.number (slice_get fields one.number)
 
+  lawful_member : (at : tree.Place) (name : List ℕ) (one : Option Member) → Lawful (member_named types place at name one)
+  lawful_member at name None = lawful_refuses _
+  lawful_member at name (Some one) =
+      let field = own_field (definition types one.class) name in
+      lawful_either one.method (refuses (not_yet place)) (field_at types place at one.number field) (lawful_refuses _) (lawful_field at one.number field)
+
   selected_at : (ty : TypeId) (at : tree.Place) (one : Option TypeDef) (name : List ℕ) → Lawful (selected_by types place ty at one name)
   selected_at ty at None name = lawful_refuses _
   selected_at ty at (Some (type.Ordinal host low high)) name = lawful_refuses _
@@ -54,7 +60,7 @@ module _ (types : List TypeDef) (place : Place) where
   selected_at ty at (Some (type.ArrayOf index element)) name = lawful_refuses _
   selected_at ty at (Some (type.RecordOf fields)) name = lawful_named at fields (member_of types (Some ty) name)
   selected_at ty at (Some (type.PointerTo target)) name = lawful_refuses _
-  selected_at ty at (Some (type.ObjectOf parent dynamic fields methods)) name = lawful_refuses _
+  selected_at ty at (Some (type.ObjectOf parent dynamic fields methods)) name = lawful_member at name (member_of types (Some ty) name)
   selected_at ty at (Some (type.Procedural header)) name = lawful_refuses _
 
   pub lawful_selected : (e : Expression) (name : List ℕ) → Lawful (selected types place e name)

@@ -1,5 +1,5 @@
 -- Values that are assigned, or handed over by value.
-use Rattle.std.specs.Prelude.{◌≡◌, ◌⊎◌, ℤ, ◌==◌, Bool, true, false, ◌&&◌, ◌||◌, cond, List, Option, Some, None}
+use Rattle.std.specs.Prelude.{◌⊎◌, ℤ, Bool, true, false, ◌&&◌, ◌||◌, cond, List, Option, Some, None}
 use Rattle.type_layout.specs.declared.definitions.TypeId.{TypeId}
 use Rattle.type_layout.specs.declared.definitions.Host.{Host}
 use Rattle.type_layout.specs.declared.definitions.TypeDef.{TypeDef}
@@ -15,8 +15,9 @@ use Rattle.typing_rules.specs.declared.sorts.Sort.TheVariants as sort
 use Rattle.typing_rules.specs.Faults.{broken, not_yet}
 use Rattle.typing_rules.specs.Judgements.{Judgement, refuses, rule, either}
 use Rattle.typing_rules.specs.Sorts.{sort_of_type, sort_of}
-use Rattle.typing_rules.specs.Wanted.{stored_of, converted, as_text}
-use Rattle.typing_rules.specs.Plans.{AreOfOneHost, are_of_one_host, IsText, is_text}
+use Rattle.typing_rules.specs.Wanted.{stored_of, converted, as_text, as_pointer}
+use Rattle.typing_rules.specs.Plans.{AreOfOneHost, are_of_one_host, IsText, is_text, AreSets, are_sets}
+use Rattle.typing_rules.specs.Joins.{IsOfType, is_of_type, IsBelow, is_below, IsNilFor, is_nil_for}
 
 -- ---- what is asked
 
@@ -28,28 +29,24 @@ abbrev pub is_string : Sort → Bool
 is_string sort.Text = true
 is_string _ = false
 
-abbrev pub IsOfType : TypeId → Option TypeId → Type 0
-IsOfType ty None = ⊥
-IsOfType ty (Some own) = ty.0 ≡ own.0
+-- an ordinal of the target's host, a Char or string to a string, a set of its host, or nil to a pointer
+abbrev pub IsLike : Sort → Sort → Type 0
+IsLike target s = AreOfOneHost target s ⊎ ((IsString target × IsText s) ⊎ (AreSets target s ⊎ IsNilFor target s))
 
-abbrev pub is_of_type : TypeId → Option TypeId → Bool
-is_of_type ty None = false
-is_of_type ty (Some own) = ty.0 == own.0
+abbrev pub is_like : Sort → Sort → Bool
+is_like target s = are_of_one_host target s || ((is_string target && is_text s) || (are_sets target s || is_nil_for target s))
 
--- an ordinal of the target's host, a Char or string to a string, or a value of the same type
-abbrev pub IsAssignable : Sort → Sort → TypeId → Option TypeId → Type 0
-IsAssignable target s ty own = AreOfOneHost target s ⊎ ((IsString target × IsText s) ⊎ IsOfType ty own)
+-- one of these, a value of the same type, or a descendant or a pointer to one
+abbrev pub IsAssignable : List TypeDef → Sort → Sort → TypeId → Option TypeId → Type 0
+IsAssignable types target s ty own = IsLike target s ⊎ (IsOfType ty own ⊎ IsBelow types ty own)
 
-abbrev pub is_assignable : Sort → Sort → TypeId → Option TypeId → Bool
-is_assignable target s ty own = are_of_one_host target s || ((is_string target && is_text s) || is_of_type ty own)
+abbrev pub is_assignable : List TypeDef → Sort → Sort → TypeId → Option TypeId → Bool
+is_assignable types target s ty own = is_like target s || (is_of_type ty own || is_below types ty own)
 
--- sets, pointers, objects and routines are not built yet
-abbrev pub is_unbuilt : Option TypeDef → Bool
-is_unbuilt (Some (type.SetOf base)) = true
-is_unbuilt (Some (type.PointerTo target)) = true
-is_unbuilt (Some (type.ObjectOf parent dynamic fields methods)) = true
-is_unbuilt (Some (type.Procedural header)) = true
-is_unbuilt _ = false
+-- routines as values are not built yet
+abbrev pub is_procedural : Option TypeDef → Bool
+is_procedural (Some (type.Procedural header)) = true
+is_procedural _ = false
 
 -- ---- the node
 
@@ -78,12 +75,13 @@ stored_in ty wanted low high stored checked e = tested ty wanted low high stored
 abbrev pub assigned_by : TypeId → Option TypeDef → Option Host → Bool → Expression → Expression
 assigned_by ty (Some (type.Ordinal host low high)) stored checked e = stored_in ty (storage_of host low high) low high stored checked e
 assigned_by ty (Some (type.Str max)) stored checked e = as_text stored e
+assigned_by ty (Some (type.PointerTo target)) stored checked e = as_pointer ty e
 assigned_by ty _ stored checked e = e
 
 abbrev pub assigned_to : List TypeDef → Place → TypeId → Bool → Sort → Sort → Expression → Judgement Expression
 assigned_to types place ty checked target s e =
-    either (is_unbuilt (definition types ty)) (refuses (not_yet place))
-    (rule (broken place rules.Assigned) (is_assignable target s ty (type_of e)) (IsAssignable target s ty (type_of e))
+    either (is_procedural (definition types ty)) (refuses (not_yet place))
+    (rule (broken place rules.Assigned) (is_assignable types target s ty (type_of e)) (IsAssignable types target s ty (type_of e))
     (assigned_by ty (definition types ty) (stored_of types e) checked e))
 
 -- A value of an assignment at a place, to a target of a type. With `checked` it must lie within the bounds of an ordinal type.

@@ -1,6 +1,6 @@
 -- Rules of a construct and of its parts. A judgement says in one term what a checker answers for a construct, what a node of
 -- it is, and which faults are in it; so that a construct's rules are stated once.
-use Rattle.std.specs.Prelude.{◌≡◌, Bool, true, false, cond, Result, Ok, Err}
+use Rattle.std.specs.Prelude.{◌≡◌, Bool, cond, Result, Ok, Err}
 use Rattle.typing_rules.specs.declared.faults.Fault.{Fault}
 use Rattle.typing_rules.specs.declared.faults.Refusal.{Refusal}
 use Rattle.typing_rules.specs.declared.faults.Refusal.TheVariants as refusal

@@ -3,6 +3,7 @@ pub mod Judgements
 pub mod Sorts
 pub mod Wanted
 pub mod Plans
+pub mod Joins
 pub mod Operators
 pub mod Selectors
 pub mod Assignments

@@ -1,10 +1,11 @@
 -- Selectors: fields, elements, and what a pointer leads to.
-use Rattle.std.specs.Prelude.{ℕ, Bool, List, Option, Some, None, slice_get}
+use Rattle.std.specs.Prelude.{ℕ, Bool, List, Option, Some, None, position, slice_get}
 use Rattle.type_layout.specs.declared.definitions.TypeId.{TypeId}
 use Rattle.type_layout.specs.declared.definitions.Field.{Field}
 use Rattle.type_layout.specs.declared.definitions.TypeDef.{TypeDef}
 use Rattle.type_layout.specs.declared.definitions.TypeDef.TheVariants as type
 use Rattle.type_layout.specs.declared.texts.Place.{Place}
+use Rattle.type_layout.specs.Words.{same_bytes}
 use Rattle.typed_tree.specs.Expressions as tree
 use Rattle.typed_tree.specs.Expressions.{Expression, Load, FieldOf, Index, Deref, type_of}
 use Rattle.well_formed.specs.Fits.{definition}
@@ -12,7 +13,7 @@ use Rattle.scopes.specs.declared.members.Member.{Member}
 use Rattle.scopes.specs.Members.{member_of}
 use Rattle.typing_rules.specs.declared.faults.Rule.TheVariants as rules
 use Rattle.typing_rules.specs.Faults.{broken, not_yet}
-use Rattle.typing_rules.specs.Judgements.{Judgement, makes, refuses, rule, part}
+use Rattle.typing_rules.specs.Judgements.{Judgement, makes, refuses, rule, either, part}
 use Rattle.typing_rules.specs.Sorts.{char, sort_of_type, sort_of}
 use Rattle.typing_rules.specs.Plans.{AreOfOneHost, are_of_one_host, IsInteger, is_integer}
 
@@ -34,17 +35,34 @@ abbrev pub field_named : List TypeDef → Place → tree.Place → List Field �
 field_named types place at fields None = refuses (broken place rules.Selected)
 field_named types place at fields (Some one) = field_at types place at one.number (slice_get fields one.number)
 
--- members of objects are not built yet
+-- the field of this name that an object type declares itself
+abbrev pub field_in : List Field → Option ℕ → Option Field
+field_in fields None = None
+field_in fields (Some place) = slice_get fields place
+
+unfoldable pub declared_field : List Field → List ℕ → Option Field
+declared_field fields name = field_in fields (position (λ (field : Field). same_bytes name field.name) fields)
+
+abbrev pub own_field : Option TypeDef → List ℕ → Option Field
+own_field (Some (type.ObjectOf parent dynamic fields methods)) name = declared_field fields name
+own_field _ name = None
+
+-- a field of an object's line; methods are not built yet
+abbrev pub member_named : List TypeDef → Place → tree.Place → List ℕ → Option Member → Judgement Expression
+member_named types place at name None = refuses (broken place rules.Selected)
+member_named types place at name (Some one) =
+    either one.method (refuses (not_yet place)) (field_at types place at one.number (own_field (definition types one.class) name))
+
 abbrev pub selected_by : List TypeDef → Place → TypeId → tree.Place → Option TypeDef → List ℕ → Judgement Expression
 selected_by types place ty at (Some (type.RecordOf fields)) name = field_named types place at fields (member_of types (Some ty) name)
-selected_by types place ty at (Some (type.ObjectOf parent dynamic fields methods)) name = refuses (not_yet place)
+selected_by types place ty at (Some (type.ObjectOf parent dynamic fields methods)) name = member_named types place at name (member_of types (Some ty) name)
 selected_by types place ty at _ name = refuses (broken place rules.Selected)
 
 abbrev pub selected_of : List TypeDef → Place → Expression → List ℕ → Judgement Expression
 selected_of types place (Load ty at) name = selected_by types place ty at (definition types ty) name
 selected_of types place e name = refuses (broken place rules.Selected)
 
--- a field of a record
+-- a field of a record or an object
 unfoldable pub selected : List TypeDef → Place → Expression → List ℕ → Judgement Expression
 selected types place e name = selected_of types place e name
 

@@ -1,5 +1,5 @@
 -- What operators look at in an operand: which kind of value it is, and between which bounds an integer lies.
-use Rattle.std.specs.Prelude.{◌≡◌, ℕ, ℤ, ◌&&◌, Bool, true, false, cond, List, Option, Some, None, slice_get}
+use Rattle.std.specs.Prelude.{ℤ, ◌&&◌, Bool, cond, List, [], Option, Some, None}
 use Rattle.type_layout.specs.declared.definitions.TypeId.{TypeId}
 use Rattle.type_layout.specs.declared.definitions.Host.{Host}
 use Rattle.type_layout.specs.declared.definitions.Host.TheVariants as host
@@ -8,12 +8,14 @@ use Rattle.type_layout.specs.declared.definitions.TypeDef.TheVariants as type
 use Rattle.type_layout.specs.Storage.{least_of, greatest_of, storage_of, holds}
 use Rattle.typed_tree.specs.declared.expressions.Value.{Value}
 use Rattle.typed_tree.specs.declared.expressions.Value.TheVariants as value
-use Rattle.typed_tree.specs.Expressions.{Expression, Const, type_of}
-use Rattle.well_formed.specs.Fits.{definition}
+use Rattle.typed_tree.specs.Expressions.{Expression, Elements, Const, SetOf, NoElements, type_of}
+use Rattle.well_formed.specs.Fits.{definition, stored_as}
 use Rattle.scopes.specs.Predeclared.{type_id}
 use Rattle.typing_rules.specs.declared.sorts.Range.{Range}
+use Rattle.typing_rules.specs.declared.sorts.SetBase.{SetBase}
+use Rattle.typing_rules.specs.declared.sorts.SetBase.TheVariants as over
 use Rattle.typing_rules.specs.declared.sorts.Sort.{Sort}
-use Rattle.typing_rules.specs.declared.sorts.Sort.TheVariants.{Integer, Boolean, Char, Enumeration, Text, Set, Pointer, Other}
+use Rattle.typing_rules.specs.declared.sorts.Sort.TheVariants.{Integer, Boolean, Char, Enumeration, Text, Set, Pointer, Nil, Other}
 
 -- ---- the predeclared types
 
@@ -74,16 +76,28 @@ sort_stored ty host.Boolean = Boolean
 sort_stored ty host.Enumeration = Enumeration ty
 sort_stored ty stored = Integer (range_of stored)
 
+-- what the elements of a set are, by how they are stored
+abbrev pub base_stored : TypeId → Option Host → SetBase
+base_stored ty (Some host.Char) = over.Chars
+base_stored ty (Some host.Boolean) = over.Booleans
+base_stored ty (Some host.Enumeration) = over.Enumeration ty
+base_stored ty (Some stored) = over.Integers
+base_stored ty None = over.Any
+
+-- what the elements of sets over a type are
+abbrev pub base_of : List TypeDef → TypeId → SetBase
+base_of types ty = base_stored ty (stored_as (definition types ty))
+
 -- what the values of a type are
-abbrev pub sort_by : TypeId → Option TypeDef → Sort
-sort_by ty (Some (type.Ordinal host low high)) = sort_stored ty (storage_of host low high)
-sort_by ty (Some (type.Str max)) = Text
-sort_by ty (Some (type.SetOf base)) = Set
-sort_by ty (Some (type.PointerTo target)) = Pointer
-sort_by ty _ = Other
+abbrev pub sort_by : List TypeDef → TypeId → Option TypeDef → Sort
+sort_by types ty (Some (type.Ordinal host low high)) = sort_stored ty (storage_of host low high)
+sort_by types ty (Some (type.Str max)) = Text
+sort_by types ty (Some (type.SetOf base)) = Set (base_of types base)
+sort_by types ty (Some (type.PointerTo target)) = Pointer
+sort_by types ty _ = Other
 
 abbrev pub sort_of_type : List TypeDef → TypeId → Sort
-sort_of_type types ty = sort_by ty (definition types ty)
+sort_of_type types ty = sort_by types ty (definition types ty)
 
 -- an integer that is known lies at itself
 abbrev pub known : ℤ → Sort → Sort
@@ -92,13 +106,22 @@ known n sort = sort
 
 abbrev pub sort_of_constant : List TypeDef → TypeId → Value → Sort
 sort_of_constant types ty (value.Number n) = known n (sort_of_type types ty)
+sort_of_constant types ty value.Nil = Nil
+sort_of_constant types ty (value.Elements []) = Set over.Any
 sort_of_constant types ty _ = sort_of_type types ty
 
 abbrev pub sort_of_result : List TypeDef → Option TypeId → Sort
 sort_of_result types None = Other
 sort_of_result types (Some ty) = sort_of_type types ty
 
--- A constant lies at its value; any other operand anywhere in the predefined type that stores it.
+-- a set that lists nothing is one over any base
+abbrev pub sort_of_set : Elements → Sort → Sort
+sort_of_set NoElements s = Set over.Any
+sort_of_set _ s = s
+
+-- A constant lies at its value; any other operand anywhere in the predefined type that stores it. The empty set and nil are of
+-- any set type, and of any pointer type.
 abbrev pub sort_of : List TypeDef → Expression → Sort
 sort_of types (Const ty v) = sort_of_constant types ty v
+sort_of types (SetOf ty listed) = sort_of_set listed (sort_of_type types ty)
 sort_of types e = sort_of_result types (type_of e)

@@ -8,12 +8,11 @@ use Rattle.type_layout.specs.declared.definitions.Host.TheVariants as host
 use Rattle.type_layout.specs.declared.definitions.TypeDef.{TypeDef}
 use Rattle.type_layout.specs.declared.definitions.TypeDef.TheVariants as type
 use Rattle.type_layout.specs.Storage.{storage_of, holds}
-use Rattle.typed_tree.specs.declared.expressions.Value.{Value}
 use Rattle.typed_tree.specs.declared.expressions.Value.TheVariants as value
 use Rattle.typed_tree.specs.Expressions.{Expression, Const, Convert, type_of}
 use Rattle.well_formed.specs.Fits.{definition, stored_as}
 use Rattle.scopes.specs.Predeclared.{type_id}
-use Rattle.typing_rules.specs.Sorts.{char, boolean, string, number_type, sort_of_type, known}
+use Rattle.typing_rules.specs.Sorts.{string, number_type, sort_of_type}
 use Rattle.typing_rules.specs.declared.sorts.Sort.{Sort}
 use Rattle.typing_rules.specs.declared.sorts.Sort.TheVariants.{Integer}
 
@@ -53,13 +52,19 @@ as_text (Some host.Char) (Const own (value.Number n)) = cond (holds host.Char n 
 as_text (Some host.Char) e = Convert string e
 as_text stored e = e
 
+-- nil has the pointer type that is wanted
+abbrev pub as_pointer : TypeId → Expression → Expression
+as_pointer ty (Const own value.Nil) = Const ty value.Nil
+as_pointer ty e = e
+
 abbrev pub wanted_by : TypeId → Option TypeDef → Option Host → Expression → Expression
 wanted_by ty (Some (type.Ordinal host low high)) stored e = as_ordinal ty (storage_of host low high) stored e
 wanted_by ty (Some (type.Str max)) stored e = as_text stored e
+wanted_by ty (Some (type.PointerTo target)) stored e = as_pointer ty e
 wanted_by ty _ stored e = e
 
 -- A value where a type is wanted. A constant that the type's storage holds, and a constant Char where a string is wanted,
--- is a constant of it; any other ordinal that is stored otherwise, and a Char as a string, is converted.
+-- is a constant of it; any other ordinal that is stored otherwise, and a Char as a string, is converted. nil takes a pointer type.
 unfoldable pub wanted : List TypeDef → TypeId → Expression → Expression
 wanted types ty e = wanted_by ty (definition types ty) (stored_of types e) e
 
@@ -68,6 +73,13 @@ wanted_in types None e = e
 wanted_in types (Some ty) e = wanted types ty e
 
 -- ---- constants by themselves
+
+-- nil where no type is wanted, under the greatest id, which no type has
+abbrev pub untyped : TypeId
+untyped = type_id 4294967295
+
+abbrev pub nil : Expression
+nil = Const untyped value.Nil
 
 -- the type of a constant number of a type: of an integer the first of Integer, Word and LongInt that holds it
 abbrev pub constant_type : TypeId → ℤ → Sort → TypeId

@@ -3,52 +3,62 @@
 ghost use Rattle.std.specs.Prelude.{◌≡◌, Ok, option_copied};
 ghost use Rattle.typed_tree.specs.Expressions.{view_expr};
 ghost use Rattle.typing_rules.specs.Judgements.{Gives};
-ghost use Rattle.typing_rules.specs.Assignments.{is_string, is_of_type, is_assignable, is_unbuilt, ranged, constant_in, tested, stored_in, assigned_by, assigned};
+ghost use Rattle.typing_rules.specs.Assignments.{is_string, is_like, is_assignable, is_procedural, ranged, constant_in, tested, stored_in, assigned_by, assigned};
 
 use crate::faults::{Refusal, Rule, broken, not_yet};
-use crate::plans::{are_of_one_host, is_text};
+use crate::joins::{is_below, is_nil_for, is_of_type};
+use crate::plans::{are_of_one_host, are_sets, is_text};
 use crate::sorts::{Sort, definition, sort_of, sort_of_type, type_of};
-use crate::wanting::{as_text, converted, stored_of_type};
+use crate::wanting::{as_pointer, as_text, converted, stored_of_type};
 use std::alloc::Global;
 use type_layout::{Host, Place, TypeDef, TypeId, Types, storage_of};
 use typed_tree::{Expr, Value};
 
-fn is_string(sort: Sort) -> bool
+/// Whether it is a string.
+pub fn is_string(sort: Sort) -> bool
     ensures { result ≡ is_string sort }
 {
     matches!(sort, Sort::Text)
 }
 
-/// Whether this is the type.
-pub fn is_of_type(ty: TypeId, own: Option<TypeId>) -> bool
-    ensures { result ≡ is_of_type ty own }
+// An ordinal of the target's host, a text to a string, a set of its host, or nil to a pointer.
+fn is_like(target: Sort, sort: Sort) -> bool
+    ensures { result ≡ is_like target sort }
 {
-    match own {
-        Some(own) => ty.0 == own.0,
-        None => false,
-    }
+    are_of_one_host(target, sort)
+        || (is_string(target) && is_text(sort)
+            || (are_sets(target, sort) || is_nil_for(target, sort)))
 }
 
-/// Whether a value may be assigned to a target: an ordinal of its host, a text to a string, or a value of the same type.
-pub fn is_assignable(target: Sort, sort: Sort, ty: TypeId, own: Option<TypeId>) -> bool
-    ensures { result ≡ is_assignable target sort ty own }
+/// Whether a value may be assigned to a target: an ordinal of its host, a text to a string, a set of its host, nil to a pointer,
+/// a value of the same type, a descendant object, or a pointer to one.
+pub fn is_assignable(
+    types: &Types,
+    target: Sort,
+    sort: Sort,
+    ty: TypeId,
+    own: Option<TypeId>,
+) -> bool
+    ensures { result ≡ is_assignable types.now.types target sort ty own }
 {
-    are_of_one_host(target, sort) || is_string(target) && is_text(sort) || is_of_type(ty, own)
+    is_like(target, sort) || (is_of_type(ty, own) || is_below(types, ty, own))
 }
 
-fn is_unbuilt(one: Option<&TypeDef>) -> bool
-    ensures { result ≡ is_unbuilt (option_copied one.entry) }
+/// Whether it is a procedural type, whose values are not built yet.
+pub fn is_procedural(one: Option<&TypeDef>) -> bool
+    ensures { result ≡ is_procedural (option_copied one.entry) }
 {
-    match one {
-        Some(TypeDef::SetOf { .. })
-        | Some(TypeDef::PointerTo { .. })
-        | Some(TypeDef::ObjectOf { .. })
-        | Some(TypeDef::Procedural { .. }) => true,
-        _ => false,
-    }
+    matches!(one, Some(TypeDef::Procedural { .. }))
 }
 
-fn ranged(alloc: Global, checked: bool, low: i32, high: i32, expr: Expr) -> Result<Expr, Refusal>
+/// A value that is tested against bounds, where tests are asked for.
+pub fn ranged(
+    alloc: Global,
+    checked: bool,
+    low: i32,
+    high: i32,
+    expr: Expr,
+) -> Result<Expr, Refusal>
     ensures { Gives view_expr result (Ok (ranged checked low high (view_expr expr))) }
 {
     if !checked {
@@ -147,6 +157,7 @@ pub fn assigned_by(
             expr,
         ),
         Some(TypeDef::Str { .. }) => as_text(alloc, stored, expr),
+        Some(TypeDef::PointerTo { .. }) => Ok(as_pointer(ty, expr)),
         _ => Ok(expr),
     }
 }
@@ -165,11 +176,17 @@ pub fn assigned(
     ensures { Gives view_expr result (assigned types.now.types place ty checked (view_expr expr)).run }
 {
     let one = definition(types, ty);
-    if is_unbuilt(one) {
+    if is_procedural(one) {
         return Err(Refusal::Because(not_yet(place)));
     }
     let own = type_of(&expr);
-    if !is_assignable(sort_of_type(types, ty), sort_of(types, &expr), ty, own) {
+    if !is_assignable(
+        types,
+        sort_of_type(types, ty),
+        sort_of(types, &expr),
+        ty,
+        own,
+    ) {
         return Err(Refusal::Because(broken(place, Rule::Assigned)));
     }
     let stored = stored_of_type(types, own);

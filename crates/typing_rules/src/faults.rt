@@ -1,7 +1,7 @@
 //! Why a source is not typed.
 
 ghost use Rattle.std.specs.Prelude.{◌≡◌};
-ghost use Rattle.typing_rules.specs.Faults.{number_of, error_of, error_for, broken, left_out, not_yet, undeclared};
+ghost use Rattle.typing_rules.specs.Faults.{number_of, broken_error, error_of, error_for, broken, left_out, not_yet, too_large, undeclared};
 ghost use Rattle.typing_rules.specs.declared.faults.Refusal.TheVariants.{NoMemory};
 
 use std::alloc::{AllocError, AllocFailed};
@@ -13,13 +13,27 @@ use type_layout::Place;
 pub enum Rule {
     /// A name that is used is declared.
     Declared,
+    /// A name is declared once in a block, record, parameter list or header.
+    Duplicate,
     /// A declared constant, a bound or a label is a constant expression, and no divisor in it is 0.
     Constant,
+    /// What a set is over is ordinal and lies in 0..255.
+    SetBase,
+    /// An index type is ordinal and not LongInt, and types keep their greatest size.
+    IndexType,
+    /// The size of a string is a constant in 1..255.
+    StringSize,
+    /// The first value of a typed constant fits its type.
+    FirstValue,
+    /// An object type is declared in a type part outside routines, and its ancestor before it.
+    ObjectPlace,
+    /// A source has the kind and the name that its file is asked for.
+    SourceName,
     /// Arithmetic and shifts have integers.
     Arithmetic,
     /// `and`, `or`, `xor` and `not` have integers or Booleans.
     Logic,
-    /// Where `+` has no integer, it has texts.
+    /// Where `+` has no integer it has texts or sets of one host, and so have `-` and `*` sets.
     Joined,
     /// What is compared is comparable.
     Compared,
@@ -53,15 +67,26 @@ pub enum Rule {
     Read,
     /// What is assigned to is a variable, or a function within its body.
     Target,
+    /// A header that needs a body has one, and with the same header.
+    Bodies,
+    /// A unit is used once.
+    UnitUsed,
+    /// A unit that is used or overlaid is there.
+    UnitNamed,
     /// A procedural value is a far routine of the sources that is not nested and no method.
     RoutineValue,
+    /// The result of a function is ordinal, a pointer or a string.
+    ResultType,
+    /// A constructor is not virtual, and New and Dispose have a pointer to an object where they name a routine of it.
+    Allocating,
 }
 
-/// What is wrong with a construct: it breaks a rule, or it is of what this profile leaves out.
+/// What is wrong with a construct: it breaks a rule, it is of what this profile leaves out, or it is larger than may be.
 #[derive(Clone, Copy, Debug, PartialEq, Eq)]
 pub enum Cause {
     Breaks(Rule),
     LeftOut(Feature),
+    TooLarge(u64),
 }
 
 /// What is wrong, and where the construct stands.
@@ -78,16 +103,20 @@ pub enum Refusal {
     Because(Fault),
 }
 
-/// Why a source is refused. The rule is named by its number, which users are told.
+/// Why a source is refused. The rule is named by its number, which users are told. What is too large are the bytes of a type, of
+/// arguments or of locals, or how deep routines are nested.
 #[derive(Debug, Drop)]
 pub enum CheckError {
     NoMemory,
     UnknownName { place: Place, rule: u16 },
+    DuplicateName { place: Place, rule: u16 },
     TypeMismatch { place: Place, rule: u16 },
     NotAVariable { place: Place, rule: u16 },
     BadConstant { place: Place, rule: u16 },
+    MissingBody { place: Place, rule: u16 },
     BadCall { place: Place, rule: u16 },
     NotInProfile { place: Place, feature: Feature },
+    TooLarge { place: Place, bytes: u64 },
 }
 
 impl From<AllocError> for Refusal {
@@ -113,7 +142,14 @@ impl Rule {
     {
         match self {
             Rule::Declared => 1,
+            Rule::Duplicate => 2,
             Rule::Constant => 3,
+            Rule::SetBase => 4,
+            Rule::IndexType => 5,
+            Rule::StringSize => 6,
+            Rule::FirstValue => 7,
+            Rule::ObjectPlace => 8,
+            Rule::SourceName => 9,
             Rule::Arithmetic => 10,
             Rule::Logic => 11,
             Rule::Joined => 12,
@@ -133,8 +169,34 @@ impl Rule {
             Rule::Written => 26,
             Rule::Read => 27,
             Rule::Target => 28,
+            Rule::Bodies => 29,
+            Rule::UnitUsed => 31,
+            Rule::UnitNamed => 31,
             Rule::RoutineValue => 32,
+            Rule::ResultType => 33,
+            Rule::Allocating => 34,
         }
+    }
+}
+
+// What users are told of a construct that breaks a rule.
+fn broken_error(place: Place, broken: Rule) -> CheckError
+    ensures { result ≡ broken_error place broken }
+{
+    let rule = broken.number();
+    match broken {
+        Rule::Declared | Rule::Selected | Rule::ObjectPlace | Rule::SourceName | Rule::UnitNamed =>
+            CheckError::UnknownName { place, rule },
+        Rule::Duplicate | Rule::UnitUsed => CheckError::DuplicateName { place, rule },
+        Rule::Constant | Rule::Labelled | Rule::SetBase | Rule::StringSize => {
+            CheckError::BadConstant { place, rule }
+        }
+        Rule::Counted | Rule::Read | Rule::Target => CheckError::NotAVariable { place, rule },
+        Rule::Bodies => CheckError::MissingBody { place, rule },
+        Rule::Called | Rule::Stands | Rule::RoutineValue | Rule::Allocating => {
+            CheckError::BadCall { place, rule }
+        }
+        _ => CheckError::TypeMismatch { place, rule },
     }
 }
 
@@ -145,28 +207,8 @@ pub fn error_of(fault: Fault) -> CheckError
     let place = fault.place;
     match fault.cause {
         Cause::LeftOut(feature) => CheckError::NotInProfile { place, feature },
-        Cause::Breaks(rule) => match rule {
-            Rule::Declared | Rule::Selected => CheckError::UnknownName {
-                place,
-                rule: rule.number(),
-            },
-            Rule::Constant | Rule::Labelled => CheckError::BadConstant {
-                place,
-                rule: rule.number(),
-            },
-            Rule::Counted | Rule::Read | Rule::Target => CheckError::NotAVariable {
-                place,
-                rule: rule.number(),
-            },
-            Rule::Called | Rule::Stands | Rule::RoutineValue => CheckError::BadCall {
-                place,
-                rule: rule.number(),
-            },
-            _ => CheckError::TypeMismatch {
-                place,
-                rule: rule.number(),
-            },
-        },
+        Cause::TooLarge(bytes) => CheckError::TooLarge { place, bytes },
+        Cause::Breaks(rule) => broken_error(place, rule),
     }
 }
 
@@ -205,6 +247,16 @@ pub fn not_yet(place: Place) -> Fault
     ensures { result ≡ not_yet place }
 {
     left_out(place, Feature::NotYet)
+}
+
+/// What a construct at a place is refused for whose bytes pass what may be, or how deep it is nested.
+pub fn too_large(place: Place, bytes: u64) -> Fault
+    ensures { result ≡ too_large place bytes }
+{
+    Fault {
+        place,
+        cause: Cause::TooLarge(bytes),
+    }
 }
 
 /// What a name at a place is told as that isn't declared: unknown, or of a feature that is left out.

@@ -1,19 +1,22 @@
 //! Operators on typed operands.
 
 ghost use Rattle.std.specs.Prelude.{◌≡◌, Ok};
-ghost use Rattle.typed_tree.specs.Expressions.{view_expr};
+ghost use Rattle.typed_tree.specs.Expressions.{view_expr, type_of};
+ghost use Rattle.typing_rules.specs.Sorts.{sort_of};
 ghost use Rattle.typing_rules.specs.Judgements.{Gives};
-ghost use Rattle.typing_rules.specs.Operators.{planned, combined, negative, sign_value, turned_node, signed_node, signed, negated};
+ghost use Rattle.typing_rules.specs.Operators.{planned, allows_pointers, pointer_plan, pointers, plain, combined, negative, sign_value, turned_node, signed_node, signed, negated};
 
-use crate::faults::{Refusal, Rule, broken, not_yet};
+use crate::faults::{Refusal, Rule, broken};
+use crate::joins::{are_pointers, are_pointers_joined};
 use crate::plans::{
-    Plan, allows, allows_not, is_integer, is_later, may_be_early, operation_of, plan_of, rule_of,
+    Operation, Plan, allows, allows_not, is_integer, may_be_early, operation_of, plan_of, rule_of,
     turned,
 };
-use crate::sorts::{Sort, number_type, sort_of};
+use crate::sorts::{Sort, number_type, sort_of, type_of};
 use crate::wanting::{wanted, wanted_in};
+use scopes::BOOLEAN;
 use std::alloc::Global;
-use type_layout::{Place, Types};
+use type_layout::{Place, TypeId, Types};
 use typed_tree::{BinaryOp, Expr, UnaryOp, Value};
 
 fn planned(
@@ -38,6 +41,85 @@ fn planned(
     })
 }
 
+fn allows_pointers(
+    types: &Types,
+    operation: Operation,
+    left: Sort,
+    right: Sort,
+    own: Option<TypeId>,
+    other: Option<TypeId>,
+) -> bool
+    ensures { result ≡ allows_pointers types.now.types operation left right own other }
+{
+    match operation {
+        Operation::Equality => are_pointers_joined(types, left, right, own, other),
+        _ => false,
+    }
+}
+
+fn pointer_plan(own: Option<TypeId>, other: Option<TypeId>) -> Plan
+    ensures { result ≡ pointer_plan own other }
+{
+    Plan {
+        left: other,
+        right: own,
+        ty: BOOLEAN,
+    }
+}
+
+fn pointers(
+    alloc: Global,
+    types: &Types,
+    place: Place,
+    op: BinaryOp,
+    left: Expr,
+    right: Expr,
+) -> Result<Expr, Refusal>
+    ensures { Gives view_expr result (pointers types.now.types place op (sort_of types.now.types (view_expr left)) (sort_of types.now.types (view_expr right)) (view_expr left) (view_expr right)).run }
+{
+    let first = sort_of(types, &left);
+    let second = sort_of(types, &right);
+    let operation = operation_of(op);
+    let own = type_of(&left);
+    let other = type_of(&right);
+    if !allows_pointers(types, operation, first, second, own, other) {
+        let rule = rule_of(operation, first, second);
+        return Err(Refusal::Because(broken(place, rule)));
+    }
+    planned(
+        alloc,
+        types,
+        op,
+        false,
+        pointer_plan(own, other),
+        left,
+        right,
+    )
+}
+
+fn plain(
+    alloc: Global,
+    types: &Types,
+    place: Place,
+    op: BinaryOp,
+    early: bool,
+    left: Expr,
+    right: Expr,
+) -> Result<Expr, Refusal>
+    ensures { Gives view_expr result (plain types.now.types place op early (sort_of types.now.types (view_expr left)) (sort_of types.now.types (view_expr right)) (view_expr left) (view_expr right)).run }
+{
+    let first = sort_of(types, &left);
+    let second = sort_of(types, &right);
+    let operation = operation_of(op);
+    if !allows(operation, first, second) {
+        let rule = rule_of(operation, first, second);
+        return Err(Refusal::Because(broken(place, rule)));
+    }
+    let plan = plan_of(operation, first, second, type_of(&left), type_of(&right));
+    let early = early && may_be_early(op, first);
+    planned(alloc, types, op, early, plan, left, right)
+}
+
 /// The node of an operator at a place with two operands. With `early`, an `and` or `or` of Booleans leaves out its right
 /// side where the left one decides.
 #[tactic(auto, unfolding(crate::specs::Operators::combined))]
@@ -52,19 +134,11 @@ pub fn combined(
 ) -> Result<Expr, Refusal>
     ensures { Gives view_expr result (combined types.now.types place op early (view_expr left) (view_expr right)).run }
 {
-    let first = sort_of(types, &left);
-    let second = sort_of(types, &right);
-    if is_later(first) || is_later(second) {
-        return Err(Refusal::Because(not_yet(place)));
+    if are_pointers(sort_of(types, &left), sort_of(types, &right)) {
+        pointers(alloc, types, place, op, left, right)
+    } else {
+        plain(alloc, types, place, op, early, left, right)
     }
-    let operation = operation_of(op);
-    if !allows(operation, first, second) {
-        let rule = rule_of(operation, first, second);
-        return Err(Refusal::Because(broken(place, rule)));
-    }
-    let plan = plan_of(operation, first, second);
-    let early = early && may_be_early(op, first);
-    planned(alloc, types, op, early, plan, left, right)
 }
 
 fn negative(number: i32) -> i32

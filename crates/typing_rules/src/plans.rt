@@ -1,15 +1,16 @@
 //! The rules on operators.
 
 ghost use Rattle.std.specs.Prelude.{◌≡◌};
-ghost use Rattle.typing_rules.specs.Plans.{operation_of, is_integer, is_boolean, is_text, are_of_one_host, are_integers, are_booleans, are_texts, allows, allows_not, sum_rule, rule_of, is_later, alike, plain, compared_in, computed, shifted, plan_of, turned, may_be_early};
+ghost use Rattle.typing_rules.specs.Plans.{operation_of, is_integer, is_boolean, is_text, are_of_one_host, are_integers, are_booleans, are_texts, are_of_one_base, are_sets, base_holding, is_held_by, is_member, allows, allows_not, sum_rule, is_set, product_rule, rule_of, alike, plain, compared_in, computed, shifted, own_or, set_type, joined_plan, plan_of, turned, may_be_early};
 
 use crate::Rule;
-use crate::sorts::{Sort, common_type, holding_type};
+use crate::sorts::{SetBase, Sort, common_type, holding_type};
 use scopes::{BOOLEAN, STRING};
 use type_layout::TypeId;
 use typed_tree::BinaryOp;
 
-/// Operators by the rule that they are under. `Sum` is `+`, `Product` is `-` and `*`, `Quotient` is `div` and `mod`.
+/// Operators by the rule that they are under. `Sum` is `+`, `Product` is `-` and `*`, `Quotient` is `div` and `mod`, `Inclusion` is
+/// `<=` and `>=`, `Order` is `<` and `>`.
 #[derive(Clone, Copy, Debug, PartialEq, Eq)]
 pub enum Operation {
     Sum,
@@ -17,7 +18,9 @@ pub enum Operation {
     Quotient,
     Shift,
     Logic,
-    Relation,
+    Equality,
+    Inclusion,
+    Order,
     Membership,
 }
 
@@ -40,12 +43,9 @@ pub fn operation_of(op: BinaryOp) -> Operation
         BinaryOp::ShiftLeft | BinaryOp::ShiftRight => Operation::Shift,
         BinaryOp::And | BinaryOp::Or | BinaryOp::Xor => Operation::Logic,
         BinaryOp::In => Operation::Membership,
-        BinaryOp::Equal
-        | BinaryOp::NotEqual
-        | BinaryOp::Less
-        | BinaryOp::LessOrEqual
-        | BinaryOp::Greater
-        | BinaryOp::GreaterOrEqual => Operation::Relation,
+        BinaryOp::Equal | BinaryOp::NotEqual => Operation::Equality,
+        BinaryOp::LessOrEqual | BinaryOp::GreaterOrEqual => Operation::Inclusion,
+        BinaryOp::Less | BinaryOp::Greater => Operation::Order,
     }
 }
 
@@ -101,16 +101,75 @@ fn are_texts(left: Sort, right: Sort) -> bool
     is_text(left) && is_text(right)
 }
 
+/// Whether sets over these have elements of one host. The empty set goes with any.
+pub fn are_of_one_base(left: SetBase, right: SetBase) -> bool
+    ensures { result ≡ are_of_one_base left right }
+{
+    match (left, right) {
+        (SetBase::Any, _) => true,
+        (_, SetBase::Any) => true,
+        (SetBase::Integers, SetBase::Integers) => true,
+        (SetBase::Booleans, SetBase::Booleans) => true,
+        (SetBase::Chars, SetBase::Chars) => true,
+        (SetBase::Enumeration(a), SetBase::Enumeration(b)) => a.0 == b.0,
+        _ => false,
+    }
+}
+
+/// Whether two are sets whose elements are of one host.
+pub fn are_sets(left: Sort, right: Sort) -> bool
+    ensures { result ≡ are_sets left right }
+{
+    match (left, right) {
+        (Sort::Set(a), Sort::Set(b)) => are_of_one_base(a, b),
+        _ => false,
+    }
+}
+
+/// What the elements of the sets are that hold an ordinal.
+pub fn base_holding(sort: Sort) -> Option<SetBase>
+    ensures { result ≡ base_holding sort }
+{
+    match sort {
+        Sort::Integer(_) => Some(SetBase::Integers),
+        Sort::Boolean => Some(SetBase::Booleans),
+        Sort::Char => Some(SetBase::Chars),
+        Sort::Enumeration(ty) => Some(SetBase::Enumeration(ty)),
+        _ => None,
+    }
+}
+
+fn is_held_by(base: Option<SetBase>, right: Sort) -> bool
+    ensures { result ≡ is_held_by base right }
+{
+    match (base, right) {
+        (Some(a), Sort::Set(b)) => are_of_one_base(a, b),
+        _ => false,
+    }
+}
+
+fn is_member(left: Sort, right: Sort) -> bool
+    ensures { result ≡ is_member left right }
+{
+    is_held_by(base_holding(left), right)
+}
+
 /// Whether an operator's rule holds of two operands.
 pub fn allows(operation: Operation, left: Sort, right: Sort) -> bool
     ensures { result ≡ allows operation left right }
 {
     match operation {
-        Operation::Sum => are_integers(left, right) || are_texts(left, right),
-        Operation::Product | Operation::Quotient | Operation::Shift => are_integers(left, right),
+        Operation::Sum => {
+            are_integers(left, right) || (are_texts(left, right) || are_sets(left, right))
+        }
+        Operation::Product => are_integers(left, right) || are_sets(left, right),
+        Operation::Quotient | Operation::Shift => are_integers(left, right),
         Operation::Logic => are_integers(left, right) || are_booleans(left, right),
-        Operation::Relation => are_of_one_host(left, right) || are_texts(left, right),
-        Operation::Membership => false,
+        Operation::Equality | Operation::Inclusion => {
+            are_of_one_host(left, right) || (are_texts(left, right) || are_sets(left, right))
+        }
+        Operation::Order => are_of_one_host(left, right) || are_texts(left, right),
+        Operation::Membership => is_member(left, right),
     }
 }
 
@@ -131,24 +190,34 @@ fn sum_rule(left: Sort, right: Sort) -> Rule
     }
 }
 
+fn is_set(sort: Sort) -> bool
+    ensures { result ≡ is_set sort }
+{
+    matches!(sort, Sort::Set(_))
+}
+
+fn product_rule(left: Sort, right: Sort) -> Rule
+    ensures { result ≡ product_rule left right }
+{
+    if is_set(left) && is_set(right) {
+        Rule::Joined
+    } else {
+        Rule::Arithmetic
+    }
+}
+
 /// The rule that is broken where an operator's rule doesn't hold.
 pub fn rule_of(operation: Operation, left: Sort, right: Sort) -> Rule
     ensures { result ≡ rule_of operation left right }
 {
     match operation {
         Operation::Sum => sum_rule(left, right),
-        Operation::Product | Operation::Quotient | Operation::Shift => Rule::Arithmetic,
+        Operation::Product => product_rule(left, right),
+        Operation::Quotient | Operation::Shift => Rule::Arithmetic,
         Operation::Logic => Rule::Logic,
-        Operation::Relation => Rule::Compared,
+        Operation::Equality | Operation::Inclusion | Operation::Order => Rule::Compared,
         Operation::Membership => Rule::Membership,
     }
-}
-
-/// Whether operators on such operands are not built yet.
-pub(crate) fn is_later(sort: Sort) -> bool
-    ensures { result ≡ is_later sort }
-{
-    matches!(sort, Sort::Set | Sort::Pointer)
 }
 
 fn alike(wanted: Option<TypeId>, ty: TypeId) -> Plan
@@ -204,16 +273,61 @@ fn shifted(sort: Sort) -> Plan
     }
 }
 
-/// The types that an operator gives its operands and its result, where its rule holds.
-pub(crate) fn plan_of(operation: Operation, left: Sort, right: Sort) -> Plan
-    ensures { result ≡ plan_of operation left right }
+fn own_or(ty: TypeId, own: Option<TypeId>) -> TypeId
+    ensures { result ≡ own_or ty own }
+{
+    match own {
+        Some(own) => own,
+        None => ty,
+    }
+}
+
+// The type of two sets together: that of the left one, or of the right one where the left one may be over any base.
+fn set_type(base: SetBase, left: Option<TypeId>, right: Option<TypeId>) -> TypeId
+    ensures { result ≡ set_type base left right }
+{
+    let first = own_or(BOOLEAN, left);
+    match base {
+        SetBase::Any => own_or(first, right),
+        _ => first,
+    }
+}
+
+// Sets as they are, others as they are computed.
+fn joined_plan(
+    wide: TypeId,
+    left: Sort,
+    right: Sort,
+    own: Option<TypeId>,
+    other: Option<TypeId>,
+) -> Plan
+    ensures { result ≡ joined_plan wide left right own other }
+{
+    match left {
+        Sort::Set(base) => alike(None, set_type(base, own, other)),
+        _ => computed(wide, left, right),
+    }
+}
+
+/// The types that an operator gives its operands, whose own types these are, and its result, where its rule holds.
+pub(crate) fn plan_of(
+    operation: Operation,
+    left: Sort,
+    right: Sort,
+    own: Option<TypeId>,
+    other: Option<TypeId>,
+) -> Plan
+    ensures { result ≡ plan_of operation left right own other }
 {
     match operation {
-        Operation::Sum => computed(STRING, left, right),
+        Operation::Sum => joined_plan(STRING, left, right, own, other),
+        Operation::Product => joined_plan(BOOLEAN, left, right, own, other),
         Operation::Shift => shifted(left),
-        Operation::Relation => alike(compared_in(left, right), BOOLEAN),
-        Operation::Logic | Operation::Product | Operation::Quotient | Operation::Membership =>
-            computed(BOOLEAN, left, right),
+        Operation::Equality | Operation::Inclusion | Operation::Order => {
+            alike(compared_in(left, right), BOOLEAN)
+        }
+        Operation::Membership => alike(None, BOOLEAN),
+        Operation::Logic | Operation::Quotient => computed(BOOLEAN, left, right),
     }
 }
 

@@ -1,15 +1,16 @@
 //! Selectors on typed operands.
 
-ghost use Rattle.std.specs.Prelude.{◌≡◌, Ok, option_copied};
+ghost use Rattle.std.specs.Prelude.{◌≡◌, Ok, option_copied, position};
+ghost use Rattle.type_layout.specs.Words.{same_bytes};
 ghost use Rattle.typed_tree.specs.Expressions.{view_expr, view_place, Index};
 ghost use Rattle.well_formed.specs.Fits.{definition};
 ghost use Rattle.typing_rules.specs.Judgements.{Gives};
-ghost use Rattle.typing_rules.specs.Selectors.{loaded, field_at, selected_by, selected, indexed_by, indexed, target_of, followed};
+ghost use Rattle.typing_rules.specs.Selectors.{loaded, field_at, field_in, declared_field, own_field, member_named, selected_by, selected, indexed_by, indexed, target_of, followed};
 
 use crate::faults::{Refusal, Rule, broken, not_yet};
 use crate::plans::{are_of_one_host, is_integer};
 use crate::sorts::{definition, sort_of, sort_of_type, type_of};
-use scopes::{CHAR, member_of};
+use scopes::{CHAR, Member, member_of};
 use std::alloc::Global;
 use type_layout::{Field, Name, Place, TypeDef, TypeId, Types};
 use typed_tree::{Expr, PlaceExpr};
@@ -57,6 +58,59 @@ fn field_at(
     }
 }
 
+fn field_place(fields: &[Field], name: &Name) -> Option<usize>
+    ensures { result ≡ position (λ field. same_bytes name.now field.name) fields.now }
+{
+    fields.iter().position(|field| *name == field.name)
+}
+
+fn field_in(fields: &[Field], place: Option<usize>) -> Option<&Field>
+    ensures { option_copied result ≡ field_in fields.now place }
+{
+    match place {
+        Some(place) => fields.get(place),
+        None => None,
+    }
+}
+
+#[tactic(auto, unfolding(crate::specs::Selectors::declared_field))]
+fn declared_field<'a>(fields: &'a [Field], name: &Name) -> Option<&'a Field>
+    ensures { option_copied result ≡ declared_field fields.now name.now }
+{
+    field_in(fields, field_place(fields, name))
+}
+
+// The field of this name that an object type declares itself.
+fn own_field<'a>(one: Option<&'a TypeDef>, name: &Name) -> Option<&'a Field>
+    ensures { option_copied result ≡ own_field (option_copied one.entry) name.now }
+{
+    match one {
+        Some(TypeDef::ObjectOf { fields, .. }) => { declared_field(fields.as_slice(), name) }
+        _ => None,
+    }
+}
+
+// A field of the line of an object.
+fn member_named(
+    alloc: Global,
+    types: &Types,
+    place: Place,
+    at: PlaceExpr,
+    name: &Name,
+    member: Option<Member>,
+) -> Result<Expr, Refusal>
+    ensures { Gives view_expr result (member_named types.now.types place (view_place at) name.now member).run }
+{
+    match member {
+        None => Err(Refusal::Because(broken(place, Rule::Selected))),
+        Some(one) if one.method => Err(Refusal::Because(not_yet(place))),
+        Some(one) => {
+            let field = own_field(definition(types, one.class), name);
+            field_at(alloc, types, place, at, one.number, field)
+        }
+    }
+}
+
 // A field of what a place of a type holds.
 fn selected_by(
     alloc: Global,
@@ -76,12 +130,19 @@ fn selected_by(
             }
             None => Err(Refusal::Because(broken(place, Rule::Selected))),
         },
-        Some(TypeDef::ObjectOf { .. }) => Err(Refusal::Because(not_yet(place))),
+        Some(TypeDef::ObjectOf { .. }) => member_named(
+            alloc,
+            types,
+            place,
+            at,
+            name,
+            member_of(types, Some(ty), name),
+        ),
         _ => Err(Refusal::Because(broken(place, Rule::Selected))),
     }
 }
 
-/// The node of a field of a record, at the place of its selector.
+/// The node of a field of a record or an object, at the place of its selector.
 #[tactic(auto, unfolding(crate::specs::Selectors::selected))]
 pub fn selected(
     alloc: Global,

@@ -1,13 +1,13 @@
 //! What operators look at in an operand.
 
 ghost use Rattle.std.specs.Prelude.{◌≡◌, Some, option_copied};
-ghost use Rattle.typed_tree.specs.Expressions.{view_expr, type_of};
+ghost use Rattle.typed_tree.specs.Expressions.{view_expr, view_elements, type_of};
 ghost use Rattle.well_formed.specs.Fits.{definition};
-ghost use Rattle.typing_rules.specs.Sorts.{range_of, only, is_within, are_within, holding_type, common_type, number_type, sort_stored, sort_by, sort_of_type, known, sort_of_constant, sort_of_result, sort_of};
+ghost use Rattle.typing_rules.specs.Sorts.{range_of, only, is_within, are_within, holding_type, common_type, number_type, sort_stored, base_stored, base_of, sort_by, sort_of_type, known, sort_of_constant, sort_of_set, sort_of_result, sort_of};
 
 use scopes::{INTEGER, LONG_INT, WORD};
 use type_layout::{Host, TypeDef, TypeId, Types, storage_of};
-use typed_tree::{Expr, Value};
+use typed_tree::{Expr, SetElement, Value};
 
 /// The integers from `low` to `high`, both included.
 #[derive(Clone, Copy, Debug, PartialEq, Eq)]
@@ -16,7 +16,17 @@ pub struct Range {
     pub high: i32,
 }
 
-/// What a value is to operators. An enumeration goes by its type, texts are strings.
+/// What the elements of a set are. The empty set may be over any base.
+#[derive(Clone, Copy, Debug, PartialEq, Eq)]
+pub enum SetBase {
+    Any,
+    Integers,
+    Booleans,
+    Chars,
+    Enumeration(TypeId),
+}
+
+/// What a value is to operators. An enumeration goes by its type, texts are strings. nil has no type of its own.
 #[derive(Clone, Copy, Debug, PartialEq, Eq)]
 pub enum Sort {
     Integer(Range),
@@ -24,8 +34,9 @@ pub enum Sort {
     Char,
     Enumeration(TypeId),
     Text,
-    Set,
+    Set(SetBase),
     Pointer,
+    Nil,
     Other,
 }
 
@@ -109,13 +120,36 @@ pub fn definition(types: &Types, ty: TypeId) -> Option<&TypeDef>
     }
 }
 
-fn sort_by(ty: TypeId, one: &TypeDef) -> Sort
-    ensures { result ≡ sort_by ty (Some one.now) }
+fn base_stored(ty: TypeId, stored: Host) -> SetBase
+    ensures { result ≡ base_stored ty (Some stored) }
+{
+    match stored {
+        Host::Char => SetBase::Chars,
+        Host::Boolean => SetBase::Booleans,
+        Host::Enumeration => SetBase::Enumeration(ty),
+        _ => SetBase::Integers,
+    }
+}
+
+fn base_of(types: &Types, ty: TypeId) -> SetBase
+    ensures { result ≡ base_of types.now.types ty }
+{
+    match definition(types, ty) {
+        Some(TypeDef::Ordinal { host, low, high }) => base_stored(
+            ty,
+            storage_of(*host, *low, *high),
+        ),
+        _ => SetBase::Any,
+    }
+}
+
+fn sort_by(types: &Types, ty: TypeId, one: &TypeDef) -> Sort
+    ensures { result ≡ sort_by types.now.types ty (Some one.now) }
 {
     match one {
         TypeDef::Ordinal { host, low, high } => sort_stored(ty, storage_of(*host, *low, *high)),
         TypeDef::Str { .. } => Sort::Text,
-        TypeDef::SetOf { .. } => Sort::Set,
+        TypeDef::SetOf { base } => Sort::Set(base_of(types, *base)),
         TypeDef::PointerTo { .. } => Sort::Pointer,
         _ => Sort::Other,
     }
@@ -126,7 +160,7 @@ pub fn sort_of_type(types: &Types, ty: TypeId) -> Sort
     ensures { result ≡ sort_of_type types.now.types ty }
 {
     match definition(types, ty) {
-        Some(one) => sort_by(ty, one),
+        Some(one) => sort_by(types, ty, one),
         None => Sort::Other,
     }
 }
@@ -140,12 +174,15 @@ fn known(number: i32, sort: Sort) -> Sort
     }
 }
 
-fn sort_of_constant(types: &Types, ty: TypeId, value: &Value) -> Sort
+/// What a constant of a type is to operators: an integer lies at its value.
+pub fn sort_of_constant(types: &Types, ty: TypeId, value: &Value) -> Sort
     ensures { result ≡ sort_of_constant types.now.types ty value.now }
 {
     match value {
         Value::Number(number) => known(*number, sort_of_type(types, ty)),
-        Value::Chars(_) | Value::Nil | Value::Elements(_) => sort_of_type(types, ty),
+        Value::Nil => Sort::Nil,
+        Value::Elements(elements) if elements.is_empty() => Sort::Set(SetBase::Any),
+        Value::Chars(_) | Value::Elements(_) => sort_of_type(types, ty),
     }
 }
 
@@ -170,6 +207,16 @@ pub fn type_of(expr: &Expr) -> Option<TypeId>
     }
 }
 
+// A set that lists nothing is one over any base.
+fn sort_of_set(types: &Types, ty: TypeId, elements: &[SetElement]) -> Sort
+    ensures { result ≡ sort_of_set (view_elements elements.now) (sort_of_type types.now.types ty) }
+{
+    match elements {
+        [] => Sort::Set(SetBase::Any),
+        [SetElement::One(_), ..] | [SetElement::Span(..), ..] => sort_of_type(types, ty),
+    }
+}
+
 /// What an operand is to operators. A constant lies at its value, any other operand anywhere in the predefined type
 /// that stores it.
 pub fn sort_of(types: &Types, expr: &Expr) -> Sort
@@ -177,6 +224,7 @@ pub fn sort_of(types: &Types, expr: &Expr) -> Sort
 {
     match expr {
         Expr::Const { ty, value } => sort_of_constant(types, *ty, value),
+        Expr::SetOf { ty, elements } => sort_of_set(types, *ty, elements.as_slice()),
         _ => match type_of(expr) {
             Some(ty) => sort_of_type(types, ty),
             None => Sort::Other,

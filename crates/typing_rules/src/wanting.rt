@@ -3,7 +3,7 @@
 ghost use Rattle.std.specs.Prelude.{◌≡◌, Ok, Some, option_copied};
 ghost use Rattle.typed_tree.specs.Expressions.{view_expr, Convert};
 ghost use Rattle.typing_rules.specs.Judgements.{Gives};
-ghost use Rattle.typing_rules.specs.Wanted.{same_host, predefined, stored_of_type, stored_of, converted, as_ordinal, as_text, wanted_by, wanted, wanted_in, constant_type, constant};
+ghost use Rattle.typing_rules.specs.Wanted.{same_host, predefined, stored_of_type, stored_of, converted, as_ordinal, as_text, as_pointer, wanted_by, wanted, wanted_in, constant_type, constant, untyped, nil};
 
 use crate::Refusal;
 use crate::sorts::{Sort, definition, number_type, sort_of_type, type_of};
@@ -103,8 +103,38 @@ pub fn as_text(alloc: Global, stored: Option<Host>, expr: Expr) -> Result<Expr, 
     }
 }
 
+/// The type of nil where no type is wanted, which no table has.
+pub const UNTYPED: TypeId = TypeId(4_294_967_295);
+
+/// nil where no type is wanted.
+pub fn nil() -> Expr
+    ensures { view_expr result ≡ nil }
+{
+    Expr::Const {
+        ty: UNTYPED,
+        value: Value::Nil,
+    }
+}
+
+/// nil has the pointer type that is wanted, and another value stays as it is.
+pub(crate) fn as_pointer(ty: TypeId, expr: Expr) -> Expr
+    ensures { view_expr result ≡ as_pointer ty (view_expr expr) }
+{
+    match expr {
+        Expr::Const {
+            value: Value::Nil,
+            ..
+        } => Expr::Const {
+            ty,
+            value: Value::Nil,
+        },
+        _ => expr,
+    }
+}
+
 /// A value where a type is wanted. A constant that the type's storage holds, and a constant Char where a string is wanted,
-/// is a constant of it; any other ordinal that is stored otherwise, and a Char as a string, is converted.
+/// is a constant of it; any other ordinal that is stored otherwise, and a Char as a string, is converted. nil takes a pointer
+/// type.
 #[tactic(auto, unfolding(crate::specs::Wanted::wanted))]
 pub fn wanted(alloc: Global, types: &Types, ty: TypeId, expr: Expr) -> Result<Expr, Refusal>
     ensures { Gives view_expr result (Ok (wanted types.now.types ty (view_expr expr))) }
@@ -119,6 +149,7 @@ pub fn wanted(alloc: Global, types: &Types, ty: TypeId, expr: Expr) -> Result<Ex
             expr,
         ),
         Some(TypeDef::Str { .. }) => as_text(alloc, stored, expr),
+        Some(TypeDef::PointerTo { .. }) => Ok(as_pointer(ty, expr)),
         _ => Ok(expr),
     }
 }
