@@ -1,6 +1,6 @@
 -- The judgements of conversions and calls are lawful.
-use Rattle.std.proofs.Common.{◌≡◌, ◌==◌, not, ◌&&◌, Bool, true, false, List, [], ◌∷◌, Option, Some, None, Decides}
-use Rattle.std.proofs.lemmas.Bool.Decides.{Decides-and, Decides-or, Decides-eqb}
+use Rattle.std.proofs.Common.{Bool, true, false, List, [], ◌∷◌, Option, Some, None, Decides}
+use Rattle.std.proofs.lemmas.Bool.Decides.{Decides-or, Decides-eqb}
 use Rattle.type_layout.specs.declared.definitions.TypeId.{TypeId}
 use Rattle.type_layout.specs.declared.definitions.RoutineId.{RoutineId}
 use Rattle.type_layout.specs.declared.definitions.Param.{Param}
@@ -20,12 +20,14 @@ use Rattle.typing_rules.specs.Faults.{broken, left_out, not_yet}
 use Rattle.typing_rules.specs.Judgements.{refuses, rule}
 use Rattle.typing_rules.specs.Sorts.{sort_of_type, sort_of}
 use Rattle.typing_rules.specs.Wanted.{stored_of, predefined}
-use Rattle.typing_rules.specs.Assignments.{IsString, is_string, IsOfType, is_of_type, IsAssignable, is_assignable, assigned_by}
+use Rattle.typing_rules.specs.Assignments.{IsAssignable, is_assignable, is_procedural, assigned_by}
 use Rattle.typing_rules.specs.Laws.{Lawful}
 use Rattle.typing_rules.proofs.JudgementLaws.{lawful_makes, lawful_refuses, lawful_rule, lawful_either, lawful_part, lawful_parts}
-use Rattle.typing_rules.proofs.PlanLaws.{yes, no, tells_one_host, tells_text}
+use Rattle.typing_rules.proofs.PlanLaws.{yes, no}
+use Rattle.typing_rules.proofs.JoinLaws.{tells_line}
+use Rattle.typing_rules.proofs.AssignmentLaws.{tells_assignable}
 use Rattle.call_rules.specs.Casts.{IsOrdinal, is_ordinal, is_pointer, cast_one, cast}
-use Rattle.call_rules.specs.Given.{value, place_of, is_wider, is_object, by_value, by_place, by_kind, handed, given, result_called, called, result_performed, performed}
+use Rattle.call_rules.specs.Given.{value, place_of, IsVariableFor, is_variable_for, by_value, by_place, by_kind, handed, given, result_called, called, result_performed, performed}
 
 pub tells_ordinal : (s : Sort) → Decides (is_ordinal s) (IsOrdinal s)
 tells_ordinal (sort.Integer r) = yes
@@ -33,26 +35,10 @@ tells_ordinal sort.Boolean = yes
 tells_ordinal sort.Char = yes
 tells_ordinal (sort.Enumeration ty) = yes
 tells_ordinal sort.Text = no
-tells_ordinal sort.Set = no
+tells_ordinal (sort.Set base) = no
 tells_ordinal sort.Pointer = no
+tells_ordinal sort.Nil = no
 tells_ordinal sort.Other = no
-
-tells_string : (s : Sort) → Decides (is_string s) (IsString s)
-tells_string (sort.Integer r) = no
-tells_string sort.Boolean = no
-tells_string sort.Char = no
-tells_string (sort.Enumeration ty) = no
-tells_string sort.Text = yes
-tells_string sort.Set = no
-tells_string sort.Pointer = no
-tells_string sort.Other = no
-
-tells_type : (ty : TypeId) (own : Option TypeId) → Decides (is_of_type ty own) (IsOfType ty own)
-tells_type ty None = no
-tells_type ty (Some own) = Decides-eqb ty.0 own.0
-
-tells_assignable : (target s : Sort) (ty : TypeId) (own : Option TypeId) → Decides (is_assignable target s ty own) (IsAssignable target s ty own)
-tells_assignable target s ty own = Decides-or _ _ (tells_one_host target s) (Decides-or _ _ (Decides-and _ _ (tells_string target) (tells_text s)) (tells_type ty own))
 
 module _ (types : List TypeDef) (place : Place) where
   -- ---- conversions
@@ -83,15 +69,14 @@ module _ (types : List TypeDef) (place : Place) where
     lawful_value : (ty : TypeId) (e : Expression) → Lawful (by_value types place checked ty e)
     lawful_value ty e =
         let made = value (assigned_by ty (definition types ty) (stored_of types e) checked e) in
-        let test = is_assignable (sort_of_type types ty) (sort_of types e) ty (type_of e) in
-        let Asked = IsAssignable (sort_of_type types ty) (sort_of types e) ty (type_of e) in
-        lawful_either (is_wider (definition types ty) && not (is_of_type ty (type_of e))) (refuses (not_yet place)) (rule (broken place rules.Called) test Asked made)
-        (lawful_refuses _) (lawful_rule (broken place rules.Called) test Asked made (tells_assignable (sort_of_type types ty) (sort_of types e) ty (type_of e)))
+        let test = is_assignable types (sort_of_type types ty) (sort_of types e) ty (type_of e) in
+        let Asked = IsAssignable types (sort_of_type types ty) (sort_of types e) ty (type_of e) in
+        lawful_either (is_procedural (definition types ty)) (refuses (not_yet place)) (rule (broken place rules.Called) test Asked made)
+        (lawful_refuses _) (lawful_rule (broken place rules.Called) test Asked made (tells_assignable types (sort_of_type types ty) (sort_of types e) ty (type_of e)))
 
     lawful_variable : (ty own : TypeId) (at : tree.Place) → Lawful (by_place types place ty (Load own at))
     lawful_variable ty own at =
-        lawful_either (is_object (definition types ty) && not (own.0 == ty.0)) (refuses (not_yet place)) (rule (broken place rules.Called) (own.0 == ty.0) (own.0 ≡ ty.0) (place_of at))
-        (lawful_refuses _) (lawful_rule (broken place rules.Called) (own.0 == ty.0) (own.0 ≡ ty.0) (place_of at) (Decides-eqb own.0 ty.0))
+        lawful_rule (broken place rules.Called) (is_variable_for types ty own) (IsVariableFor types ty own) (place_of at) (Decides-or _ _ (Decides-eqb own.0 ty.0) (tells_line types own ty))
 
     lawful_place : (ty : TypeId) (e : Expression) → Lawful (by_place types place ty e)
     lawful_place ty (Load own at) = lawful_variable ty own at

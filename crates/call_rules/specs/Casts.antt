@@ -32,6 +32,7 @@ is_ordinal _ = false
 
 abbrev pub is_pointer : Sort → Bool
 is_pointer sort.Pointer = true
+is_pointer sort.Nil = true
 is_pointer _ = false
 
 -- An ordinal by the low bytes of the predefined type that stores an ordinal type. Conversions to and from pointers are left out.

@@ -1,5 +1,5 @@
 -- Calls of routines: an argument for each parameter, in order.
-use Rattle.std.specs.Prelude.{◌≡◌, ◌==◌, Bool, true, false, not, ◌&&◌, List, [], ◌∷◌, Option, Some, None}
+use Rattle.std.specs.Prelude.{◌≡◌, ◌⊎◌, ◌==◌, ◌||◌, Bool, true, false, List, [], ◌∷◌, Option, Some, None}
 use Rattle.type_layout.specs.declared.definitions.TypeId.{TypeId}
 use Rattle.type_layout.specs.declared.definitions.RoutineId.{RoutineId}
 use Rattle.type_layout.specs.declared.definitions.Param.{Param}
@@ -17,7 +17,8 @@ use Rattle.typing_rules.specs.Faults.{broken, not_yet}
 use Rattle.typing_rules.specs.Judgements.{Judgement, makes, refuses, rule, either, part, parts}
 use Rattle.typing_rules.specs.Sorts.{sort_of_type, sort_of}
 use Rattle.typing_rules.specs.Wanted.{stored_of}
-use Rattle.typing_rules.specs.Assignments.{IsAssignable, is_of_type, is_assignable, assigned_by}
+use Rattle.typing_rules.specs.Joins.{IsLine, is_line}
+use Rattle.typing_rules.specs.Assignments.{IsAssignable, is_assignable, is_procedural, assigned_by}
 
 -- an argument: a value, or the place that a `var` parameter takes
 pub data Handed : Type 0 where
@@ -39,30 +40,22 @@ arguments_of (one ∷ rest) = onto one (arguments_of rest)
 
 -- ---- one argument
 
--- values of other types join these too, which is not built yet
-abbrev pub is_wider : Option TypeDef → Bool
-is_wider (Some (type.SetOf base)) = true
-is_wider (Some (type.PointerTo target)) = true
-is_wider (Some (type.ObjectOf parent dynamic fields methods)) = true
-is_wider (Some (type.Procedural header)) = true
-is_wider _ = false
-
-abbrev pub is_object : Option TypeDef → Bool
-is_object (Some (type.ObjectOf parent dynamic fields methods)) = true
-is_object _ = false
-
 -- a value joins its parameter as one that is assigned joins its target
 abbrev pub by_value : List TypeDef → Place → Bool → TypeId → Expression → Judgement Handed
 by_value types place checked ty e =
-    either (is_wider (definition types ty) && not (is_of_type ty (type_of e))) (refuses (not_yet place))
-    (rule (broken place rules.Called) (is_assignable (sort_of_type types ty) (sort_of types e) ty (type_of e)) (IsAssignable (sort_of_type types ty) (sort_of types e) ty (type_of e))
+    either (is_procedural (definition types ty)) (refuses (not_yet place))
+    (rule (broken place rules.Called) (is_assignable types (sort_of_type types ty) (sort_of types e) ty (type_of e)) (IsAssignable types (sort_of_type types ty) (sort_of types e) ty (type_of e))
     (value (assigned_by ty (definition types ty) (stored_of types e) checked e)))
 
--- a variable of the very type; descendants of objects are not built yet
+-- a variable of the very type, or of a descendant of an object type
+abbrev pub IsVariableFor : List TypeDef → TypeId → TypeId → Type 0
+IsVariableFor types ty own = (own.0 ≡ ty.0) ⊎ IsLine types own ty
+
+abbrev pub is_variable_for : List TypeDef → TypeId → TypeId → Bool
+is_variable_for types ty own = own.0 == ty.0 || is_line types own ty
+
 abbrev pub by_place : List TypeDef → Place → TypeId → Expression → Judgement Handed
-by_place types place ty (Load own at) =
-    either (is_object (definition types ty) && not (own.0 == ty.0)) (refuses (not_yet place))
-    (rule (broken place rules.Called) (own.0 == ty.0) (own.0 ≡ ty.0) (place_of at))
+by_place types place ty (Load own at) = rule (broken place rules.Called) (is_variable_for types ty own) (IsVariableFor types ty own) (place_of at)
 by_place types place ty e = refuses (broken place rules.Called)
 
 abbrev pub by_kind : List TypeDef → Place → Bool → TypeId → Bool → Expression → Judgement Handed

@@ -1,37 +1,23 @@
 //! Arguments by their parameters, and calls.
 
-ghost use Rattle.std.specs.Prelude.{◌≡◌, map, option_copied};
-ghost use Rattle.typed_tree.specs.Expressions.{view_expr};
+ghost use Rattle.std.specs.Prelude.{◌≡◌, map};
+ghost use Rattle.typed_tree.specs.Expressions.{Load, view_expr, view_place};
 ghost use Rattle.typing_rules.specs.Judgements.{Gives};
-ghost use Rattle.call_rules.specs.Given.{Handed, view_handed, is_wider, is_object, by_value, by_place, handed, given, called, performed};
+ghost use Rattle.call_rules.specs.Given.{Handed, view_handed, is_variable_for, by_value, by_place, handed, given, called, performed};
 
 use std::alloc::Global;
-use type_layout::{Header, Param, Place, RoutineId, TypeDef, TypeId, Types};
-use typed_tree::{Arg, Expr};
+use type_layout::{Header, Param, Place, RoutineId, TypeId, Types};
+use typed_tree::{Arg, Expr, PlaceExpr};
 use typing_rules::{
-    Refusal, Rule, assigned_by, broken, definition, is_assignable, is_of_type, not_yet, sort_of,
-    sort_of_type, stored_of_type, type_of,
+    Refusal, Rule, assigned_by, broken, definition, is_assignable, is_line, is_procedural, not_yet,
+    sort_of, sort_of_type, stored_of_type, type_of,
 };
 
-fn is_wider(one: Option<&TypeDef>) -> bool
-    ensures { result ≡ is_wider (option_copied one.entry) }
+// A variable of the very type, or of a descendant of an object type.
+fn is_variable_for(types: &Types, ty: TypeId, own: TypeId) -> bool
+    ensures { result ≡ is_variable_for types.now.types ty own }
 {
-    match one {
-        Some(TypeDef::SetOf { .. })
-        | Some(TypeDef::PointerTo { .. })
-        | Some(TypeDef::ObjectOf { .. })
-        | Some(TypeDef::Procedural { .. }) => true,
-        _ => false,
-    }
-}
-
-fn is_object(one: Option<&TypeDef>) -> bool
-    ensures { result ≡ is_object (option_copied one.entry) }
-{
-    match one {
-        Some(TypeDef::ObjectOf { .. }) => true,
-        _ => false,
-    }
+    own.0 == ty.0 || is_line(types, own, ty)
 }
 
 fn by_value(
@@ -46,10 +32,16 @@ fn by_value(
 {
     let own = type_of(&value);
     let one = definition(types, ty);
-    if is_wider(one) && !is_of_type(ty, own) {
+    if is_procedural(one) {
         return Err(Refusal::Because(not_yet(place)));
     }
-    if !is_assignable(sort_of_type(types, ty), sort_of(types, &value), ty, own) {
+    if !is_assignable(
+        types,
+        sort_of_type(types, ty),
+        sort_of(types, &value),
+        ty,
+        own,
+    ) {
         return Err(Refusal::Because(broken(place, Rule::Called)));
     }
     let stored = stored_of_type(types, own);
@@ -57,14 +49,30 @@ fn by_value(
     Ok(Arg::Value(value))
 }
 
+// A variable of its own type, where one for a parameter's type is due.
+fn variable(
+    types: &Types,
+    place: Place,
+    ty: TypeId,
+    own: TypeId,
+    at: PlaceExpr,
+) -> Result<Arg, Refusal>
+    ensures { Gives view_handed result (by_place types.now.types place ty (Load own (view_place at))).run }
+{
+    if is_variable_for(types, ty, own) {
+        Ok(Arg::Place(at))
+    } else {
+        Err(Refusal::Because(broken(place, Rule::Called)))
+    }
+}
+
 fn by_place(types: &Types, place: Place, ty: TypeId, value: Expr) -> Result<Arg, Refusal>
     ensures { Gives view_handed result (by_place types.now.types place ty (view_expr value)).run }
 {
     match value {
-        Expr::Load { ty: own, .. } if is_object(definition(types, ty)) && own.0 != ty.0 => {
-            Err(Refusal::Because(not_yet(place)))
+        Expr::Load { ty: own, place: at } => {
+            variable(types, place, ty, own, Box::into_inner(at))
         }
-        Expr::Load { ty: own, place: at } if own.0 == ty.0 => Ok(Arg::Place(Box::into_inner(at))),
         _ => Err(Refusal::Because(broken(place, Rule::Called))),
     }
 }

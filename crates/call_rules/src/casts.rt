@@ -26,7 +26,7 @@ pub fn is_ordinal(sort: Sort) -> bool
 fn is_pointer(sort: Sort) -> bool
     ensures { result ≡ is_pointer sort }
 {
-    matches!(sort, Sort::Pointer)
+    matches!(sort, Sort::Pointer | Sort::Nil)
 }
 
 fn cast_one(

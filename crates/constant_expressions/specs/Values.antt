@@ -74,7 +74,9 @@ computed _ a b = None
 
 -- relations and `in` don't stand in a constant
 abbrev pub compares : Operation → Bool
-compares operation.Relation = true
+compares operation.Equality = true
+compares operation.Inclusion = true
+compares operation.Order = true
 compares operation.Membership = true
 compares _ = false
 
@@ -93,7 +95,7 @@ combined_values place one s a b =
     either (is_text s) (makes (text (joined (bytes_of a) (bytes_of b)))) (numbered place s (computed one (number_of a) (number_of b)))
 
 abbrev pub is_set : Sort → Bool
-is_set sort.Set = true
+is_set (sort.Set base) = true
 is_set _ = false
 
 -- operators on sets are not built yet

@@ -42,13 +42,16 @@ fn computed(op: BinaryOp, left: i32, right: i32) -> Option<i32>
 fn compares(operation: Operation) -> bool
     ensures { result ≡ compares operation }
 {
-    matches!(operation, Operation::Relation | Operation::Membership)
+    matches!(
+        operation,
+        Operation::Equality | Operation::Inclusion | Operation::Order | Operation::Membership
+    )
 }
 
 fn is_set(sort: Sort) -> bool
     ensures { result ≡ is_set sort }
 {
-    matches!(sort, Sort::Set)
+    matches!(sort, Sort::Set(_))
 }
 
 fn of_sort(sort: Sort, number: i32) -> Constant

@@ -1,0 +1,3 @@
+pub mod Bases
+pub mod Sets
+pub mod Laws
