@@ -1,2 +1,3 @@
+mod CallSteps
 mod DepthLaws
-mod TypedLaws
+pub mod TypedLaws

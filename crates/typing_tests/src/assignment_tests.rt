@@ -1,6 +1,6 @@
 //! The nodes of values that are assigned, worked out by hand.
 
-use scopes::{BOOLEAN, BYTE, CHAR, INTEGER, LONG_INT, STRING, Scope};
+use scopes::{BOOLEAN, BYTE, CHAR, INTEGER, LONG_INT, SET_OF_BYTE, SET_OF_CHAR, STRING, Scope};
 use std::alloc::{AllocError, Global};
 use type_layout::{Name, Place, TypeId};
 use typed_tree::{Expr, PlaceExpr, Value, Variable};
@@ -85,41 +85,55 @@ fn given(
     Ok(told(&assigned(alloc, scope.types(), HERE, ty, checked, value)))
 }
 
-fn variable(
-    alloc: Global,
-    ty: TypeId,
-    checked: bool,
-    own: TypeId,
-) -> Result<(Part, Part, Part), AllocError> {
-    given(alloc, ty, checked, load(alloc, own)?)
-}
+// What is assigned: a target, whether it is tested, and the type of a variable or a number of a type.
+type Row = (TypeId, bool, TypeId, Option<i32>, (Part, Part, Part));
 
-// A test stands inside a conversion, and has the type of what it tests.
-#[test]
-fn variables_are_tested_and_converted(rt: HostRuntime) {
-    for (ty, checked, own, wanted) in [
-        (BYTE, true, INTEGER, ((b'c', 1), (b'r', 2), (b'l', 2))),
-        (BYTE, false, INTEGER, ((b'c', 1), (b'l', 2), NONE)),
-        (INTEGER, true, INTEGER, ((b'r', 2), (b'l', 2), NONE)),
-        (LONG_INT, false, LONG_INT, ((b'l', 4), NONE, NONE)),
-        (STRING, true, CHAR, ((b'c', 7), (b'l', 5), NONE)),
-        (STRING, true, STRING, ((b'l', 7), NONE, NONE)),
-        (BYTE, true, BOOLEAN, ((b'!', 0), NONE, NONE)),
-        (CHAR, true, STRING, ((b'!', 0), NONE, NONE)),
-    ] {
-        assert!(rt; variable(rt.alloc(), ty, checked, own) == Ok(wanted));
+fn assigned_row(alloc: Global, row: Row) -> Result<(Part, Part, Part), AllocError> {
+    match row.3 {
+        None => given(alloc, row.0, row.1, load(alloc, row.2)?),
+        Some(value) => given(alloc, row.0, row.1, number(row.2, value)),
     }
 }
 
+// A test stands inside a conversion, and has the type of what it tests.
+const ROWS: &[Row] = &[
+    (BYTE, true, INTEGER, None, ((b'c', 1), (b'r', 2), (b'l', 2))),
+    (BYTE, false, INTEGER, None, ((b'c', 1), (b'l', 2), NONE)),
+    (INTEGER, true, INTEGER, None, ((b'r', 2), (b'l', 2), NONE)),
+    (LONG_INT, false, LONG_INT, None, ((b'l', 4), NONE, NONE)),
+    (STRING, true, CHAR, None, ((b'c', 7), (b'l', 5), NONE)),
+    (STRING, true, STRING, None, ((b'l', 7), NONE, NONE)),
+    (BYTE, true, BOOLEAN, None, ((b'!', 0), NONE, NONE)),
+    (CHAR, true, STRING, None, ((b'!', 0), NONE, NONE)),
+    (
+        SET_OF_BYTE,
+        true,
+        SET_OF_BYTE,
+        None,
+        ((b'l', 8), NONE, NONE),
+    ),
+    (
+        SET_OF_BYTE,
+        true,
+        SET_OF_CHAR,
+        None,
+        ((b'!', 0), NONE, NONE),
+    ),
+    (BYTE, true, INTEGER, Some(5), ((b'r', 1), (b'k', 1), NONE)),
+    (BYTE, false, INTEGER, Some(5), ((b'k', 1), NONE, NONE)),
+    (
+        BYTE,
+        true,
+        INTEGER,
+        Some(300),
+        ((b'c', 1), (b'r', 2), (b'k', 2)),
+    ),
+    (STRING, true, CHAR, Some(65), ((b'k', 7), NONE, NONE)),
+];
+
 #[test]
-fn constants_are_of_the_target(rt: HostRuntime) {
-    for (ty, checked, own, value, wanted) in [
-        (BYTE, true, INTEGER, 5, ((b'r', 1), (b'k', 1), NONE)),
-        (BYTE, false, INTEGER, 5, ((b'k', 1), NONE, NONE)),
-        (BYTE, true, INTEGER, 300, ((b'c', 1), (b'r', 2), (b'k', 2))),
-        (STRING, true, CHAR, 65, ((b'k', 7), NONE, NONE)),
-    ] {
-        let value = number(own, value);
-        assert!(rt; given(rt.alloc(), ty, checked, value) == Ok(wanted));
+fn values_are_tested_and_converted(rt: HostRuntime) {
+    for row in ROWS {
+        assert!(rt; assigned_row(rt.alloc(), *row) == Ok(row.4));
     }
 }

@@ -1,13 +1,20 @@
 //! A small scope, and small expressions over it, for the tests.
 
 use pascal_grammar::{Adder, Multiplier, Position, Relator, Sign};
-use scopes::{BYTE, BlockKind, CHAR, Entry, INTEGER, LONG_INT, SHORT_INT, STRING, Scope, WORD};
+use scopes::{
+    BYTE, BlockKind, CHAR, Entry, INTEGER, LONG_INT, SET_OF_BYTE, SET_OF_CHAR, SHORT_INT, STRING,
+    Scope, WORD,
+};
 use std::alloc::{AllocError, Global};
 use syntax_tree::{
-    Designator, Expression, Factor, Identifier, IndexMark, PlacedSign, SimpleExpression, Term,
+    Argument, Designator, Element, Expression, Factor, Identifier, IndexMark, PlacedSign,
+    SimpleExpression, Term,
 };
 use tp_lexer::Switches;
-use type_layout::{Bytes, Field, Fields, Host, Name, Place, TypeDef, TypeId};
+use type_layout::{
+    Bytes, Field, Fields, Header, Host, Kind, Methods, Name, Param, Params, Place, RoutineId,
+    TypeDef, TypeId,
+};
 use typed_tree::Value;
 
 /// An operator of any level.
@@ -18,12 +25,14 @@ pub(crate) enum Operator {
     Relator(Relator),
 }
 
-/// An operand: a name, a number or a text.
+/// An operand: a name, a number, a text, `nil` or `[]`.
 #[derive(Clone, Copy)]
 pub(crate) enum Operand {
     Named(&'static [u8]),
     Number(i32),
     Text(&'static [u8]),
+    Nil,
+    Empty,
 }
 
 /// A position in line 1, under {$R+}.
@@ -151,6 +160,107 @@ fn declare_others(alloc: Global, scope: &mut Scope) -> Result<(), AllocError> {
     Ok(())
 }
 
+fn declare_routine(
+    alloc: Global,
+    scope: &mut Scope,
+    name: &[u8],
+    param: Option<(bool, TypeId)>,
+    gives: Option<TypeId>,
+) -> Result<(), AllocError> {
+    let mut params = Params::new(alloc);
+    if let Some((by_ref, ty)) = param {
+        params.push(Param {
+            name: named(b"X")?,
+            by_ref,
+            ty,
+        })?;
+    }
+    let kind = match gives {
+        Some(_) => Kind::Function,
+        None => Kind::Procedure,
+    };
+    let header = Header {
+        kind,
+        params,
+        result: gives,
+    };
+    let routine = RoutineId { unit: 0, number: 0 };
+    enter(
+        scope,
+        name,
+        Entry::Code {
+            routine,
+            level: 0,
+            header,
+        },
+    )
+}
+
+// FI takes an Integer and gives a Word, GB takes a Byte variable and gives an Integer, GU takes a string and gives a Char, H takes
+// nothing and gives a Boolean, Z is a procedure.
+fn declare_routines(alloc: Global, scope: &mut Scope) -> Result<(), AllocError> {
+    declare_routine(alloc, scope, b"FI", Some((false, INTEGER)), Some(WORD))?;
+    declare_routine(alloc, scope, b"GB", Some((true, BYTE)), Some(INTEGER))?;
+    declare_routine(alloc, scope, b"GU", Some((false, STRING)), Some(CHAR))?;
+    declare_routine(alloc, scope, b"H", None, Some(scopes::BOOLEAN))?;
+    declare_routine(alloc, scope, b"Z", None, None)
+}
+
+fn object(alloc: Global, scope: &mut Scope, parent: Option<TypeId>) -> Result<TypeId, AllocError> {
+    let mut fields = Fields::new(alloc);
+    let name = match parent {
+        None => named(b"X")?,
+        Some(_) => named(b"Y")?,
+    };
+    fields.push(Field { name, ty: INTEGER })?;
+    let one = TypeDef::ObjectOf {
+        parent,
+        dynamic: false,
+        fields,
+        methods: Methods::new(alloc),
+    };
+    add(scope, one)
+}
+
+// SB: a set of Byte, SC: a set of Char, SE: a set over the type of E. OA: an object with X: Integer, OB: a descendant with
+// Y: Integer, PA and PB: pointers to these. GA takes a variable of the type of OA and gives a Boolean, HA a value of the type of
+// PA, HS one of that of SB.
+fn declare_sets_and_objects(alloc: Global, scope: &mut Scope) -> Result<(), AllocError> {
+    declare(scope, b"SB", 0, SET_OF_BYTE)?;
+    declare(scope, b"SC", 0, SET_OF_CHAR)?;
+    let over = add(scope, TypeDef::SetOf { base: TypeId(15) })?;
+    declare(scope, b"SE", 0, over)?;
+    let above = object(alloc, scope, None)?;
+    declare(scope, b"OA", 0, above)?;
+    let below = object(alloc, scope, Some(above))?;
+    declare(scope, b"OB", 0, below)?;
+    let to_above = add(scope, TypeDef::PointerTo { target: above })?;
+    declare(scope, b"PA", 0, to_above)?;
+    let to_below = add(scope, TypeDef::PointerTo { target: below })?;
+    declare(scope, b"PB", 0, to_below)?;
+    declare_routine(
+        alloc,
+        scope,
+        b"GA",
+        Some((true, above)),
+        Some(scopes::BOOLEAN),
+    )?;
+    declare_routine(
+        alloc,
+        scope,
+        b"HA",
+        Some((false, to_above)),
+        Some(scopes::BOOLEAN),
+    )?;
+    declare_routine(
+        alloc,
+        scope,
+        b"HS",
+        Some((false, SET_OF_BYTE)),
+        Some(scopes::BOOLEAN),
+    )
+}
+
 /// A scope with a variable of each predeclared type, two constants, and some others, in a routine N inside another with
 /// variables O of the outer and V of the inner one.
 pub(crate) fn scope(alloc: Global) -> Result<Scope, AllocError> {
@@ -158,6 +268,8 @@ pub(crate) fn scope(alloc: Global) -> Result<Scope, AllocError> {
     scope.begin(BlockKind::Part)?;
     declare_ordinals(&mut scope)?;
     declare_others(alloc, &mut scope)?;
+    declare_routines(alloc, &mut scope)?;
+    declare_sets_and_objects(alloc, &mut scope)?;
     let owner = None;
     scope.begin(BlockKind::Routine { number: 0, owner })?;
     declare(&mut scope, b"O", 1, INTEGER)?;
@@ -177,6 +289,13 @@ pub(crate) fn factor(alloc: Global, operand: Operand, column: u32) -> Result<Fac
         Operand::Text(bytes) => Factor::Text {
             bytes: Bytes::from_slice(alloc, bytes)?,
             position: at(column),
+        },
+        Operand::Nil => Factor::Nil {
+            position: at(column),
+        },
+        Operand::Empty => Factor::Set {
+            position: at(column),
+            elements: Vec::new(alloc),
         },
     })
 }
@@ -290,4 +409,64 @@ pub(crate) fn target(alloc: Global, name: &[u8]) -> Result<Expression, AllocErro
         owner: owner(alloc, name)?,
         position: at(2),
     })))
+}
+
+/// A name at column 1 and arguments in parentheses, at columns 3, 5 and so on.
+pub(crate) fn call(
+    alloc: Global,
+    name: &[u8],
+    operands: &[Operand],
+) -> Result<Expression, AllocError> {
+    let mut arguments = Vec::new(alloc);
+    let mut column = 3u32;
+    for operand in operands {
+        arguments.push(Argument::Plain(simple(factor(alloc, *operand, column)?)))?;
+        column = column.saturating_add(2);
+    }
+    Ok(simple(Factor::Call {
+        callee: Designator::Name(identifier(name, 1)?),
+        arguments,
+    }))
+}
+
+/// A name at column 1 and an argument with a width.
+pub(crate) fn wide_call(
+    alloc: Global,
+    name: &[u8],
+    operand: Operand,
+) -> Result<Expression, AllocError> {
+    let value = simple(factor(alloc, operand, 3)?);
+    let width = simple(factor(alloc, operand, 5)?);
+    let mut arguments = Vec::new(alloc);
+    arguments.push(Argument::Wide(value, width))?;
+    Ok(simple(Factor::Call {
+        callee: Designator::Name(identifier(name, 1)?),
+        arguments,
+    }))
+}
+
+/// A bracket at column 1 and elements behind it, at columns 2, 4 and so on.
+pub(crate) fn set(alloc: Global, operands: &[Operand]) -> Result<Expression, AllocError> {
+    let mut elements = Vec::new(alloc);
+    let mut column = 2u32;
+    for operand in operands {
+        elements.push(Element::Single(simple(factor(alloc, *operand, column)?)))?;
+        column = column.saturating_add(2);
+    }
+    Ok(simple(Factor::Set {
+        position: at(1),
+        elements,
+    }))
+}
+
+/// A bracket at column 1 and all from one element to another behind it.
+pub(crate) fn span(alloc: Global, low: Operand, high: Operand) -> Result<Expression, AllocError> {
+    let low = simple(factor(alloc, low, 2)?);
+    let high = simple(factor(alloc, high, 4)?);
+    let mut elements = Vec::new(alloc);
+    elements.push(Element::Range(low, high))?;
+    Ok(simple(Factor::Set {
+        position: at(1),
+        elements,
+    }))
 }

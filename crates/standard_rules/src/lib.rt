@@ -1,0 +1,10 @@
+//! The standard functions: what they ask of their arguments, and the nodes of their calls.
+#![tactic(auto)]
+
+mod calls;
+mod laws;
+mod signatures;
+
+pub use calls::{accepts_one, fits, handed, is_for_text, is_special, standard};
+pub use laws::standard_laws;
+pub use signatures::{Outcome, Shape, Signature, Want, signature_of};

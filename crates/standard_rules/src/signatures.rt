@@ -1,0 +1,95 @@
+//! The table of the standard functions.
+
+ghost use Rattle.std.specs.Prelude.{◌≡◌};
+ghost use Rattle.standard_rules.specs.Signatures.{signature_in, signature_of};
+
+use scopes::{BOOLEAN, BYTE, CHAR, INTEGER, STRING};
+use type_layout::TypeId;
+
+/// What is asked of an argument. `Short` is an integer that Integer or Word holds, and a Char is a text too.
+#[derive(Clone, Copy, Debug, PartialEq, Eq)]
+pub enum Want {
+    Integer,
+    Short,
+    Ordinal,
+    Char,
+    Text,
+}
+
+/// How many arguments there are, and what is asked of each. `Texts` are one or more.
+#[derive(Clone, Copy, Debug, PartialEq, Eq)]
+pub enum Shape {
+    Nothing,
+    One(Want),
+    Pair(Want, Want),
+    Triple(Want, Want, Want),
+    Texts,
+}
+
+/// The type of a result: the first of Integer, Word and LongInt that holds the argument, the predefined type that stores it, or
+/// always the same.
+#[derive(Clone, Copy, Debug, PartialEq, Eq)]
+pub enum Outcome {
+    Held,
+    Stored,
+    Is(TypeId),
+}
+
+/// What a standard function asks for and gives.
+#[derive(Clone, Copy, Debug, PartialEq, Eq)]
+pub struct Signature {
+    pub shape: Shape,
+    pub outcome: Outcome,
+}
+
+// The functions by the numbers of the predeclared names; SizeOf and New are not built yet.
+const SIGNATURES: [(u32, Shape, Outcome); 17] = [
+    (0, Shape::One(Want::Integer), Outcome::Held),
+    (1, Shape::One(Want::Integer), Outcome::Held),
+    (2, Shape::One(Want::Integer), Outcome::Is(BOOLEAN)),
+    (3, Shape::One(Want::Ordinal), Outcome::Held),
+    (4, Shape::One(Want::Integer), Outcome::Is(CHAR)),
+    (5, Shape::One(Want::Ordinal), Outcome::Stored),
+    (6, Shape::One(Want::Ordinal), Outcome::Stored),
+    (9, Shape::One(Want::Integer), Outcome::Is(BYTE)),
+    (10, Shape::One(Want::Integer), Outcome::Is(BYTE)),
+    (11, Shape::One(Want::Short), Outcome::Held),
+    (13, Shape::One(Want::Char), Outcome::Is(CHAR)),
+    (14, Shape::One(Want::Text), Outcome::Is(INTEGER)),
+    (
+        15,
+        Shape::Triple(Want::Text, Want::Integer, Want::Integer),
+        Outcome::Is(STRING),
+    ),
+    (18, Shape::Texts, Outcome::Is(STRING)),
+    (19, Shape::Pair(Want::Text, Want::Text), Outcome::Is(BYTE)),
+    (26, Shape::Nothing, Outcome::Is(BOOLEAN)),
+    (27, Shape::Nothing, Outcome::Is(BOOLEAN)),
+];
+
+// What stands in the first row with a number.
+fn signature_in(rows: &[(u32, Shape, Outcome)], number: u32) -> Option<Signature>
+    ensures { result ≡ signature_in rows.now number }
+{
+    match rows {
+        [] => None,
+        [row, rest @ ..] => {
+            if row.0 == number {
+                Some(Signature {
+                    shape: row.1,
+                    outcome: row.2,
+                })
+            } else {
+                signature_in(rest, number)
+            }
+        }
+    }
+}
+
+/// What the standard routine with a number asks for and gives, if it is a function.
+#[tactic(auto, unfolding(crate::specs::Signatures::signatures))]
+pub fn signature_of(number: u32) -> Option<Signature>
+    ensures { result ≡ signature_of number }
+{
+    signature_in(&SIGNATURES, number)
+}
