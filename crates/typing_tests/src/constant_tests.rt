@@ -21,7 +21,7 @@ enum Told {
     Other,
 }
 
-fn value(constant: &Constant) -> Told {
+fn shown(constant: &Constant) -> Told {
     match &constant.value {
         ConstantValue::Number(number) => Told::Value(constant.ty.0, *number),
         ConstantValue::Chars(bytes) => Told::Length(constant.ty.0, bytes.len()),
@@ -31,7 +31,7 @@ fn value(constant: &Constant) -> Told {
 
 fn outcome(answer: &Result<Constant, CheckError>) -> Told {
     match answer {
-        Ok(constant) => value(constant),
+        Ok(constant) => shown(constant),
         Err(CheckError::BadConstant { place, rule })
         | Err(CheckError::UnknownName { place, rule })
         | Err(CheckError::TypeMismatch { place, rule })
@@ -55,7 +55,7 @@ fn whole(alloc: Global, tree: Expression) -> Result<SimpleExpression, AllocError
     }
 }
 
-fn told(alloc: Global, source: Source) -> Result<Told, AllocError> {
+fn checked(alloc: Global, source: Source) -> Result<Told, AllocError> {
     let scope = scope(alloc)?;
     let tree = whole(alloc, tree(alloc, source)?)?;
     Ok(outcome(&check_constant(alloc, &tree, &scope)))
@@ -64,7 +64,7 @@ fn told(alloc: Global, source: Source) -> Result<Told, AllocError> {
 // The first row whose expression gives something else than stands there.
 fn first_wrong(alloc: Global, rows: &[(Source, Told)]) -> Result<Option<usize>, AllocError> {
     for (number, row) in rows.iter().enumerate() {
-        if told(alloc, row.0)? != row.1 {
+        if checked(alloc, row.0)? != row.1 {
             return Ok(Some(number));
         }
     }

@@ -87,7 +87,7 @@ fn outcome(answer: &Result<Expr, CheckError>) -> Told {
     }
 }
 
-fn told(alloc: Global, source: Source) -> Result<Told, AllocError> {
+fn checked(alloc: Global, source: Source) -> Result<Told, AllocError> {
     let tree = tree(alloc, source)?;
     let mut scope = scope(alloc)?;
     Ok(outcome(&check_expr(alloc, &tree, &mut scope)))
@@ -99,7 +99,7 @@ pub(crate) fn first_wrong(
     rows: &[(Source, Told)],
 ) -> Result<Option<usize>, AllocError> {
     for (number, row) in rows.iter().enumerate() {
-        if told(alloc, row.0)? != row.1 {
+        if checked(alloc, row.0)? != row.1 {
             return Ok(Some(number));
         }
     }
