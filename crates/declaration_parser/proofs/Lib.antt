@@ -1,0 +1,4 @@
+pub mod Items
+pub mod Shapes
+pub mod Sound
+pub mod Stepping

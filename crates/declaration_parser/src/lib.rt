@@ -1,0 +1,14 @@
+//! Declarations of Turbo Pascal, read from lexemes.
+#![tactic(auto)]
+
+mod front;
+mod item;
+mod list;
+mod node;
+mod part;
+mod read;
+mod routine;
+
+pub use front::{DeclarationStart, PartStart, begins_declaration, declaration_start};
+pub use part::read_part;
+pub use read::{read_block, read_declarations};
