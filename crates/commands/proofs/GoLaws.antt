@@ -262,7 +262,6 @@ ran_causes end result words old mid new r = record {
       let P : List ℕ → Type 0 = λ n. Says old.folder (file_of n Source) r.statements in
       absurd (says_none old.folder (file_of name Source) text r.statements (subst P (go_once words r.name name r.named named) r.says) held none);
   absent = λ name options asked lacks. absurd (not_both words r.name name options r.named asked);
-  unopened = λ name options error asked has why. absurd (not_both words r.name name options r.named asked);
 }
 
 pub causes : (result : Outcome) (words : List (List ℕ)) (old mid : World) (errors : Option (List ℕ)) (faults : ℕ) → Goes result words old mid → Refuses words old (told mid errors faults) result
@@ -272,8 +271,8 @@ causes (outcome.Stopped cs ip why) words old mid errors faults did = ran_causes 
 causes outcome.InputFault words old mid errors faults did = ran_causes ends.InputFault outcome.InputFault words old mid (told mid errors faults) did
 causes outcome.OutputFault words old mid errors faults did = ran_causes ends.OutputFault outcome.OutputFault words old mid (told mid errors faults) did
 causes outcome.ErrorsFault words old mid errors faults did = ran_causes ends.ErrorsFault outcome.ErrorsFault words old mid (told mid errors faults) did
-causes outcome.FilesFault words old mid errors faults did = record { usage = λ none. inr did.0; missing = λ name named lacks. inr did.0; outside = λ name text named held none. inr did.0; absent = λ name options asked lacks. inr did.0; unopened = λ name options error asked has why. inr did.0 }
-causes outcome.NoMemory words old mid errors faults did = record { usage = λ none. inr tt; missing = λ name named lacks. inr tt; outside = λ name text named held none. inr tt; absent = λ name options asked lacks. inr tt; unopened = λ name options error asked has why. inr tt }
+causes outcome.FilesFault words old mid errors faults did = record { usage = λ none. inr did.0; missing = λ name named lacks. inr did.0; outside = λ name text named held none. inr did.0; absent = λ name options asked lacks. inr did.0 }
+causes outcome.NoMemory words old mid errors faults did = record { usage = λ none. inr tt; missing = λ name named lacks. inr tt; outside = λ name text named held none. inr tt; absent = λ name options asked lacks. inr tt }
 causes (outcome.Refused (refusal.MissingFile file)) words old mid errors faults did = record {
   usage = λ none. absurd (none.go did.name did.named);
   missing = λ name named lacks. inl (ap (λ f. outcome.Refused (refusal.MissingFile f)) (did.reason.0 ∙ ap (λ n. file_of n Source) (go_once words did.name name did.named named)));
@@ -281,7 +280,6 @@ causes (outcome.Refused (refusal.MissingFile file)) words old mid errors faults 
       let P : List ℕ → Type 0 = λ n. IfSome old.folder (λ folder. folder (file_of n Source) ≡ None) in
       absurd (missing_not old.folder (file_of name Source) text held (subst P (go_once words did.name name did.named named) did.reason.1));
   absent = λ name options asked lacks. absurd (not_both words did.name name options did.named asked);
-  unopened = λ name options error asked has why. absurd (not_both words did.name name options did.named asked);
 }
 causes (outcome.Refused (refusal.NotInProfile at feature.NotYet)) words old mid errors faults did = record {
   usage = λ none. absurd (none.go did.name did.named);
@@ -290,7 +288,6 @@ causes (outcome.Refused (refusal.NotInProfile at feature.NotYet)) words old mid 
       absurd (says_nothing_lacks old.folder (file_of name Source) (subst P (go_once words did.name name did.named named) did.reason.1) lacks);
   outside = λ name text named held none. inl (ap (λ a. outcome.Refused (refusal.NotInProfile a feature.NotYet)) (did.reason.0 ∙ ap front_of (go_once words did.name name did.named named)));
   absent = λ name options asked lacks. absurd (not_both words did.name name options did.named asked);
-  unopened = λ name options error asked has why. absurd (not_both words did.name name options did.named asked);
 }
 causes (outcome.Refused other) words old mid errors faults did = absurd did.reason
 
@@ -302,4 +299,4 @@ still_rising old mid new counted (inr full) = inr (omega arith)
 pub line_failed : (words : List (List ℕ)) (old new : World) (mid : ℕ) → old.streams.errors_faults ≤ mid → HasRisen mid new.streams.errors_faults → Refuses words old new outcome.ErrorsFault
 line_failed words old new mid counted rose =
     let all = still_rising old.streams.errors_faults mid new.streams.errors_faults counted rose in
-    record { usage = λ none. inr all; missing = λ name named lacks. inr all; outside = λ name text named held none. inr all; absent = λ name options asked lacks. inr all; unopened = λ name options error asked has why. inr all }
+    record { usage = λ none. inr all; missing = λ name named lacks. inr all; outside = λ name text named held none. inr all; absent = λ name options asked lacks. inr all }

@@ -101,7 +101,6 @@ causes result words old mid errors faults (inl misused) = record {
   missing = λ name asked lacks. absurd (misused.none.go name asked);
   outside = λ name text asked held none. absurd (misused.none.go name asked);
   absent = λ name options asked lacks. absurd (misused.none.run name options asked);
-  unopened = λ name options error asked has why. absurd (misused.none.run name options asked);
 }
 causes result words old mid errors faults (inr (inl went)) = go.causes result words old mid errors faults went.goes
 causes result words old mid errors faults (inr (inr ran)) = run.causes result words old mid errors faults ran

@@ -51,18 +51,6 @@ pub record OpensNot (held : Folder) (r : Refusal) (name : List ℕ) (buffer : Op
   pub is : outcome.Refused r ≡ refused_as error
   pub cause : IsRefused bytes (file_of name Overlays) (held (file_of name Overlays)) buffer error
 
--- Want of memory and faults of the files have no reason in the files' bytes. Each other answer of opening a program has.
-abbrev pub HasReason : OpenError → Type 0
-HasReason errors.FilesFault = ⊥
-HasReason errors.NoMemory = ⊥
-HasReason error = Unit {0}
-
--- A folder is told, the program's executable is there, and it is not opened for this reason: the rules before it hold.
-abbrev pub IsUnopened : Option Folder → List ℕ → Option ℕ → OpenError → Type 0
-IsUnopened None name buffer error = ⊥
-IsUnopened (Some held) name buffer error =
-    (bytes : List ℕ) × (held (file_of name Executable) ≡ Some bytes) × IsRefused bytes (file_of name Overlays) (held (file_of name Overlays)) buffer error
-
 -- Why a program of this name did not begin, where the folder holds this. Faults and want of memory have no cause there.
 abbrev pub HasNoStart : Folder → Outcome → List ℕ → Option ℕ → Type 0
 HasNoStart held (outcome.Refused r) name buffer = LacksExecutable held r name ⊎ OpensNot held r name buffer

@@ -9,7 +9,6 @@ use Rattle.literal_form.specs.Statement.{Statement, mean}
 use Rattle.literal_code.specs.Agrees.{Agrees}
 use Rattle.dos_runner.specs.declared.runner.RunEnd.{RunEnd}
 use Rattle.dos_runner.specs.Outside.{Outside}
-use Rattle.opened_program.specs.declared.error.OpenError.{OpenError}
 use Rattle.commands.specs.declared.names.FileKind.TheVariants.{Source, Executable}
 use Rattle.commands.specs.declared.words.RunOptions.{RunOptions}
 use Rattle.commands.specs.declared.outcome.Feature.TheVariants.{NotYet}
@@ -23,7 +22,7 @@ use Rattle.commands.specs.Words.{IsGo, IsRun}
 use Rattle.commands.specs.World.{World, Holds, Lacks}
 use Rattle.commands.specs.Go.{Says}
 use Rattle.commands.specs.Performs.{NamesNone}
-use Rattle.commands.specs.Run.{refused_as, HasNoStart, HasReason, IsUnopened, RunsFrom}
+use Rattle.commands.specs.Run.{HasNoStart, RunsFrom}
 use Rattle.commands.specs.Ending.{outcome_of}
 
 -- The words are `go` and a program's name, the files tell what they hold, and the program's source says these
@@ -112,8 +111,6 @@ pub record Refuses (words : List (List ℕ)) (old new : World) (result : Outcome
       (result ≡ outcome.Refused (refusal.NotInProfile (record { file = file_of name Source; line = 1; column = 1 }) NotYet)) ⊎ IsFaultOrNoMemory result old new
   pub absent : (name : List ℕ) (options : RunOptions) → IsRun words name options → Lacks old.folder (file_of name Executable) →
       (result ≡ outcome.Refused (refusal.MissingFile (file_of name Executable))) ⊎ IsFaultOrNoMemory result old new
-  pub unopened : (name : List ℕ) (options : RunOptions) (error : OpenError) → IsRun words name options → HasReason error → IsUnopened old.folder name options.buffer error →
-      (result ≡ refused_as error) ⊎ IsFaultOrNoMemory result old new
 
 -- The last line was written, which an outcome is due, or the errors took a front of it and failed.
 abbrev pub AfterLine : Outcome → Outcome → Option (List ℕ) → Option (List ℕ) → Type 0
