@@ -1,0 +1,6 @@
+pub mod Faults
+pub mod Listing
+pub mod Shapes
+pub mod Sound
+pub mod Units
+pub mod Whole

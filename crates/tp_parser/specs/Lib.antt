@@ -1,0 +1,4 @@
+pub mod Starting
+pub mod Reading
+pub mod Whole
+pub mod Parsing
