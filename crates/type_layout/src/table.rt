@@ -1,13 +1,15 @@
 //! The table of types.
 
-ghost use Rattle.std.specs.Prelude.{All, IsTrue, ◌≡◌, ◌+◌, ◌-◌, ◌^◌, ◌<◌, ◌≤◌, ◌∷◌, [], ◌++◌, ◌↔◌, ℕ, min, Some, Err, IfOk, IfSome, OnOk, OnErr, IsOk, length, slice_get, position, vec_len, vec_capacity, IfErr};
+ghost use Rattle.std.specs.Prelude.{All, IsTrue, ◌≡◌, ◌+◌, ◌-◌, ◌^◌, ◌<◌, ◌≤◌, ◌∷◌, [], ◌++◌, ◌↔◌, ℕ, min, false, Some, Err, IfOk, IfSome, OnOk, OnErr, IsOk, length, slice_get, position, vec_len, vec_capacity, IfErr};
+ghost use Rattle.std.specs.List.{list_any};
 ghost use Rattle.type_layout.specs.Words.{same_bytes};
 ghost use Rattle.type_layout.specs.Layouts.{layouts_of, size_over, HasFieldsOf, IsMeasured};
 ghost use Rattle.type_layout.specs.Table.{IsWellFormed, IsAddable, place_of, with_unit, with_type};
 
 use crate::layout::{Layout, layout_over, size_over};
 use crate::wanted::{has_methods_of, is_defined_over};
-use crate::{Name, Names, Origin, TypeDef, TypeId};
+use crate::{Name, Origin, TypeDef, TypeId};
+use indexmap::IndexSet;
 use std::alloc::{AllocError, Global};
 use std::marker::Model;
 
@@ -43,7 +45,7 @@ pub struct Types {
     types: Vec<TypeDef>,
     origins: Vec<Origin>,
     layouts: Vec<Layout>,
-    units: Names,
+    units: IndexSet<Name>,
 }
 
 impl Model for Types {
@@ -51,9 +53,9 @@ impl Model for Types {
 
     ghost Value = { Table };
 
-    ghost view = { λ t. record { types = t.types.items; origins = t.origins.items; units = t.units } };
+    ghost view = { λ t. record { types = t.types.items; origins = t.origins.items; units = t.units.keys } };
 
-    ghost invariant = { λ t. IsKept (record { types = t.types.items; origins = t.origins.items; units = t.units }) t.layouts.items };
+    ghost invariant = { λ t. IsKept (record { types = t.types.items; origins = t.origins.items; units = t.units.keys }) t.layouts.items };
 }
 
 // Appends to a vector that has room.
@@ -66,30 +68,35 @@ fn push_within<T: Drop>(items: &mut Vec<T>, item: T)
     }
 }
 
-// The place of a unit among the units.
-fn place_of(units: &Names, unit: &Name) -> Option<usize>
-    ensures value { result ≡ position (same_bytes unit.now) units.now }
-    ensures within { IfSome result (λ place. place < length units.now) }
+// Puts a unit at the end of the units, which don't have it.
+fn add_new(units: &mut IndexSet<Name>, unit: Name) -> Result<(), TypeError>
+    requires { list_any (same_bytes unit) units.old.keys ≡ false }
+    ensures ok { OnOk result (units.new.keys ≡ units.old.keys ++ unit ∷ []) }
+    ensures err { OnErr result (units.new.keys ≡ units.old.keys) }
+    ensures cause { IfErr result (λ error. error ≡ TypeError.NoMemory) }
 {
-    units.as_slice().iter().position(|known| *unit == *known)
+    match units.insert(unit) {
+        Ok(_) => Ok(()),
+        Err(_) => Err(TypeError::NoMemory),
+    }
 }
 
 // The place of a unit among the units, to which it is added where it is new.
-fn find_or_add(units: &mut Names, unit: Name) -> Result<u32, TypeError>
-    requires { length units.old < 2 ^ 32 }
-    ensures ok { IfOk result (λ place. (place ≡ place_of units.old unit) × (units.new ≡ with_unit units.old unit)) }
-    ensures few { OnOk result (length units.new < 2 ^ 32) }
-    ensures err { OnErr result (units.new ≡ units.old) }
+fn find_or_add(units: &mut IndexSet<Name>, unit: Name) -> Result<u32, TypeError>
+    requires { length units.old.keys < 2 ^ 32 }
+    ensures ok { IfOk result (λ place. (place ≡ place_of units.old.keys unit) × (units.new.keys ≡ with_unit units.old.keys unit)) }
+    ensures few { OnOk result (length units.new.keys < 2 ^ 32) }
+    ensures err { OnErr result (units.new.keys ≡ units.old.keys) }
     ensures cause { IfErr result (λ error. error ≡ TypeError.NoMemory) }
 {
-    match place_of(units, &unit) {
+    match units.get_index_of(&unit) {
         Some(place) => Ok(place as u32),
         None => {
             let place = units.len();
             if place >= MOST {
                 return Err(TypeError::NoMemory);
             }
-            units.push(unit)?;
+            add_new(units, unit)?;
             Ok(place as u32)
         }
     }
@@ -104,7 +111,7 @@ impl Types {
             types: Vec::new(alloc),
             origins: Vec::new(alloc),
             layouts: Vec::new(alloc),
-            units: Names::new(alloc),
+            units: IndexSet::new(alloc),
         }
     }
 
@@ -113,7 +120,7 @@ impl Types {
     pub fn takes(&self, origin: &Name, one: &TypeDef) -> bool
         ensures { IsTrue result ↔ IsAddable self.now origin.now one.now }
     {
-        let unit = place_of(&self.units, origin).unwrap_or(self.units.len());
+        let unit = self.unit_place(origin).unwrap_or(self.units.len());
         is_defined_over(self.types.as_slice(), one) && has_methods_of(unit, one)
     }
 
@@ -190,6 +197,13 @@ impl Types {
         ensures { result.now ≡ self.now.units }
     {
         self.units.as_slice()
+    }
+
+    /// The place of a unit among the units of the origins, in constant time.
+    pub fn unit_place(&self, unit: &Name) -> Option<usize>
+        ensures { result ≡ position (same_bytes unit.now) self.now.units }
+    {
+        self.units.get_index_of(unit)
     }
 
     /// The sizes and class fields of the types.

@@ -122,6 +122,21 @@ fn sets_take_the_bytes_from_the_least_to_the_greatest(rt: HostRuntime) {
     assert!(rt; id.is_err());
 }
 
+// A unit's place, where it is one of the units of the origins.
+fn unit_place(types: &Types, unit: &[u8]) -> Option<usize> {
+    types.unit_place(&Name::new(unit)?)
+}
+
+#[test]
+fn a_unit_of_an_origin_has_a_place(rt: HostRuntime) {
+    let mut types = Types::new(rt.alloc());
+    assert_eq!(rt; unit_place(&types, b"SAMPLE"), None);
+    let id = added(&mut types, TypeDef::Str { max: 8 });
+    assert!(rt; id.is_ok());
+    assert_eq!(rt; unit_place(&types, b"SAMPLE"), Some(0));
+    assert_eq!(rt; unit_place(&types, b"OTHER"), None);
+}
+
 #[test]
 fn strings_have_a_length_byte(rt: HostRuntime) {
     let mut types = Types::new(rt.alloc());
