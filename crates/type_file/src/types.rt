@@ -1,8 +1,7 @@
 //! Reading the types of an interface.
 
-ghost use Rattle.std.specs.Prelude.{◌≡◌, ◌<◌, ◌++◌, nat_lt, if◌then◌else◌, position, slice_get, option_map, Ok, Err, ℕ, List, [], IfOk};
+ghost use Rattle.std.specs.Prelude.{◌≡◌, ◌<◌, ◌++◌, nat_lt, if◌then◌else◌, slice_get, option_map, Ok, Err, ℕ, List, [], IfOk};
 ghost use Rattle.type_layout.specs.declared.definitions.TypeDef.{TypeDef};
-ghost use Rattle.type_layout.specs.Words.{same_bytes};
 ghost use Rattle.type_layout.specs.Table.{Table, place_of, IsAddable};
 ghost use Rattle.type_layout.specs.Layouts.{size_over};
 ghost use Rattle.file_parts.specs.Parts.{Gives, ruled, followed, ◌▷◌, byte_at, long_at, signed_at, option_at, name_at, made};
@@ -290,18 +289,11 @@ fn type_of<'a>(
     parts_of(alloc, count, types, place, tag, rest)
 }
 
-/// The place of a unit among others, where it is one of them.
-fn found(units: &[Name], unit: &Name) -> Option<usize>
-    ensures { result ≡ position (same_bytes unit.now) units.now }
-{
-    units.iter().position(|known| *unit == *known)
-}
-
 /// The place of a unit among the units of a table, the next one where it is new.
 fn place_of(types: &Types, unit: &Name) -> usize
     ensures { result ≡ place_of types.now.units unit.now }
 {
-    found(types.units(), unit).unwrap_or(types.units().len())
+    types.unit_place(unit).unwrap_or(types.units().len())
 }
 
 /// A type with its origin, over the types of a table, and the bytes behind it.

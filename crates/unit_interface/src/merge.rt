@@ -1,8 +1,7 @@
 //! The types and items of an interface, as they come into a scope.
 
-ghost use Rattle.std.specs.Prelude.{◌≡◌, ◌<◌, [], length, position, IfErr, IfOk, OnOk};
+ghost use Rattle.std.specs.Prelude.{◌≡◌, ◌<◌, [], length, IfErr, IfOk, OnOk};
 ghost use Rattle.type_layout.specs.Table.{IsWellFormed, place_of, with_type};
-ghost use Rattle.type_layout.specs.Words.{same_bytes};
 ghost use Rattle.unit_interface.specs.Merge.{renumbered, is_new, with_merged, merged, name_of, entry_of, with_items, with_interface};
 ghost use Rattle.unit_interface.specs.Misfits.{IsMisfitCause, IsMisfitAt, IsCause, IsMergeCause};
 
@@ -33,28 +32,18 @@ impl From<AllocError> for MergeError {
     }
 }
 
-// The place of a unit among units.
-fn find_unit(units: &[Name], unit: &Name) -> Option<usize>
-    ensures { result ≡ position (same_bytes unit.now) units.now }
-{
-    units.iter().position(|known| *unit == *known)
-}
-
-// The place of a unit among units, the next one where it is new.
-fn place_in(units: &[Name], unit: &Name) -> usize
-    ensures { result ≡ place_of units.now unit.now }
-{
-    match find_unit(units, unit) {
-        Some(place) => place,
-        None => units.len(),
-    }
-}
-
 // The place of a unit among the units of a table, the next one where it is new.
+fn place_in(types: &Types, unit: &Name) -> usize
+    ensures { result ≡ place_of types.now.units unit.now }
+{
+    types.unit_place(unit).unwrap_or(types.units().len())
+}
+
+// The same place in 32 bits.
 fn place_of(types: &Types, unit: &Name) -> Result<u32, AllocError>
     ensures { IfOk result (λ place. place ≡ place_of types.now.units unit.now) }
 {
-    match u32::try_from(place_in(types.units(), unit)) {
+    match u32::try_from(place_in(types, unit)) {
         Ok(place) => Ok(place),
         Err(_) => Err(AllocError),
     }
