@@ -1,0 +1,5 @@
+pub mod Spelled
+pub mod Digits
+pub mod Turns
+pub mod Texts
+pub mod Whole

@@ -1,0 +1,6 @@
+//! The routine to which runtime errors come: its code and what it does.
+#![tactic(auto)]
+
+mod laws;
+
+pub use laws::error_law;
