@@ -3,6 +3,7 @@
 
 mod arithmetic;
 mod compute;
+mod decoded;
 mod execute;
 mod laws;
 mod machine;

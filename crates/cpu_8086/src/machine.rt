@@ -3,6 +3,7 @@
 ghost use Rattle.std.specs.Prelude.{◌≡◌, ℕ, ◌<◌, IfOk, length, slice_index, slice_set};
 ghost use Rattle.cpu_8086.specs.Accessors.{reg, with_reg, flag, with_flag, zero_registers, IsZeroed};
 
+use crate::decoded::Decoded;
 use crate::registers::{Flag, Reg, Registers};
 use std::alloc::{AllocError, Global};
 use std::marker::Model;
@@ -26,6 +27,9 @@ pub struct Machine {
     pub(crate) registers: Registers,
     pub(crate) cs: u16,
     pub(crate) memory: Vec<u8>,
+    /// What was decoded last at the addresses with the same low bits. It says nothing of memory, so code may be
+    /// written over: whoever uses an entry compares its bytes.
+    pub(crate) decoded: Vec<Decoded>,
 }
 
 impl Model for Machine {
@@ -45,6 +49,14 @@ fn zeros(alloc: Global, count: usize) -> Result<Vec<u8>, AllocError>
     ensures zeros { IfOk result (λ v. (k : ℕ) → slice_index v.items k ≡ 0) }
 {
     vec![in alloc; 0; count]
+}
+
+/// How many decoded instructions are kept.
+pub(crate) const KEPT: usize = 4096;
+
+/// A table of decoded instructions.
+fn table(alloc: Global) -> Result<Vec<Decoded>, AllocError> {
+    vec![in alloc; Decoded::far_return(); KEPT]
 }
 
 impl Registers {
@@ -87,10 +99,12 @@ impl Machine {
         ensures { IfOk result IsZeroed }
     {
         let memory = zeros(alloc, 0x10_0000)?;
+        let decoded = table(alloc)?;
         Ok(Machine {
             registers: Registers::zeros(),
             cs: 0,
             memory,
+            decoded,
         })
     }
 
@@ -165,6 +179,13 @@ impl Machine {
             Flag::Overflow => self.registers.overflow = value,
             Flag::Direction => self.registers.direction = value,
         }
+    }
+
+    pub(crate) fn byte_at(&self, at: usize) -> u8
+        requires { at < 1048576 }
+        ensures { result ≡ slice_index self.now.memory at }
+    {
+        self.memory[at]
     }
 
     /// The byte at a linear address.

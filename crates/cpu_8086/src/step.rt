@@ -1,14 +1,23 @@
 //! One step.
 
 ghost use Rattle.std.specs.Prelude.{◌≡◌, ◌<◌, ◌+◌, length};
+ghost use Rattle.std.specs.Int.{w64, to_le_bytes};
 ghost use Rattle.x86_table.specs.Spelling.{spelling};
 ghost use Rattle.cpu_8086.specs.Direct.{direct, settled, with_registers};
 ghost use Rattle.cpu_8086.specs.Memory.{address};
 ghost use Rattle.cpu_8086.specs.Step.{code_byte, fetched, past, Steps};
 
-use crate::machine::{Event, Machine};
+use crate::decoded::Decoded;
+use crate::machine::{Event, KEPT, Machine};
 use crate::memory::address;
 use x86_table::{Instr, decode};
+
+/// Eight bytes as a number whose low byte is the first.
+fn number_of(bytes: [u8; 8]) -> u64
+    ensures { to_le_bytes w64 result ≡ bytes }
+{
+    u64::from_le_bytes(bytes)
+}
 
 impl Machine {
     /// The byte so far behind CS:IP.
@@ -19,6 +28,8 @@ impl Machine {
     }
 
     /// The eight bytes from CS:IP on, where an offset or an address may wrap among them.
+    #[cold]
+    #[inline(never)]
     #[tactic(auto, unfolding(crate::specs::Step::fetched))]
     fn fetch_wrapping(&self) -> [u8; 8]
         ensures { result ≡ fetched self.now }
@@ -37,17 +48,17 @@ impl Machine {
 
     /// The byte so far behind CS:IP, at the address that its distance from CS:IP says.
     #[tactic(auto, using(crate::proofs::FetchLaws::straight_code_byte))]
-    fn straight_byte(&self, distance: u32) -> u8
+    fn straight_byte(&self, distance: usize) -> u8
         requires offset { self.now.registers.ip + distance < 65536 }
         requires address { address self.now.cs self.now.registers.ip + distance < 1048576 }
         ensures { result ≡ code_byte self.now distance }
     {
-        self.byte(address(self.cs, self.registers.ip) + distance)
+        self.byte_at(address(self.cs, self.registers.ip) as usize + distance)
     }
 
     /// The eight bytes from CS:IP on. Mostly nothing wraps among them, and they are read as they lie.
     #[tactic(auto, unfolding(crate::specs::Step::fetched))]
-    fn fetch(&self) -> [u8; 8]
+    fn code_bytes(&self) -> [u8; 8]
         ensures { result ≡ fetched self.now }
     {
         let ip = self.registers.ip;
@@ -66,6 +77,13 @@ impl Machine {
         ]
     }
 
+    /// The eight bytes from CS:IP on, as a number whose low byte is the first.
+    fn fetch(&self) -> u64
+        ensures { to_le_bytes w64 result ≡ fetched self.now }
+    {
+        number_of(self.code_bytes())
+    }
+
     /// Executes an instruction of so many bytes; after a fault IP is as it was.
     fn perform(&mut self, instr: Instr, count: u16) -> Event
         requires { count ≡ length (spelling instr) }
@@ -81,17 +99,50 @@ impl Machine {
         event
     }
 
-    /// Executes the instruction at CS:IP.
-    pub fn step(&mut self) -> Event
+    /// Executes the instruction at CS:IP, which was decoded from the bytes that stand there.
+    fn perform_decoded(&mut self, decoded: Decoded) -> Event
+        requires { to_le_bytes w64 decoded.bytes ≡ fetched self.old }
         ensures { Steps self.old self.new result }
     {
-        let bytes = self.fetch();
-        match decode(&bytes) {
-            Some((instr, count)) => self.perform(instr, count as u16),
+        self.perform(decoded.instr, decoded.count)
+    }
+
+    /// Decodes the eight bytes that stand at CS:IP, keeps what they begin with, and executes it.
+    #[cold]
+    #[inline(never)]
+    fn step_anew(&mut self, place: usize, bytes: u64) -> Event
+        requires { to_le_bytes w64 bytes ≡ fetched self.old }
+        ensures { Steps self.old self.new result }
+    {
+        match decode(&bytes.to_le_bytes()) {
+            Some((instr, count)) => {
+                let decoded = Decoded {
+                    bytes,
+                    instr,
+                    count: count as u16,
+                };
+                if place < self.decoded.len() {
+                    self.decoded[place] = decoded;
+                }
+                self.perform_decoded(decoded)
+            }
             None => Event::Unknown {
                 cs: self.cs,
                 ip: self.registers.ip,
             },
         }
+    }
+
+    /// Executes the instruction at CS:IP.
+    pub fn step(&mut self) -> Event
+        ensures { Steps self.old self.new result }
+    {
+        let bytes = self.fetch();
+        let place = address(self.cs, self.registers.ip) as usize % KEPT;
+        if place < self.decoded.len() && self.decoded[place].bytes == bytes {
+            let decoded = self.decoded[place];
+            return self.perform_decoded(decoded);
+        }
+        self.step_anew(place, bytes)
     }
 }
