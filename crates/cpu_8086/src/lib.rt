@@ -5,6 +5,7 @@ mod arithmetic;
 mod compute;
 mod decoded;
 mod execute;
+mod hardware;
 mod laws;
 mod machine;
 mod memory;
