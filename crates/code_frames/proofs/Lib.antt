@@ -1,0 +1,9 @@
+pub mod Opened
+pub mod Fixed
+pub mod Prologue
+pub mod Entry
+pub mod Given
+pub mod Chains
+pub mod Leave
+pub mod Exit
+pub mod Deeper

@@ -1,0 +1,3 @@
+pub mod Callee
+pub mod Chain
+pub mod Moves
