@@ -1,7 +1,6 @@
 -- A routine is left: behind the call the machine stands for the caller again, with the result in registers.
-use Rattle.std.proofs.Common.{◌≡◌, ◌≢◌, ℕ, ◌+◌, ◌-◌, ◌*◌, ◌/◌, ◌%◌, ◌<◌, ◌≤◌, Bool, true, false, List, [], ◌∷◌, ◌++◌, length, Some, Ok, arith, refl, sym, ap, subst, ◌∙◌, ⊎_elim, length-append}
+use Rattle.std.proofs.Common.{◌≡◌, ◌≢◌, ℕ, ◌+◌, ◌-◌, ◌*◌, ◌/◌, ◌%◌, ◌<◌, ◌≤◌, Bool, true, false, List, [], ◌∷◌, ◌++◌, length, Some, Ok, arith, refl, sym, ap, subst, ◌∙◌, length-append}
 use Rattle.std.specs.Prelude.{drop, IsTrue}
-use Rattle.std.proofs.lemmas.Bool.{cases_lt}
 use Rattle.x86_table.specs.Standing.{IsSpelledAt, Stands}
 use Rattle.flat_code.specs.Legal.{HasResultSize}
 use Rattle.flat_code.specs.Program.{Name, Routine, UnitCode}
@@ -9,9 +8,8 @@ use Rattle.flat_code.specs.Values.{Frame}
 use Rattle.flat_code.specs.Calls.{State, with_cells, activation_bytes, link_bytes, result_bytes, closed}
 use Rattle.cpu_8086.specs.declared.registers.Registers.{Registers}
 use Rattle.cpu_8086.specs.Access.{at_offset}
-use Rattle.cpu_8086.specs.Memory.{address, next_offset}
-use Rattle.resident_machine.specs.Cells.{Known, Unknown, Cells, is_free, with_cell, below}
-use Rattle.resident_machine.specs.Effect.{with_memory, taken_pair, returned}
+use Rattle.resident_machine.specs.Cells.{Known, Cells, is_free, below}
+use Rattle.resident_machine.specs.Effect.{with_memory, returned}
 use Rattle.resident_machine.specs.Framed.{places_of, IsFramed, FramedAfter}
 use Rattle.resident_machine.specs.Program.{Segment, Image, Overlay}
 use Rattle.resident_machine.specs.State.{Record, ResidentState}
@@ -32,7 +30,7 @@ use Rattle.code_frames.proofs.Chains.{framed_there}
 use Rattle.code_frames.proofs.Entry.{four_links}
 use Rattle.code_frames.proofs.Fixed.{with_fixed_other, with_fixed_low, with_fixed_high, holds_there}
 use Rattle.code_frames.proofs.Given.{given_run}
-use Rattle.code_frames.proofs.Leave.{back_in, service_in, with_cell_free, with_cell_other, back_free, back_other, back_beside, near_back, far_back, frame_left, near_returns, far_returns}
+use Rattle.code_frames.proofs.Leave.{back_in, service_in, back_free, back_other, back_beside, near_back, far_back, pair_free, pair_other, frame_left, near_returns, far_returns}
 use Rattle.code_frames.proofs.Opened.{active_closed, closed_outer}
 
 holds_same : (bytes : List ℕ) (g h : Registers) → h.ax ≡ g.ax → h.dx ≡ g.dx → HoldsResult bytes g → HoldsResult bytes h
@@ -42,37 +40,6 @@ holds_same (a ∷ b ∷ []) g h ax dx z = (ax ∙ z.0, z.1, z.2)
 holds_same (a ∷ b ∷ c ∷ []) g h ax dx z = absurd z
 holds_same (a ∷ b ∷ c ∷ d ∷ []) g h ax dx z = (ax ∙ z.0, dx ∙ z.1, z.2, z.3, z.4, z.5)
 holds_same (a ∷ b ∷ c ∷ d ∷ e ∷ bytes) g h ax dx z = absurd z
-
-four_apart : (a place : ℕ) → (place ≡ a → ⊥) → (place ≡ a + 1 → ⊥) → (place ≡ a + 2 → ⊥) → (place ≡ a + 3 → ⊥) → IsPairedAt true a place → ⊥
-four_apart a place n0 n1 n2 n3 q =
-    let low = q.0 in
-    let high = q.1 in
-    ⊎_elim (λ lt. n0 (omega (arith, lt, low))) (λ m1. ⊎_elim (λ lt. n1 (omega (arith, lt, m1))) (λ m2. ⊎_elim (λ lt. n2 (omega (arith, lt, m2))) (λ m3. n3 (omega (arith, m3, high))) (cases_lt place (a + 3))) (cases_lt place (a + 2))) (cases_lt place (a + 1))
-
--- the bytes of a pair that was taken are free, and the others as they were
-pair_free : (g : Registers) (c : Cells) (a place : ℕ) → g.sp + 4 ≤ 65536 → 16 * g.ss + g.sp + 4 ≤ 1048576 → 16 * g.ss + g.sp ≡ a → ((IsPairedAt true a place → ⊥) → IsTrue (is_free (c place))) → IsTrue (is_free (taken_pair g c place))
-pair_free g c a place top inside there free =
-    let a0 = address g.ss g.sp in
-    let a1 = address g.ss (next_offset g.sp) in
-    let a2 = address g.ss ((g.sp + 2) % 65536) in
-    let a3 = address g.ss (next_offset ((g.sp + 2) % 65536)) in
-    let c1 = with_cell c a0 Unknown in
-    let c2 = with_cell c1 a1 Unknown in
-    let c3 = with_cell c2 a2 Unknown in
-    with_cell_free c3 a3 Unknown place refl (λ n3. with_cell_free c2 a2 Unknown place refl (λ n2. with_cell_free c1 a1 Unknown place refl (λ n1. with_cell_free c a0 Unknown place refl
-    (λ n0. free (λ q. four_apart a place (λ e. n0 (omega arith)) (λ e. n1 (omega arith)) (λ e. n2 (omega arith)) (λ e. n3 (omega arith)) q)))))
-
-pair_other : (g : Registers) (c : Cells) (a place : ℕ) → g.sp + 4 ≤ 65536 → 16 * g.ss + g.sp + 4 ≤ 1048576 → 16 * g.ss + g.sp ≡ a → (IsPairedAt true a place → ⊥) → taken_pair g c place ≡ c place
-pair_other g c a place top inside there apart =
-    let a0 = address g.ss g.sp in
-    let a1 = address g.ss (next_offset g.sp) in
-    let a2 = address g.ss ((g.sp + 2) % 65536) in
-    let a3 = address g.ss (next_offset ((g.sp + 2) % 65536)) in
-    let c1 = with_cell c a0 Unknown in
-    let c2 = with_cell c1 a1 Unknown in
-    let c3 = with_cell c2 a2 Unknown in
-    with_cell_other c3 a3 Unknown place (λ e. apart (omega arith, omega arith)) ∙ with_cell_other c2 a2 Unknown place (λ e. apart (omega arith, omega arith))
-    ∙ with_cell_other c1 a1 Unknown place (λ e. apart (omega arith, omega arith)) ∙ with_cell_other c a0 Unknown place (λ e. apart (omega arith, omega arith))
 
 module _ (w : World) (caller : Site) (site : Site) (live : Live) (fits : Fits w caller live) (name : Name) (unit : UnitCode) (r : Routine) (back : Back) (s : State) (r0 : ResidentState) (a : Represents w live s r0) (room : activation_bytes r ≤ live.frame.sp) (deep : 64 + activation_bytes r ≤ live.frame.sp) (fits_inner : Fits w site (callee w name unit r live back)) (chained : IsTrue w.framed → IsChained w live) where
   abbrev f : Frame

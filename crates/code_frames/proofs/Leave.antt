@@ -1,7 +1,7 @@
 -- A routine is left: its frame is taken away, and it returns, near or far.
-use Rattle.std.proofs.Common.{◌≡◌, ◌≢◌, ℕ, zero, suc, ◌+◌, ◌/◌, ◌%◌, ◌<◌, ◌≤◌, ◌==◌, Bool, true, false, List, [], ◌∷◌, Ok, Err, arith, refl, sym, ap, subst, ◌∙◌}
+use Rattle.std.proofs.Common.{◌≡◌, ◌≢◌, ℕ, zero, suc, ◌+◌, ◌*◌, ◌/◌, ◌%◌, ◌<◌, ◌≤◌, ◌==◌, Bool, true, false, List, [], ◌∷◌, Ok, Err, arith, refl, sym, ap, subst, ◌∙◌, ⊎_elim}
 use Rattle.std.specs.Prelude.{IsTrue, ◌||◌, if◌then◌else◌}
-use Rattle.std.proofs.lemmas.Bool.{eq-eqb, ne_eqb}
+use Rattle.std.proofs.lemmas.Bool.{cases_lt, eq-eqb, ne_eqb}
 use Rattle.x86_table.specs.Standing.{IsSpelledAt, Stands}
 use Rattle.cpu_8086.specs.declared.registers.Registers.{Registers}
 use Rattle.cpu_8086.specs.Access.{Done, FarReturn, raised, read_word, at_offset, word_then}
@@ -10,7 +10,7 @@ use Rattle.cpu_8086.specs.Memory.{address, next_offset, word_of}
 use Rattle.resident_machine.specs.Astray.{ReturnsElsewhere}
 use Rattle.resident_machine.specs.Cells.{Cell, Known, Unknown, Kept, Paired, Cells, with_cell, is_free, known_then, below, is_below, lost_if, with_lost}
 use Rattle.resident_machine.specs.Dos.{plainly}
-use Rattle.resident_machine.specs.Effect.{Outcome, with_memory, blurred, returned, returned_into, far_return, on_cells, plain_effect}
+use Rattle.resident_machine.specs.Effect.{Outcome, with_memory, blurred, taken_pair, returned, returned_into, far_return, on_cells, plain_effect}
 use Rattle.resident_machine.specs.Program.{Segment, Image, Overlay, Program}
 use Rattle.resident_machine.specs.State.{Record, ResidentState, Service, NoService, AtReturn}
 use Rattle.machine_lines.specs.Steps.{ReadsAbove, Owed, Moves, Leads}
@@ -21,6 +21,7 @@ use Rattle.machine_lines.proofs.Straight.{line, plain_goes, standing, past_line,
 use Rattle.machine_lines.proofs.Words.{word_read, low_known, high_known, offset_above}
 use Rattle.code_lines.specs.Addresses.{Plain}
 use Rattle.code_lines.specs.Lines.{leave_frame, return_code}
+use Rattle.code_frames.specs.Callee.{IsPairedAt}
 
 -- ## Bytes that a far return leaves
 
@@ -91,6 +92,37 @@ pub record IsBeside (t u : ResidentState) : Type 0 where
 pub back_beside : (to : Segment) (t : ResidentState) → IsBeside t (back_in to t)
 back_beside (Image number) t = record { registers = refl; cs = refl; records = refl; half = refl; status = refl; input = refl; taken = refl; out = refl; err = refl }
 back_beside (Overlay number) t = record { registers = refl; cs = refl; records = refl; half = refl; status = refl; input = refl; taken = refl; out = refl; err = refl }
+
+four_apart : (a place : ℕ) → (place ≡ a → ⊥) → (place ≡ a + 1 → ⊥) → (place ≡ a + 2 → ⊥) → (place ≡ a + 3 → ⊥) → IsPairedAt true a place → ⊥
+four_apart a place n0 n1 n2 n3 q =
+    let low = q.0 in
+    let high = q.1 in
+    ⊎_elim (λ lt. n0 (omega (arith, lt, low))) (λ m1. ⊎_elim (λ lt. n1 (omega (arith, lt, m1))) (λ m2. ⊎_elim (λ lt. n2 (omega (arith, lt, m2))) (λ m3. n3 (omega (arith, m3, high))) (cases_lt place (a + 3))) (cases_lt place (a + 2))) (cases_lt place (a + 1))
+
+-- the bytes of a pair that was taken are free, and the others as they were
+pub pair_free : (g : Registers) (c : Cells) (a place : ℕ) → g.sp + 4 ≤ 65536 → 16 * g.ss + g.sp + 4 ≤ 1048576 → 16 * g.ss + g.sp ≡ a → ((IsPairedAt true a place → ⊥) → IsTrue (is_free (c place))) → IsTrue (is_free (taken_pair g c place))
+pair_free g c a place top inside there free =
+    let a0 = address g.ss g.sp in
+    let a1 = address g.ss (next_offset g.sp) in
+    let a2 = address g.ss ((g.sp + 2) % 65536) in
+    let a3 = address g.ss (next_offset ((g.sp + 2) % 65536)) in
+    let c1 = with_cell c a0 Unknown in
+    let c2 = with_cell c1 a1 Unknown in
+    let c3 = with_cell c2 a2 Unknown in
+    with_cell_free c3 a3 Unknown place refl (λ n3. with_cell_free c2 a2 Unknown place refl (λ n2. with_cell_free c1 a1 Unknown place refl (λ n1. with_cell_free c a0 Unknown place refl
+    (λ n0. free (λ q. four_apart a place (λ e. n0 (omega arith)) (λ e. n1 (omega arith)) (λ e. n2 (omega arith)) (λ e. n3 (omega arith)) q)))))
+
+pub pair_other : (g : Registers) (c : Cells) (a place : ℕ) → g.sp + 4 ≤ 65536 → 16 * g.ss + g.sp + 4 ≤ 1048576 → 16 * g.ss + g.sp ≡ a → (IsPairedAt true a place → ⊥) → taken_pair g c place ≡ c place
+pair_other g c a place top inside there apart =
+    let a0 = address g.ss g.sp in
+    let a1 = address g.ss (next_offset g.sp) in
+    let a2 = address g.ss ((g.sp + 2) % 65536) in
+    let a3 = address g.ss (next_offset ((g.sp + 2) % 65536)) in
+    let c1 = with_cell c a0 Unknown in
+    let c2 = with_cell c1 a1 Unknown in
+    let c3 = with_cell c2 a2 Unknown in
+    with_cell_other c3 a3 Unknown place (λ e. apart (omega arith, omega arith)) ∙ with_cell_other c2 a2 Unknown place (λ e. apart (omega arith, omega arith))
+    ∙ with_cell_other c1 a1 Unknown place (λ e. apart (omega arith, omega arith)) ∙ with_cell_other c a0 Unknown place (λ e. apart (omega arith, omega arith))
 
 -- ## The instructions
 
