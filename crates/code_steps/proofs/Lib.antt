@@ -1,0 +1,4 @@
+pub mod Gives
+pub mod Divisions
+pub mod Called
+pub mod Entering
