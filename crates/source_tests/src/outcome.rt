@@ -2,7 +2,7 @@
 
 use source_tree::Tree;
 use std::alloc::{AllocError, Global};
-use tp_lexer::{LexError, Text, TokenList, tokens};
+use tp_lexer::{Text, TokenList, tokens};
 use tp_parser::{ParseError, parse};
 use type_layout::{Bytes, FileName, Place};
 
@@ -21,8 +21,7 @@ pub fn tokens_of(alloc: Global, source: &str) -> Result<TokenList, AllocError> {
     }
     match tokens(alloc, texts.as_slice(), 0, &[]) {
         Ok(list) => Ok(list),
-        Err(LexError::NoMemory) => Err(AllocError),
-        Err(_) => Ok(TokenList::new(alloc)),
+        Err(_) => Err(AllocError),
     }
 }
 
