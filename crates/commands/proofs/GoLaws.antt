@@ -24,8 +24,8 @@ use Rattle.commands.specs.Line.{line_of}
 use Rattle.commands.specs.World.{World, Holds, Lacks, IsUntouched}
 use Rattle.commands.specs.Go.{Goes, Says, Ran, SaysNothing}
 use Rattle.commands.specs.Turbo.{IsAsked, Headline, IsWritten, Written, Complete, Faults, GoRefused, Refuses, Fronts, FilesAfter, TookErrors, EndsWithLine, WroteItsLine, Unchanged}
-use Rattle.commands.proofs.RanLaws.{go_once, statements_same, stands_there, concluded, no_limit}
-use Rattle.commands.proofs.WordLaws.{not_both}
+use Rattle.commands.proofs.RanLaws.{statements_same, stands_there, concluded, no_limit}
+use Rattle.commands.proofs.WordLaws.{go_once, not_both}
 
 -- The world after more was written to the errors.
 abbrev pub told : World → Option (List ℕ) → ℕ → World
@@ -71,6 +71,7 @@ headline outcome.InputFault words old mid errors faults did = λ name statements
 headline outcome.OutputFault words old mid errors faults did = λ name statements asked run. stands_there ends.OutputFault words old mid name statements did asked
 headline outcome.ErrorsFault words old mid errors faults did = λ name statements asked run. absurd run
 headline outcome.FilesFault words old mid errors faults did = λ name statements asked run. absurd run
+headline outcome.Done words old mid errors faults did = absurd did
 headline outcome.NoMemory words old mid errors faults did = λ name statements asked run. absurd run
 
 ended : (code : ℕ) (words : List (List ℕ)) (old mid : World) (name : List ℕ) (statements : List Statement) → Ran (ends.Ended code) words old mid → IsAsked words old name statements → IsWritten statements code old mid
@@ -95,6 +96,7 @@ written outcome.InputFault words old mid errors faults did line = λ name statem
 written outcome.OutputFault words old mid errors faults did line = λ name statements code asked is. absurd (subst IsProgram (sym is) tt)
 written outcome.ErrorsFault words old mid errors faults did line = λ name statements code asked is. absurd (subst IsProgram (sym is) tt)
 written outcome.FilesFault words old mid errors faults did line = λ name statements code asked is. absurd (subst IsProgram (sym is) tt)
+written outcome.Done words old mid errors faults did line = absurd did
 written outcome.NoMemory words old mid errors faults did line = λ name statements code asked is. absurd (subst IsProgram (sym is) tt)
 
 -- a source that is asked for gives a program
@@ -119,6 +121,7 @@ complete outcome.InputFault words old mid errors faults did rise rises = λ name
 complete outcome.OutputFault words old mid errors faults did rise rises = λ name statements asked. inr did.run.run.rose
 complete outcome.ErrorsFault words old mid errors faults did rise rises = λ name statements asked. inr (still_risen old.streams.errors_faults mid.streams.errors_faults faults did.run.run.rose rises)
 complete outcome.FilesFault words old mid errors faults did rise rises = λ name statements asked. inr did.0
+complete outcome.Done words old mid errors faults did rise rises = absurd did
 complete outcome.NoMemory words old mid errors faults did rise rises = λ name statements asked. inr tt
 
 pub fault : (result : Outcome) (words : List (List ℕ)) (old mid : World) (errors : Option (List ℕ)) (faults : ℕ) → Goes result words old mid → mid.streams.errors_faults ≤ faults → Faults old (told mid errors faults) result
@@ -126,6 +129,7 @@ fault outcome.InputFault words old mid errors faults did rises = did.run.run.ros
 fault outcome.OutputFault words old mid errors faults did rises = did.run.run.rose
 fault outcome.ErrorsFault words old mid errors faults did rises = still_risen old.streams.errors_faults mid.streams.errors_faults faults did.run.run.rose rises
 fault outcome.FilesFault words old mid errors faults did rises = did.0
+fault outcome.Done words old mid errors faults did rises = absurd did
 fault outcome.NoMemory words old mid errors faults did rises = tt
 fault (outcome.Program exit) words old mid errors faults did rises = tt
 fault (outcome.InstructionLimit taken) words old mid errors faults did rises = tt
@@ -181,6 +185,7 @@ took outcome.InputFault words old mid did name statements asked = let f = conclu
 took outcome.OutputFault words old mid did name statements asked = let f = concluded ends.OutputFault words old mid did in asked_fronts ends.OutputFault words old mid name statements did asked (record { output = f.output; errors = f.errors })
 took outcome.ErrorsFault words old mid did name statements asked = let f = concluded ends.ErrorsFault words old mid did in asked_fronts ends.ErrorsFault words old mid name statements did asked (record { output = f.output; errors = f.errors })
 took outcome.FilesFault words old mid did name statements asked = untouched_fronts statements old mid did.1
+took outcome.Done words old mid did name statements asked = absurd did
 took outcome.NoMemory words old mid did name statements asked = untouched_fronts statements old mid did
 
 pub fronts : (result : Outcome) (words : List (List ℕ)) (old mid : World) (errors : Option (List ℕ)) (faults : ℕ) → Goes result words old mid → Fronts words old (told mid errors faults)
@@ -198,6 +203,7 @@ ends_with_line outcome.InputFault words old mid errors faults did line = (mid.st
 ends_with_line outcome.OutputFault words old mid errors faults did line = (mid.streams.errors, line, took_errors outcome.OutputFault words old mid did)
 ends_with_line outcome.ErrorsFault words old mid errors faults did line = tt
 ends_with_line outcome.FilesFault words old mid errors faults did line = (mid.streams.errors, line, took_errors outcome.FilesFault words old mid did)
+ends_with_line outcome.Done words old mid errors faults did line = absurd did
 ends_with_line outcome.NoMemory words old mid errors faults did line = (mid.streams.errors, line, took_errors outcome.NoMemory words old mid did)
 
 pub wrote_its_line : (result : Outcome) (old mid : World) (errors : Option (List ℕ)) (faults : ℕ) → IsUntouched old mid → errors ≡ append_known mid.streams.errors (line_of result) → WroteItsLine old (told mid errors faults) result
@@ -218,6 +224,7 @@ unchanged outcome.InputFault words old mid errors faults did line = tt
 unchanged outcome.OutputFault words old mid errors faults did line = tt
 unchanged outcome.ErrorsFault words old mid errors faults did line = tt
 unchanged outcome.FilesFault words old mid errors faults did line = λ name asked. wrote_its_line outcome.FilesFault old mid errors faults did.1 line
+unchanged outcome.Done words old mid errors faults did line = absurd did
 unchanged outcome.NoMemory words old mid errors faults did line = wrote_its_line outcome.NoMemory old mid errors faults did line
 
 leaves : (end : RunEnd) (words : List (List ℕ)) (old mid : World) (errors : Option (List ℕ)) (faults : ℕ) → Ran end words old mid → FilesAfter words old (told mid errors faults)
@@ -234,6 +241,7 @@ files_after outcome.InputFault words old mid errors faults did = leaves ends.Inp
 files_after outcome.OutputFault words old mid errors faults did = leaves ends.OutputFault words old mid errors faults did
 files_after outcome.ErrorsFault words old mid errors faults did = leaves ends.ErrorsFault words old mid errors faults did
 files_after outcome.FilesFault words old mid errors faults did = inl did.1.folder
+files_after outcome.Done words old mid errors faults did = absurd did
 files_after outcome.NoMemory words old mid errors faults did = inl did.folder
 
 says_lacks : (folder : Option Folder) (file : List ℕ) (statements : List Statement) → Says folder file statements → Lacks folder file → ⊥
@@ -262,6 +270,7 @@ ran_causes end result words old mid new r = record {
       let P : List ℕ → Type 0 = λ n. Says old.folder (file_of n Source) r.statements in
       absurd (says_none old.folder (file_of name Source) text r.statements (subst P (go_once words r.name name r.named named) r.says) held none);
   absent = λ name options asked lacks. absurd (not_both words r.name name options r.named asked);
+  unopened = λ name options error asked has why. absurd (not_both words r.name name options r.named asked);
 }
 
 pub causes : (result : Outcome) (words : List (List ℕ)) (old mid : World) (errors : Option (List ℕ)) (faults : ℕ) → Goes result words old mid → Refuses words old (told mid errors faults) result
@@ -271,8 +280,9 @@ causes (outcome.Stopped cs ip why) words old mid errors faults did = ran_causes 
 causes outcome.InputFault words old mid errors faults did = ran_causes ends.InputFault outcome.InputFault words old mid (told mid errors faults) did
 causes outcome.OutputFault words old mid errors faults did = ran_causes ends.OutputFault outcome.OutputFault words old mid (told mid errors faults) did
 causes outcome.ErrorsFault words old mid errors faults did = ran_causes ends.ErrorsFault outcome.ErrorsFault words old mid (told mid errors faults) did
-causes outcome.FilesFault words old mid errors faults did = record { usage = λ none. inr did.0; missing = λ name named lacks. inr did.0; outside = λ name text named held none. inr did.0; absent = λ name options asked lacks. inr did.0 }
-causes outcome.NoMemory words old mid errors faults did = record { usage = λ none. inr tt; missing = λ name named lacks. inr tt; outside = λ name text named held none. inr tt; absent = λ name options asked lacks. inr tt }
+causes outcome.FilesFault words old mid errors faults did = record { usage = λ none. inr did.0; missing = λ name named lacks. inr did.0; outside = λ name text named held none. inr did.0; absent = λ name options asked lacks. inr did.0; unopened = λ name options error asked has why. inr did.0 }
+causes outcome.Done words old mid errors faults did = absurd did
+causes outcome.NoMemory words old mid errors faults did = record { usage = λ none. inr tt; missing = λ name named lacks. inr tt; outside = λ name text named held none. inr tt; absent = λ name options asked lacks. inr tt; unopened = λ name options error asked has why. inr tt }
 causes (outcome.Refused (refusal.MissingFile file)) words old mid errors faults did = record {
   usage = λ none. absurd (none.go did.name did.named);
   missing = λ name named lacks. inl (ap (λ f. outcome.Refused (refusal.MissingFile f)) (did.reason.0 ∙ ap (λ n. file_of n Source) (go_once words did.name name did.named named)));
@@ -280,6 +290,7 @@ causes (outcome.Refused (refusal.MissingFile file)) words old mid errors faults 
       let P : List ℕ → Type 0 = λ n. IfSome old.folder (λ folder. folder (file_of n Source) ≡ None) in
       absurd (missing_not old.folder (file_of name Source) text held (subst P (go_once words did.name name did.named named) did.reason.1));
   absent = λ name options asked lacks. absurd (not_both words did.name name options did.named asked);
+  unopened = λ name options error asked has why. absurd (not_both words did.name name options did.named asked);
 }
 causes (outcome.Refused (refusal.NotInProfile at feature.NotYet)) words old mid errors faults did = record {
   usage = λ none. absurd (none.go did.name did.named);
@@ -288,6 +299,7 @@ causes (outcome.Refused (refusal.NotInProfile at feature.NotYet)) words old mid 
       absurd (says_nothing_lacks old.folder (file_of name Source) (subst P (go_once words did.name name did.named named) did.reason.1) lacks);
   outside = λ name text named held none. inl (ap (λ a. outcome.Refused (refusal.NotInProfile a feature.NotYet)) (did.reason.0 ∙ ap front_of (go_once words did.name name did.named named)));
   absent = λ name options asked lacks. absurd (not_both words did.name name options did.named asked);
+  unopened = λ name options error asked has why. absurd (not_both words did.name name options did.named asked);
 }
 causes (outcome.Refused other) words old mid errors faults did = absurd did.reason
 
@@ -299,4 +311,4 @@ still_rising old mid new counted (inr full) = inr (omega arith)
 pub line_failed : (words : List (List ℕ)) (old new : World) (mid : ℕ) → old.streams.errors_faults ≤ mid → HasRisen mid new.streams.errors_faults → Refuses words old new outcome.ErrorsFault
 line_failed words old new mid counted rose =
     let all = still_rising old.streams.errors_faults mid new.streams.errors_faults counted rose in
-    record { usage = λ none. inr all; missing = λ name named lacks. inr all; outside = λ name text named held none. inr all; absent = λ name options asked lacks. inr all }
+    record { usage = λ none. inr all; missing = λ name named lacks. inr all; outside = λ name text named held none. inr all; absent = λ name options asked lacks. inr all; unopened = λ name options error asked has why. inr all }

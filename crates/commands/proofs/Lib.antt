@@ -4,4 +4,5 @@ pub mod WordLaws
 pub mod RanLaws
 pub mod GoLaws
 pub mod RunLaws
+pub mod TextLaws
 pub mod TurboLaws

@@ -20,21 +20,15 @@ use Rattle.overlay_runner.specs.Event.{Rises}
 use Rattle.overlay_runner.specs.Runner.{with_retry, RunsOn}
 use Rattle.dos_runner.proofs.Conclusion.{Ends, Concludes, concludes}
 use Rattle.commands.specs.declared.names.FileKind.TheVariants.{Source, Executable, Overlays}
-use Rattle.commands.specs.declared.words.RunOptions.{RunOptions}
+use Rattle.command_line.specs.declared.command.RunOptions.{RunOptions}
 use Rattle.commands.specs.Run.{limit_of, retry_of, BeginsNamed, RunsFrom}
 use Rattle.commands.specs.Files.{file_of}
-use Rattle.commands.specs.Words.{IsGo}
+use Rattle.command_line.specs.Words.{IsGo}
 use Rattle.commands.specs.World.{World, Holds}
 use Rattle.commands.specs.Ending.{outcome_of}
 use Rattle.commands.specs.Go.{Says, SaysNothing, IsBuilt, Ran, Goes}
 use Rattle.commands.specs.Turbo.{IsAsked}
-
--- words name one program
-pub go_once : (words : List (List ℕ)) (a b : List ℕ) → IsGo words a → IsGo words b → a ≡ b
-go_once (command ∷ word ∷ []) a b x y = x.1.names ∙ sym y.1.names
-go_once [] a b x y = absurd x
-go_once (command ∷ []) a b x y = absurd x
-go_once (command ∷ word ∷ other ∷ rest) a b x y = absurd x
+use Rattle.commands.proofs.WordLaws.{go_once}
 
 -- a source says one list of statements
 says_same : (folder : Option Folder) (file text : List ℕ) (a b : List Statement) → Says folder file a → Holds folder file text → IsSource text b → a ≡ b

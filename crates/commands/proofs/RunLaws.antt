@@ -5,20 +5,24 @@ use Rattle.tp_outside.specs.Folder.{Folder}
 use Rattle.dos_runner.specs.declared.runner.RunEnd.{RunEnd}
 use Rattle.dos_runner.specs.declared.runner.RunEnd.TheVariants as ends
 use Rattle.dos_runner.specs.Outside.{Outside}
+use Rattle.opened_program.specs.declared.error.OpenError.{OpenError}
+use Rattle.opened_program.specs.declared.error.OpenError.TheVariants as errors
+use Rattle.opened_program.specs.Opening.{HasReason, IsRefused}
+use Rattle.opened_program.proofs.ReasonLaws.{one_reason, no_reason}
 use Rattle.overlay_runner.specs.Event.{Rises}
-use Rattle.commands.specs.declared.names.FileKind.TheVariants.{Executable}
+use Rattle.commands.specs.declared.names.FileKind.TheVariants.{Executable, Overlays}
 use Rattle.commands.specs.declared.outcome.Refusal.{Refusal}
 use Rattle.commands.specs.declared.outcome.Refusal.TheVariants as refusal
 use Rattle.commands.specs.declared.outcome.Outcome.{Outcome}
 use Rattle.commands.specs.declared.outcome.Outcome.TheVariants as outcome
-use Rattle.commands.specs.declared.words.RunOptions.{RunOptions}
+use Rattle.command_line.specs.declared.command.RunOptions.{RunOptions}
 use Rattle.commands.specs.Ending.{outcome_of}
 use Rattle.commands.specs.Files.{file_of}
 use Rattle.commands.specs.Line.{line_of}
 use Rattle.commands.specs.Performs.{DidRun}
-use Rattle.commands.specs.Run.{HasNoStart, IsOfRun, IsNotRun, RunsFrom, GaveUp, RunDid}
+use Rattle.commands.specs.Run.{refused_as, HasNoStart, IsUnopened, IsOfRun, IsNotRun, RunsFrom, GaveUp, RunDid}
 use Rattle.commands.specs.Turbo.{IsFaultOrNoMemory, Faults, RunRefused, Refuses, Unchanged, AfterLine, RunsFiles, RanFiles}
-use Rattle.commands.specs.Words.{IsGo}
+use Rattle.command_line.specs.Words.{IsGo}
 use Rattle.commands.specs.World.{World, Lacks}
 use Rattle.commands.proofs.GoLaws.{told, still_risen, wrote_its_line}
 use Rattle.commands.proofs.WordLaws.{not_both}
@@ -85,18 +89,62 @@ ran-absent : (end : RunEnd) (name : List ℕ) (options : RunOptions) (folder : O
 ran-absent end name options None o o' lacks run = lacks
 ran-absent end name options (Some held) o o' lacks run = let both = sym lacks ∙ run.begins.there in cc
 
+-- A program that is not opened for a reason is refused for no other.
+has-reason : (r : Refusal) (e : OpenError) → outcome.Refused r ≡ refused_as e → HasReason e
+has-reason r (errors.NotExecutable cause) is = tt
+has-reason r (errors.MissingFile file) is = tt
+has-reason r (errors.OverlayFileDamaged at) is = tt
+has-reason r (errors.OverlayMismatch v) is = tt
+has-reason r (errors.BufferTooSmall need have) is = tt
+has-reason r (errors.MemoryTooSmall need) is = tt
+has-reason r errors.FilesFault is = subst IsRefusal is tt
+has-reason r errors.NoMemory is = subst IsRefusal is tt
+
+bytes-same : (found : Option (List ℕ)) (xs ys : List ℕ) → found ≡ Some xs → found ≡ Some ys → xs ≡ ys
+bytes-same found xs ys a b = let both = sym a ∙ b in cc
+
+unopened-so : (held : Folder) (r : Refusal) (name : List ℕ) (buffer : Option ℕ) (error : OpenError) → HasReason error → IsUnopened (Some held) name buffer error → HasNoStart held (outcome.Refused r) name buffer → outcome.Refused r ≡ refused_as error
+unopened-so held r name buffer error has why (inl lacks) = absurd (let both = sym lacks.absent ∙ why.1 in cc)
+unopened-so held r name buffer error has why (inr opens) =
+    let same = bytes-same (held (file_of name Executable)) opens.bytes why.0 opens.there why.1 in
+    let cause = subst (λ (bytes : List ℕ). IsRefused bytes (file_of name Overlays) (held (file_of name Overlays)) buffer opens.error) same opens.cause in
+    opens.is ∙ ap refused_as (one_reason why.0 (file_of name Overlays) (held (file_of name Overlays)) buffer opens.error error (has-reason r opens.error opens.is) has cause why.2)
+
+gave-up-unopened : (result : Outcome) (name : List ℕ) (buffer : Option ℕ) (folder : Option Folder) (old mid : World) (errors : Option (List ℕ)) (faults : ℕ) (error : OpenError) → HasReason error → IsUnopened folder name buffer error
+    → IsNotRun result name buffer folder old.files_faults mid.files_faults → (result ≡ refused_as error) ⊎ IsFaultOrNoMemory result old (told mid errors faults)
+gave-up-unopened result name buffer None old mid errors faults error has why reason = absurd why
+gave-up-unopened (outcome.Refused r) name buffer (Some held) old mid errors faults error has why reason = inl (unopened-so held r name buffer error has why reason.1)
+gave-up-unopened outcome.FilesFault name buffer (Some held) old mid errors faults error has why reason = inr reason
+gave-up-unopened outcome.NoMemory name buffer (Some held) old mid errors faults error has why reason = inr tt
+gave-up-unopened other name buffer (Some held) old mid errors faults error has why reason = absurd reason
+
+ran-unopened : (end : RunEnd) (name : List ℕ) (options : RunOptions) (folder : Option Folder) (o o' : Outside) (error : OpenError) → HasReason error → IsUnopened folder name options.buffer error
+    → IfSome folder (λ held. RunsFrom held end name options o o') → ⊥
+ran-unopened end name options None o o' error has why run = why
+ran-unopened end name options (Some held) o o' error has why run =
+    let begins = run.begins in
+    let same = bytes-same (held (file_of name Executable)) why.0 begins.bytes why.1 begins.there in
+    let cause = subst (λ (bytes : List ℕ). IsRefused bytes (file_of name Overlays) (held (file_of name Overlays)) options.buffer error) same why.2 in
+    no_reason begins.bytes (file_of name Overlays) (held (file_of name Overlays)) options.buffer run.first.course.machine run.first.course.ovr error begins.begins.opened has cause
+
 pub causes : (result : Outcome) (words : List (List ℕ)) (old mid : World) (errors : Option (List ℕ)) (faults : ℕ) → DidRun result words old mid → Refuses words old (told mid errors faults) result
 causes result words old mid errors faults ran = record {
   usage = λ none. absurd (none.run ran.name ran.options ran.asked);
   missing = λ name asked lacks. absurd (not_both words name ran.name ran.options asked ran.asked);
   outside = λ name text asked held none. absurd (not_both words name ran.name ran.options asked ran.asked);
   absent = λ name options asked lacks. by name options lacks (ran.did name options asked);
+  unopened = λ name options error asked has why. not-opened name options error has why (ran.did name options asked);
 }
   where
     by : (name : List ℕ) (options : RunOptions) → Lacks old.folder (file_of name Executable) → RunDid result name options old mid
         → (result ≡ outcome.Refused (refusal.MissingFile (file_of name Executable))) ⊎ IsFaultOrNoMemory result old (told mid errors faults)
     by name options lacks (inl gave) = gave-up-absent result name options.buffer old.folder old mid errors faults lacks gave.reason
     by name options lacks (inr went) = absurd (ran-absent went.0 name options old.folder old.streams mid.streams lacks went.2.run)
+
+    not-opened : (name : List ℕ) (options : RunOptions) (error : OpenError) → HasReason error → IsUnopened old.folder name options.buffer error → RunDid result name options old mid
+        → (result ≡ refused_as error) ⊎ IsFaultOrNoMemory result old (told mid errors faults)
+    not-opened name options error has why (inl gave) = gave-up-unopened result name options.buffer old.folder old mid errors faults error has why gave.reason
+    not-opened name options error has why (inr went) = absurd (ran-unopened went.0 name options old.folder old.streams mid.streams error has why went.2.run)
 
 -- what is left as it was
 gave-up-unchanged : (result : Outcome) (name : List ℕ) (buffer : Option ℕ) (words : List (List ℕ)) (old mid : World) (errors : Option (List ℕ)) (faults : ℕ) → ((other : List ℕ) → IsGo words other → ⊥) → GaveUp result name buffer old mid
@@ -151,6 +199,12 @@ gave-up-told (Some held) inner result name options old mid errors faults line re
   did = inl (no-start held inner name options.buffer old.files_faults mid.files_faults reason);
   line = line;
 }
+
+pub ran_out : (folder : Option Folder) (inner result : Outcome) (name : List ℕ) (options : RunOptions) (old mid : World) (errors : Option (List ℕ)) (faults : ℕ) → inner ≡ outcome.NoMemory → AfterLine result inner mid.streams.errors errors
+    → IfSome folder (λ held. RunsFiles held result name options old (told mid errors faults))
+ran_out folder inner result name options old mid errors faults is line =
+    gave-up-told folder inner result name options old mid errors faults line
+    (subst (λ (o : Outcome). IsNotRun o name options.buffer folder old.files_faults mid.files_faults) (sym is) tt)
 
 ran-told : (folder : Option Folder) (inner result : Outcome) (end : RunEnd) (name : List ℕ) (options : RunOptions) (old mid : World) (errors : Option (List ℕ)) (faults : ℕ) → AfterLine result inner mid.streams.errors errors → inner ≡ outcome_of end
     → IfSome folder (λ held. RunsFrom held end name options old.streams mid.streams) → IfSome folder (λ held. RunsFiles held result name options old (told mid errors faults))

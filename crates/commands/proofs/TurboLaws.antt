@@ -9,46 +9,58 @@ use Rattle.commands.specs.declared.outcome.Outcome.{Outcome}
 use Rattle.commands.specs.declared.outcome.Outcome.TheVariants as outcome
 use Rattle.commands.specs.Line.{line_of}
 use Rattle.commands.specs.Performs.{Performs}
-use Rattle.commands.specs.Turbo.{Headline, Written, Complete, Faults, GoRefused, RunRefused, Refused, Refuses, Fronts, FilesAfter, TookErrors, EndsWithLine, Unchanged, AfterLine, RanFiles}
+use Rattle.commands.specs.Turbo.{Headline, Written, Complete, Faults, GoRefused, RunRefused, Refused, Refuses, Fronts, FilesAfter, TookErrors, EndsWithLine, Unchanged, AfterLine, RanFiles, Tells}
 use Rattle.commands.specs.World.{World}
 use Rattle.commands.proofs.GoLaws.{told, wrote_its_line}
 use Rattle.commands.proofs.GoLaws as go
 use Rattle.commands.proofs.RunLaws as run
+use Rattle.commands.proofs.TextLaws as text
+use Rattle.commands.proofs.TextLaws.{not_go, not_run}
 use Rattle.commands.proofs.WordLaws.{not_both}
 
 pub headline : (result : Outcome) (words : List (List ℕ)) (old mid : World) (errors : Option (List ℕ)) (faults : ℕ) → Performs result words old mid → Headline words old (told mid errors faults) result
 headline result words old mid errors faults (inl misused) = λ name statements asked has. absurd (misused.none.go name asked.named)
 headline result words old mid errors faults (inr (inl went)) = go.headline result words old mid errors faults went.goes
-headline result words old mid errors faults (inr (inr ran)) = λ name statements asked has. absurd (not_both words name ran.name ran.options asked.named ran.asked)
+headline result words old mid errors faults (inr (inr (inl ran))) = λ name statements asked has. absurd (not_both words name ran.name ran.options asked.named ran.asked)
+headline result words old mid errors faults (inr (inr (inr (inl out)))) = subst (λ (o : Outcome). Headline words old (told mid errors faults) o) (sym out.is) (go.headline outcome.NoMemory words old mid errors faults out.untouched)
+headline result words old mid errors faults (inr (inr (inr (inr shown)))) = λ name statements asked has. absurd (not_go words shown.text name shown.asked asked.named)
 
 pub written : (result : Outcome) (words : List (List ℕ)) (old mid : World) (errors : Option (List ℕ)) (faults : ℕ) → Performs result words old mid → errors ≡ append_known mid.streams.errors (line_of result) → Written words old (told mid errors faults) result
 written result words old mid errors faults (inl misused) line = λ name statements code asked is. absurd (misused.none.go name asked.named)
 written result words old mid errors faults (inr (inl went)) line = go.written result words old mid errors faults went.goes line
-written result words old mid errors faults (inr (inr ran)) line = λ name statements code asked is. absurd (not_both words name ran.name ran.options asked.named ran.asked)
+written result words old mid errors faults (inr (inr (inl ran))) line = λ name statements code asked is. absurd (not_both words name ran.name ran.options asked.named ran.asked)
+written result words old mid errors faults (inr (inr (inr (inl out)))) line = subst (λ (o : Outcome). Written words old (told mid errors faults) o) (sym out.is) (go.written outcome.NoMemory words old mid errors faults out.untouched (line ∙ ap (λ (o : Outcome). append_known mid.streams.errors (line_of o)) out.is))
+written result words old mid errors faults (inr (inr (inr (inr shown)))) line = λ name statements code asked is. absurd (not_go words shown.text name shown.asked asked.named)
 
 pub complete : (result : Outcome) (words : List (List ℕ)) (old mid : World) (errors : Option (List ℕ)) (faults : ℕ) → Performs result words old mid → old.streams.errors_faults ≤ mid.streams.errors_faults → mid.streams.errors_faults ≤ faults → Complete words old (told mid errors faults) result
 complete result words old mid errors faults (inl misused) rise rises = λ name statements asked. absurd (misused.none.go name asked.named)
 complete result words old mid errors faults (inr (inl went)) rise rises = go.complete result words old mid errors faults went.goes rise rises
-complete result words old mid errors faults (inr (inr ran)) rise rises = λ name statements asked. absurd (not_both words name ran.name ran.options asked.named ran.asked)
+complete result words old mid errors faults (inr (inr (inl ran))) rise rises = λ name statements asked. absurd (not_both words name ran.name ran.options asked.named ran.asked)
+complete result words old mid errors faults (inr (inr (inr (inl out)))) rise rises = subst (λ (o : Outcome). Complete words old (told mid errors faults) o) (sym out.is) (go.complete outcome.NoMemory words old mid errors faults out.untouched rise rises)
+complete result words old mid errors faults (inr (inr (inr (inr shown)))) rise rises = λ name statements asked. absurd (not_go words shown.text name shown.asked asked.named)
 
 pub fault : (result : Outcome) (words : List (List ℕ)) (old mid : World) (errors : Option (List ℕ)) (faults : ℕ) → Performs result words old mid → mid.streams.errors_faults ≤ faults → Faults old (told mid errors faults) result
 fault result words old mid errors faults (inl misused) rises = subst (λ (o : Outcome). Faults old (told mid errors faults) o) (sym misused.is) tt
 fault result words old mid errors faults (inr (inl went)) rises = go.fault result words old mid errors faults went.goes rises
-fault result words old mid errors faults (inr (inr ran)) rises = run.fault result ran.name ran.options old mid errors faults (ran.did ran.name ran.options ran.asked) rises
+fault result words old mid errors faults (inr (inr (inl ran))) rises = run.fault result ran.name ran.options old mid errors faults (ran.did ran.name ran.options ran.asked) rises
+fault result words old mid errors faults (inr (inr (inr (inl out)))) rises = subst (λ (o : Outcome). Faults old (told mid errors faults) o) (sym out.is) tt
+fault result words old mid errors faults (inr (inr (inr (inr shown)))) rises = text.fault result shown.text old mid errors faults shown.shown
 
 refuses-so : (r : Refusal) (words : List (List ℕ)) (old mid : World) → Performs (outcome.Refused r) words old mid → Refused words old (outcome.Refused r)
-refuses-so r words old mid (inl misused) = subst (λ (o : Outcome). Refused words old o) (sym misused.is) (misused.none.go, misused.none.run)
-refuses-so r words old mid (inr (inl went)) = (go.refused r words old mid went.goes, other r)
+refuses-so r words old mid (inl misused) = subst (λ (o : Outcome). Refused words old o) (sym misused.is) (misused.none.go, misused.none.run, misused.none.text)
+refuses-so r words old mid (inr (inl went)) = (go.refused r words old mid went.goes, other r, λ text asked. not_go words text went.name asked went.asked)
   where
     other : (r : Refusal) → RunRefused words old r
     other refusal.Usage = λ name options asked. not_both words went.name name options went.asked asked
     other r = λ name options asked. absurd (not_both words went.name name options went.asked asked)
-refuses-so r words old mid (inr (inr ran)) = (other r, run.refused r words old mid ran)
+refuses-so r words old mid (inr (inr (inl ran))) = (other r, run.refused r words old mid ran, λ text asked. not_run words text ran.name ran.options asked ran.asked)
   where
     other : (r : Refusal) → GoRefused words old r
     other (refusal.MissingFile file) = λ name asked. absurd (not_both words name ran.name ran.options asked ran.asked)
     other (refusal.NotInProfile at feature) = λ name asked. absurd (not_both words name ran.name ran.options asked ran.asked)
     other r = λ name asked. not_both words name ran.name ran.options asked ran.asked
+refuses-so r words old mid (inr (inr (inr (inl out)))) = absurd (let is = out.is in cc)
+refuses-so r words old mid (inr (inr (inr (inr shown)))) = absurd shown.shown
 
 pub refused : (result : Outcome) (words : List (List ℕ)) (old mid : World) → Performs result words old mid → Refused words old result
 refused (outcome.Refused r) words old mid did = refuses-so r words old mid did
@@ -57,6 +69,7 @@ refused outcome.OutputFault words old mid did = tt
 refused outcome.ErrorsFault words old mid did = tt
 refused outcome.FilesFault words old mid did = tt
 refused outcome.NoMemory words old mid did = tt
+refused outcome.Done words old mid did = tt
 refused (outcome.Program exit) words old mid did = tt
 refused (outcome.InstructionLimit taken) words old mid did = tt
 refused (outcome.Stopped cs ip why) words old mid did = tt
@@ -64,15 +77,20 @@ refused (outcome.Stopped cs ip why) words old mid did = tt
 pub fronts : (result : Outcome) (words : List (List ℕ)) (old mid : World) (errors : Option (List ℕ)) (faults : ℕ) → Performs result words old mid → Fronts words old (told mid errors faults)
 fronts result words old mid errors faults (inl misused) = λ name statements asked. absurd (misused.none.go name asked.named)
 fronts result words old mid errors faults (inr (inl went)) = go.fronts result words old mid errors faults went.goes
-fronts result words old mid errors faults (inr (inr ran)) = λ name statements asked. absurd (not_both words name ran.name ran.options asked.named ran.asked)
+fronts result words old mid errors faults (inr (inr (inl ran))) = λ name statements asked. absurd (not_both words name ran.name ran.options asked.named ran.asked)
+fronts result words old mid errors faults (inr (inr (inr (inl out)))) = go.fronts outcome.NoMemory words old mid errors faults out.untouched
+fronts result words old mid errors faults (inr (inr (inr (inr shown)))) = λ name statements asked. absurd (not_go words shown.text name shown.asked asked.named)
 
 took_errors : (result : Outcome) (words : List (List ℕ)) (old mid : World) → Performs result words old mid → TookErrors words old mid.streams.errors
 took_errors result words old mid (inl misused) = λ name statements asked. absurd (misused.none.go name asked.named)
 took_errors result words old mid (inr (inl went)) = go.took_errors result words old mid went.goes
-took_errors result words old mid (inr (inr ran)) = λ name statements asked. absurd (not_both words name ran.name ran.options asked.named ran.asked)
+took_errors result words old mid (inr (inr (inl ran))) = λ name statements asked. absurd (not_both words name ran.name ran.options asked.named ran.asked)
+took_errors result words old mid (inr (inr (inr (inl out)))) = go.took_errors outcome.NoMemory words old mid out.untouched
+took_errors result words old mid (inr (inr (inr (inr shown)))) = λ name statements asked. absurd (not_go words shown.text name shown.asked asked.named)
 
 pub ends_with_line : (result : Outcome) (words : List (List ℕ)) (old mid : World) (errors : Option (List ℕ)) (faults : ℕ) → Performs result words old mid → errors ≡ append_known mid.streams.errors (line_of result) → EndsWithLine words old (told mid errors faults) result
 ends_with_line (outcome.Program code) words old mid errors faults did line = (mid.streams.errors, line, took_errors (outcome.Program code) words old mid did)
+ends_with_line outcome.Done words old mid errors faults did line = (mid.streams.errors, line, took_errors outcome.Done words old mid did)
 ends_with_line (outcome.InstructionLimit taken) words old mid errors faults did line = (mid.streams.errors, line, took_errors (outcome.InstructionLimit taken) words old mid did)
 ends_with_line (outcome.Stopped cs ip why) words old mid errors faults did line = (mid.streams.errors, line, took_errors (outcome.Stopped cs ip why) words old mid did)
 ends_with_line (outcome.Refused r) words old mid errors faults did line = (mid.streams.errors, line, took_errors (outcome.Refused r) words old mid did)
@@ -88,12 +106,16 @@ unchanged result words old mid errors faults (inl misused) line =
     subst (λ (o : Outcome). Unchanged words old (told mid errors faults) o) (sym misused.is)
     (wrote_its_line usage old mid errors faults misused.untouched (line ∙ ap (λ (o : Outcome). append_known mid.streams.errors (line_of o)) misused.is))
 unchanged result words old mid errors faults (inr (inl went)) line = go.unchanged result words old mid errors faults went.goes line
-unchanged result words old mid errors faults (inr (inr ran)) line = run.unchanged result words old mid errors faults ran line
+unchanged result words old mid errors faults (inr (inr (inl ran))) line = run.unchanged result words old mid errors faults ran line
+unchanged result words old mid errors faults (inr (inr (inr (inl out)))) line = subst (λ (o : Outcome). Unchanged words old (told mid errors faults) o) (sym out.is) (go.unchanged outcome.NoMemory words old mid errors faults out.untouched (line ∙ ap (λ (o : Outcome). append_known mid.streams.errors (line_of o)) out.is))
+unchanged result words old mid errors faults (inr (inr (inr (inr shown)))) line = text.unchanged result words shown.text old mid errors faults shown.shown
 
 pub files_after : (result : Outcome) (words : List (List ℕ)) (old mid : World) (errors : Option (List ℕ)) (faults : ℕ) → Performs result words old mid → FilesAfter words old (told mid errors faults)
 files_after result words old mid errors faults (inl misused) = inl misused.untouched.folder
 files_after result words old mid errors faults (inr (inl went)) = go.files_after result words old mid errors faults went.goes
-files_after result words old mid errors faults (inr (inr ran)) = inl (run.folder_kept result words old mid ran)
+files_after result words old mid errors faults (inr (inr (inl ran))) = inl (run.folder_kept result words old mid ran)
+files_after result words old mid errors faults (inr (inr (inr (inl out)))) = inl out.untouched.folder
+files_after result words old mid errors faults (inr (inr (inr (inr shown)))) = inl shown.folder
 
 pub causes : (result : Outcome) (words : List (List ℕ)) (old mid : World) (errors : Option (List ℕ)) (faults : ℕ) → Performs result words old mid → Refuses words old (told mid errors faults) result
 causes result words old mid errors faults (inl misused) = record {
@@ -101,15 +123,26 @@ causes result words old mid errors faults (inl misused) = record {
   missing = λ name asked lacks. absurd (misused.none.go name asked);
   outside = λ name text asked held none. absurd (misused.none.go name asked);
   absent = λ name options asked lacks. absurd (misused.none.run name options asked);
+  unopened = λ name options error asked has why. absurd (misused.none.run name options asked);
 }
 causes result words old mid errors faults (inr (inl went)) = go.causes result words old mid errors faults went.goes
-causes result words old mid errors faults (inr (inr ran)) = run.causes result words old mid errors faults ran
+causes result words old mid errors faults (inr (inr (inl ran))) = run.causes result words old mid errors faults ran
+causes result words old mid errors faults (inr (inr (inr (inl out)))) = subst (λ (o : Outcome). Refuses words old (told mid errors faults) o) (sym out.is) (go.causes outcome.NoMemory words old mid errors faults out.untouched)
+causes result words old mid errors faults (inr (inr (inr (inr shown)))) = record {
+  usage = λ none. absurd (none.text shown.text shown.asked);
+  missing = λ name asked lacks. absurd (not_go words shown.text name shown.asked asked);
+  outside = λ name text asked held none. absurd (not_go words shown.text name shown.asked asked);
+  absent = λ name options asked lacks. absurd (not_run words shown.text name options shown.asked asked);
+  unopened = λ name options error asked has why. absurd (not_run words shown.text name options shown.asked asked);
+}
 
 -- what was run, with the line after it or a front of the line
 ran-files : (inner result : Outcome) (words : List (List ℕ)) (old mid : World) (errors : Option (List ℕ)) (faults : ℕ) → Performs inner words old mid → AfterLine result inner mid.streams.errors errors → RanFiles words old (told mid errors faults) result
 ran-files inner result words old mid errors faults (inl misused) line = λ name options asked. absurd (misused.none.run name options asked)
 ran-files inner result words old mid errors faults (inr (inl went)) line = λ name options asked. absurd (not_both words went.name name options went.asked asked)
-ran-files inner result words old mid errors faults (inr (inr ran)) line = run.ran inner result words old mid errors faults ran line
+ran-files inner result words old mid errors faults (inr (inr (inl ran))) line = run.ran inner result words old mid errors faults ran line
+ran-files inner result words old mid errors faults (inr (inr (inr (inl out)))) line = λ name options asked. run.ran_out old.folder inner result name options old mid errors faults out.is line
+ran-files inner result words old mid errors faults (inr (inr (inr (inr shown)))) line = λ name options asked. absurd (not_run words shown.text name options shown.asked asked)
 
 pub ran_with_line : (result : Outcome) (words : List (List ℕ)) (old mid : World) (errors : Option (List ℕ)) (faults : ℕ) → Performs result words old mid → errors ≡ append_known mid.streams.errors (line_of result) → RanFiles words old (told mid errors faults) result
 ran_with_line result words old mid errors faults did line = ran-files result result words old mid errors faults did (inl (refl, line))
@@ -119,3 +152,20 @@ ran_without_line inner words old mid errors faults did front = ran-files inner o
 
 pub line_failed : (words : List (List ℕ)) (old new : World) (mid : ℕ) → old.streams.errors_faults ≤ mid → HasRisen mid new.streams.errors_faults → Refuses words old new outcome.ErrorsFault
 line_failed words old new mid counted rose = go.line_failed words old new mid counted rose
+
+-- what a text's output took, with the line after it or without
+pub tells_with_line : (result : Outcome) (words : List (List ℕ)) (old mid : World) (errors : Option (List ℕ)) (faults : ℕ) → Performs result words old mid → errors ≡ append_known mid.streams.errors (line_of result) → Tells words old (told mid errors faults) result
+tells_with_line result words old mid errors faults (inl misused) line = λ t asked. absurd (misused.none.text t asked)
+tells_with_line result words old mid errors faults (inr (inl went)) line = λ t asked. absurd (not_go words t went.name asked went.asked)
+tells_with_line result words old mid errors faults (inr (inr (inl ran))) line = λ t asked. absurd (not_run words t ran.name ran.options asked ran.asked)
+tells_with_line result words old mid errors faults (inr (inr (inr (inl out)))) line = λ t asked. absurd (out.none t asked)
+tells_with_line result words old mid errors faults (inr (inr (inr (inr shown)))) line = λ t asked. text.tells_with_line result words old mid errors faults t shown line asked
+
+pub tells_without_line : (inner : Outcome) (words : List (List ℕ)) (old mid : World) (errors : Option (List ℕ)) (faults : ℕ) → Performs inner words old mid → old.streams.errors_faults ≤ mid.streams.errors_faults → HasRisen mid.streams.errors_faults faults
+    → Tells words old (told mid errors faults) outcome.ErrorsFault
+tells_without_line inner words old mid errors faults (inl misused) counted rose = λ t asked. absurd (misused.none.text t asked)
+tells_without_line inner words old mid errors faults (inr (inl went)) counted rose = λ t asked. absurd (not_go words t went.name asked went.asked)
+tells_without_line inner words old mid errors faults (inr (inr (inl ran))) counted rose = λ t asked. absurd (not_run words t ran.name ran.options asked ran.asked)
+tells_without_line inner words old mid errors faults (inr (inr (inr (inl out)))) counted rose = λ t asked. absurd (out.none t asked)
+tells_without_line inner words old mid errors faults (inr (inr (inr (inr shown)))) counted rose = λ t asked.
+    text.tells_without_line inner words old mid errors faults t shown (go.still_rising old.streams.errors_faults mid.streams.errors_faults faults counted rose) asked

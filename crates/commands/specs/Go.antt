@@ -16,7 +16,7 @@ use Rattle.commands.specs.declared.outcome.Refusal.TheVariants as refusal
 use Rattle.commands.specs.declared.outcome.Outcome.{Outcome}
 use Rattle.commands.specs.declared.outcome.Outcome.TheVariants as outcome
 use Rattle.commands.specs.Files.{file_of}
-use Rattle.commands.specs.Words.{IsGo}
+use Rattle.command_line.specs.Words.{IsGo}
 use Rattle.commands.specs.World.{World, IsUntouched}
 
 -- Where the folder is told, the file is a source that says these statements.
@@ -63,6 +63,7 @@ pub record GivesUp (result : Outcome) (words : List (List ℕ)) (old new : World
 
 -- What `go` does, by its outcome.
 abbrev pub Goes : Outcome → List (List ℕ) → World → World → Type 0
+Goes outcome.Done words old new = ⊥
 Goes (outcome.Refused r) words old new = GivesUp (outcome.Refused r) words old new
 Goes outcome.FilesFault words old new = HasRisen old.files_faults new.files_faults × IsUntouched old new
 Goes outcome.NoMemory words old new = IsUntouched old new

@@ -4,6 +4,6 @@ pub mod Go
 pub mod Line
 pub mod Performs
 pub mod Run
+pub mod Texts
 pub mod Turbo
-pub mod Words
 pub mod World

@@ -15,6 +15,7 @@ use Rattle.commands.specs.declared.outcome.Outcome.{Outcome}
 use Rattle.commands.specs.declared.outcome.Outcome.TheVariants as outcome
 
 abbrev pub status_of : Outcome → ℕ
+status_of outcome.Done = 0
 status_of (outcome.Program code) = code
 status_of (outcome.InstructionLimit taken) = 251
 status_of (outcome.Refused r) = 252
@@ -67,6 +68,7 @@ refusal_text (refusal.MemoryTooSmall need) = codes "MemoryTooSmall " ++ decimal 
 
 -- The line that an outcome is due on standard error, where it is due one: `tp: `, what it is with its fields, byte 10.
 abbrev pub line_of : Outcome → List ℕ
+line_of outcome.Done = []
 line_of (outcome.Program code) = []
 line_of (outcome.InstructionLimit taken) = codes "tp: InstructionLimit " ++ decimal taken ++ codes "\n"
 line_of (outcome.Refused r) = codes "tp: " ++ refusal_text r ++ codes "\n"

@@ -15,7 +15,7 @@ use Rattle.commands.specs.declared.outcome.Outcome.{Outcome}
 use Rattle.commands.specs.declared.outcome.Outcome.TheVariants as outcome
 use Rattle.commands.specs.declared.outcome.Refusal.{Refusal}
 use Rattle.commands.specs.declared.outcome.Refusal.TheVariants as refusal
-use Rattle.commands.specs.declared.words.RunOptions.{RunOptions}
+use Rattle.command_line.specs.declared.command.RunOptions.{RunOptions}
 use Rattle.commands.specs.Files.{file_of}
 use Rattle.commands.specs.Ending.{outcome_of}
 use Rattle.commands.specs.World.{World, IsUntouched}
@@ -50,6 +50,12 @@ pub record OpensNot (held : Folder) (r : Refusal) (name : List ℕ) (buffer : Op
   pub error : OpenError
   pub is : outcome.Refused r ≡ refused_as error
   pub cause : IsRefused bytes (file_of name Overlays) (held (file_of name Overlays)) buffer error
+
+-- A folder is told, the program's executable is there, and it is not opened for this reason: the rules before it hold.
+abbrev pub IsUnopened : Option Folder → List ℕ → Option ℕ → OpenError → Type 0
+IsUnopened None name buffer error = ⊥
+IsUnopened (Some held) name buffer error =
+    (bytes : List ℕ) × (held (file_of name Executable) ≡ Some bytes) × IsRefused bytes (file_of name Overlays) (held (file_of name Overlays)) buffer error
 
 -- Why a program of this name did not begin, where the folder holds this. Faults and want of memory have no cause there.
 abbrev pub HasNoStart : Folder → Outcome → List ℕ → Option ℕ → Type 0

@@ -9,8 +9,10 @@ use Rattle.literal_form.specs.Statement.{Statement, mean}
 use Rattle.literal_code.specs.Agrees.{Agrees}
 use Rattle.dos_runner.specs.declared.runner.RunEnd.{RunEnd}
 use Rattle.dos_runner.specs.Outside.{Outside}
+use Rattle.opened_program.specs.declared.error.OpenError.{OpenError}
+use Rattle.opened_program.specs.Opening.{HasReason}
 use Rattle.commands.specs.declared.names.FileKind.TheVariants.{Source, Executable}
-use Rattle.commands.specs.declared.words.RunOptions.{RunOptions}
+use Rattle.command_line.specs.declared.command.RunOptions.{RunOptions}
 use Rattle.commands.specs.declared.outcome.Feature.TheVariants.{NotYet}
 use Rattle.commands.specs.declared.outcome.Refusal.{Refusal}
 use Rattle.commands.specs.declared.outcome.Refusal.TheVariants as refusal
@@ -18,11 +20,12 @@ use Rattle.commands.specs.declared.outcome.Outcome.{Outcome}
 use Rattle.commands.specs.declared.outcome.Outcome.TheVariants as outcome
 use Rattle.commands.specs.Files.{file_of}
 use Rattle.commands.specs.Line.{line_of}
-use Rattle.commands.specs.Words.{IsGo, IsRun}
+use Rattle.command_line.specs.Words.{IsGo, IsRun}
 use Rattle.commands.specs.World.{World, Holds, Lacks}
 use Rattle.commands.specs.Go.{Says}
 use Rattle.commands.specs.Performs.{NamesNone}
-use Rattle.commands.specs.Run.{HasNoStart, RunsFrom}
+use Rattle.commands.specs.Texts.{IsTextOf}
+use Rattle.commands.specs.Run.{refused_as, HasNoStart, IsUnopened, RunsFrom}
 use Rattle.commands.specs.Ending.{outcome_of}
 
 -- The words are `go` and a program's name, the files tell what they hold, and the program's source says these
@@ -69,6 +72,11 @@ IsFaultOrNoMemory outcome.FilesFault old new = HasRisen old.files_faults new.fil
 IsFaultOrNoMemory outcome.NoMemory old new = Unit {0}
 IsFaultOrNoMemory other old new = ⊥
 
+-- Only faults.
+abbrev pub IsFault : Outcome → World → World → Type 0
+IsFault outcome.NoMemory old new = ⊥
+IsFault result old new = IsFaultOrNoMemory result old new
+
 -- A source of the form gives the program's end, or there was a fault of the object that is named, or no memory.
 abbrev pub Complete : List (List ℕ) → World → World → Outcome → Type 0
 Complete words old new result =
@@ -98,8 +106,9 @@ RunRefused words old refusal.Usage = (name : List ℕ) (options : RunOptions) �
 RunRefused words old r =
     (name : List ℕ) (options : RunOptions) → IsRun words name options → IfSome old.folder (λ held. HasNoStart held (outcome.Refused r) name options.buffer)
 
+-- Words that ask for a text are not refused.
 abbrev pub Refused : List (List ℕ) → World → Outcome → Type 0
-Refused words old (outcome.Refused r) = GoRefused words old r × RunRefused words old r
+Refused words old (outcome.Refused r) = GoRefused words old r × RunRefused words old r × ((text : List ℕ) → IsTextOf words text → ⊥)
 Refused words old other = Unit {0}
 
 -- Each cause gives its refusal, or there was a fault of the object that is named, or no memory.
@@ -111,6 +120,8 @@ pub record Refuses (words : List (List ℕ)) (old new : World) (result : Outcome
       (result ≡ outcome.Refused (refusal.NotInProfile (record { file = file_of name Source; line = 1; column = 1 }) NotYet)) ⊎ IsFaultOrNoMemory result old new
   pub absent : (name : List ℕ) (options : RunOptions) → IsRun words name options → Lacks old.folder (file_of name Executable) →
       (result ≡ outcome.Refused (refusal.MissingFile (file_of name Executable))) ⊎ IsFaultOrNoMemory result old new
+  pub unopened : (name : List ℕ) (options : RunOptions) (error : OpenError) → IsRun words name options → HasReason error → IsUnopened old.folder name options.buffer error →
+      (result ≡ refused_as error) ⊎ IsFaultOrNoMemory result old new
 
 -- The last line was written, which an outcome is due, or the errors took a front of it and failed.
 abbrev pub AfterLine : Outcome → Outcome → Option (List ℕ) → Option (List ℕ) → Type 0
@@ -178,3 +189,15 @@ pub record Leaves (words : List (List ℕ)) (old new : World) : Type 0 where
 
 abbrev pub FilesAfter : List (List ℕ) → World → World → Type 0
 FilesAfter words old new = (new.folder ≡ old.folder) ⊎ Leaves words old new
+
+-- The output took just a text, or the first of it where there was a fault of the object that is named. No file changed, and nothing
+-- was read.
+pub record Told (text : List ℕ) (old new : World) (result : Outcome) : Type 0 where
+  pub ended : ((result ≡ outcome.Done) × (new.streams.output ≡ append_known old.streams.output text) × (new.streams.errors ≡ old.streams.errors)) ⊎ IsFault result old new
+  pub front : TakesPrefix old.streams.output new.streams.output text
+  pub folder : new.folder ≡ old.folder
+  pub input : new.streams.input ≡ old.streams.input
+
+-- Words that ask for a text get it.
+abbrev pub Tells : List (List ℕ) → World → World → Outcome → Type 0
+Tells words old new result = (text : List ℕ) → IsTextOf words text → Told text old new result

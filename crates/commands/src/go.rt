@@ -3,7 +3,7 @@
 ghost use Rattle.std.specs.Prelude.{◌≡◌, ◌≤◌, ℕ, List, IfOk, IfErr};
 ghost use Rattle.literal_form.specs.LiteralProgram.{statements_of};
 ghost use Rattle.commands.specs.Go.{Goes, Says, ReadsNot, IsBuilt};
-ghost use Rattle.commands.specs.Words.{IsGo};
+ghost use Rattle.command_line.specs.Words.{IsGo};
 ghost use Rattle.commands.specs.World.{world};
 
 use crate::ending::outcome_of;

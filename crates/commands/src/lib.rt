@@ -8,8 +8,8 @@ mod names;
 mod outcome;
 mod perform;
 mod run;
+mod texts;
 mod top;
-mod words;
 
 pub use outcome::{At, Feature, Outcome, Refusal};
 pub use top::turbo;

@@ -182,6 +182,7 @@ fn line_of(outcome: &Outcome) -> Line
 {
     let mut line = Line::new();
     match outcome {
+        Outcome::Done => (),
         Outcome::Program { code: _ } => (),
         Outcome::InstructionLimit { taken } => {
             push_text(&mut line, b"tp: InstructionLimit ");

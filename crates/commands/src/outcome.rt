@@ -46,6 +46,8 @@ pub enum Refusal {
 /// How a command ended.
 #[derive(Debug, Drop)]
 pub enum Outcome {
+    /// The text that was asked for is written.
+    Done,
     /// The program ran to its end, with this exit code.
     Program { code: u8 },
     /// So many instructions ran, as many as were allowed, and the program still runs.
@@ -67,11 +69,12 @@ pub enum Outcome {
 }
 
 impl Outcome {
-    /// The exit status: the program's own code, or what tells the kind of outcome.
+    /// The exit status: the program's own code, 0 where a text was asked for, or what tells the kind of outcome.
     pub fn status(&self) -> u8
         ensures { result ≡ status_of self.now }
     {
         match self {
+            Outcome::Done => 0,
             Outcome::Program { code } => *code,
             Outcome::InstructionLimit { taken: _ } => 251,
             Outcome::Refused(_) => 252,

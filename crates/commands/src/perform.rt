@@ -7,7 +7,8 @@ ghost use Rattle.commands.specs.World.{world};
 use crate::go::go;
 use crate::outcome::{Outcome, Refusal};
 use crate::run::run_program;
-use crate::words::{Command, command_of};
+use crate::texts::{help_text, show, version_text};
+use command_line::{Command, command_of};
 use std::alloc::Global;
 use tp_outside::{Files, Sink, Source};
 
@@ -30,11 +31,14 @@ pub fn perform<F: Files, S: Source, K: Sink, E: Sink>(
     ensures files_counted { F.faults files.old ≤ F.faults files.new }
     ensures errors_counted { E.faults errors.old ≤ E.faults errors.new }
 {
-    match command_of(words) {
-        Some(Command::Go { name }) => go(alloc, &name, files, input, output, errors),
-        Some(Command::Run { name, options }) => {
+    match command_of(alloc, words) {
+        Ok(Some(Command::Go { name })) => go(alloc, &name, files, input, output, errors),
+        Ok(Some(Command::Run { name, options })) => {
             run_program(alloc, &name, options, files, input, output, errors)
         }
-        None => Outcome::Refused(Refusal::Usage),
+        Ok(Some(Command::Help)) => show(output, help_text()),
+        Ok(Some(Command::Version)) => show(output, version_text()),
+        Ok(None) => Outcome::Refused(Refusal::Usage),
+        Err(_) => Outcome::NoMemory,
     }
 }

@@ -11,7 +11,7 @@ ghost use Rattle.commands.specs.declared.names.FileKind.{FileKind};
 use crate::ending::outcome_of;
 use crate::names::{FileKind, file_name};
 use crate::outcome::{Outcome, Refusal};
-use crate::words::RunOptions;
+use command_line::RunOptions;
 use overlay_runner::{OpenError, Runner};
 use std::alloc::Global;
 use tp_outside::{self, Files, Sink, Source, read_file};

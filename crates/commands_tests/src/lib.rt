@@ -2,6 +2,8 @@
 #![tactic(auto)]
 
 #[cfg(test)]
-mod run_tests;
+mod go_tests;
 #[cfg(test)]
-mod tests;
+mod outside;
+#[cfg(test)]
+mod run_tests;

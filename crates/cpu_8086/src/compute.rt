@@ -8,7 +8,8 @@ ghost use Rattle.cpu_8086.specs.Direct.{with_result_byte, with_result_word, alu_
 use crate::arithmetic::{
     Outcome, Shifted, alu, shift, shift_overflow, sign_extend, signed_product, size, subtract, top,
 };
-use crate::machine::{Event, Machine};
+use crate::hardware::Hardware;
+use crate::machine::Event;
 use crate::operand::width_of;
 use crate::registers::Registers;
 use x86_table::{
@@ -187,10 +188,10 @@ impl Registers {
     }
 }
 
-impl Machine {
+impl Hardware {
     #[tactic(auto, unfolding(crate::specs::Direct::with_result_byte))]
-    fn set_result_byte(&mut self, op: AluOp, operand: ByteOperand, value: u8)
-        ensures { self.new ≡ with_result_byte op self.old operand value }
+    fn set_result_byte(&mut self, op: AluOp, operand: &ByteOperand, value: u8)
+        ensures { self.new ≡ with_result_byte op self.old operand.now value }
     {
         match op {
             AluOp::Cmp => {}
@@ -199,8 +200,8 @@ impl Machine {
     }
 
     #[tactic(auto, unfolding(crate::specs::Direct::with_result_word))]
-    fn set_result_word(&mut self, op: AluOp, operand: WordOperand, value: u16)
-        ensures { self.new ≡ with_result_word op self.old operand value }
+    fn set_result_word(&mut self, op: AluOp, operand: &WordOperand, value: u16)
+        ensures { self.new ≡ with_result_word op self.old operand.now value }
     {
         match op {
             AluOp::Cmp => {}
@@ -209,8 +210,8 @@ impl Machine {
     }
 
     #[tactic(auto, unfolding(crate::specs::Direct::alu_on_byte))]
-    fn alu_byte(&mut self, op: AluOp, operand: ByteOperand, number: u8)
-        ensures { self.new ≡ alu_on_byte self.old op operand number }
+    fn alu_byte(&mut self, op: AluOp, operand: &ByteOperand, number: u8)
+        ensures { self.new ≡ alu_on_byte self.old op operand.now number }
     {
         let value = self.byte_value(operand);
         let carry = self.registers.carry;
@@ -220,8 +221,8 @@ impl Machine {
     }
 
     #[tactic(auto, unfolding(crate::specs::Direct::alu_on_word))]
-    pub(crate) fn alu_word(&mut self, op: AluOp, operand: WordOperand, number: u16)
-        ensures { self.new ≡ alu_on_word self.old op operand number }
+    pub(crate) fn alu_word(&mut self, op: AluOp, operand: &WordOperand, number: u16)
+        ensures { self.new ≡ alu_on_word self.old op operand.now number }
     {
         let value = self.word_value(operand);
         let carry = self.registers.carry;
@@ -231,43 +232,43 @@ impl Machine {
     }
 
     #[tactic(auto, unfolding(crate::specs::Direct::alu_on_pair))]
-    pub(crate) fn alu_pair(&mut self, op: AluOp, pair: Pair)
-        ensures { self.new ≡ alu_on_pair self.old op pair }
+    pub(crate) fn alu_pair(&mut self, op: AluOp, pair: &Pair)
+        ensures { self.new ≡ alu_on_pair self.old op pair.now }
     {
         match pair {
             Pair::RmByte(operand, register) => {
-                let number = self.registers.byte_reg(register);
+                let number = self.registers.byte_reg(*register);
                 self.alu_byte(op, operand, number);
             }
             Pair::RmWord(operand, register) => {
-                let number = self.registers.word_reg(register);
+                let number = self.registers.word_reg(*register);
                 self.alu_word(op, operand, number);
             }
             Pair::ByteRm(register, operand) => {
                 let number = self.byte_value(operand);
-                self.alu_byte(op, ByteOperand::Reg(register), number);
+                self.alu_byte(op, &ByteOperand::Reg(*register), number);
             }
             Pair::WordRm(register, operand) => {
                 let number = self.word_value(operand);
-                self.alu_word(op, WordOperand::Reg(register), number);
+                self.alu_word(op, &WordOperand::Reg(*register), number);
             }
         }
     }
 
     #[tactic(auto, unfolding(crate::specs::Direct::alu_on_immediate))]
-    pub(crate) fn alu_immediate(&mut self, op: AluOp, immediate: Immediate)
-        ensures { self.new ≡ alu_on_immediate self.old op immediate }
+    pub(crate) fn alu_immediate(&mut self, op: AluOp, immediate: &Immediate)
+        ensures { self.new ≡ alu_on_immediate self.old op immediate.now }
     {
         match immediate {
-            Immediate::Byte(operand, number) => self.alu_byte(op, operand, number),
-            Immediate::Word(operand, number) => self.alu_word(op, operand, number),
+            Immediate::Byte(operand, number) => self.alu_byte(op, operand, *number),
+            Immediate::Word(operand, number) => self.alu_word(op, operand, *number),
         }
     }
 
     #[tactic(auto, unfolding(crate::specs::Direct::negated))]
-    fn negate(&mut self, target: Target, value: u16)
-        requires { value < size (width_of target) }
-        ensures { self.new ≡ negated self.old target value }
+    fn negate(&mut self, target: &Target, value: u16)
+        requires { value < size (width_of target.now) }
+        ensures { self.new ≡ negated self.old target.now value }
     {
         let width = width_of(target);
         let outcome = subtract(width, 0, value, false);
@@ -296,10 +297,10 @@ impl Machine {
     }
 
     #[tactic(auto, unfolding(crate::specs::Direct::unary_on))]
-    pub(crate) fn unary(&mut self, op: UnaryOp, target: Target, value: u16) -> Event
-        requires { value < size (width_of target) }
-        ensures state { self.new ≡ (unary_on self.old op target value).0 }
-        ensures event { result ≡ (unary_on self.old op target value).1 }
+    pub(crate) fn unary(&mut self, op: UnaryOp, target: &Target, value: u16) -> Event
+        requires { value < size (width_of target.now) }
+        ensures state { self.new ≡ (unary_on self.old op target.now value).0 }
+        ensures event { result ≡ (unary_on self.old op target.now value).1 }
     {
         let width = width_of(target);
         match op {
@@ -313,9 +314,9 @@ impl Machine {
     }
 
     #[tactic(auto, unfolding(crate::specs::Direct::shifted_to))]
-    fn shift_to(&mut self, op: ShiftOp, count: u8, target: Target, before: u16, after: Shifted)
-        requires { after.value < size (width_of target) }
-        ensures { self.new ≡ shifted_to self.old op count target before after }
+    fn shift_to(&mut self, op: ShiftOp, count: u8, target: &Target, before: u16, after: Shifted)
+        requires { after.value < size (width_of target.now) }
+        ensures { self.new ≡ shifted_to self.old op count target.now before after }
     {
         self.registers
             .set_shift_flags(op, width_of(target), count, before, after);
@@ -324,8 +325,8 @@ impl Machine {
 
     /// A shift by no place changes nothing.
     #[tactic(auto, unfolding(crate::specs::Direct::shifted_by))]
-    pub(crate) fn shift(&mut self, op: ShiftOp, count: u8, target: Target)
-        ensures { self.new ≡ shifted_by self.old op count target }
+    pub(crate) fn shift(&mut self, op: ShiftOp, count: u8, target: &Target)
+        ensures { self.new ≡ shifted_by self.old op count target.now }
     {
         if count != 0 {
             let before = self.target_value(target);

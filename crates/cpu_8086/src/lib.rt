@@ -3,7 +3,9 @@
 
 mod arithmetic;
 mod compute;
+mod decoded;
 mod execute;
+mod hardware;
 mod laws;
 mod machine;
 mod memory;

@@ -7,7 +7,7 @@ ghost use Rattle.cpu_8086.specs.Operand.{word_reg, with_word_reg, byte_reg, with
 ghost use Rattle.cpu_8086.specs.Direct.{chosen, segment_of, seg_reg, byte_value, word_value, with_byte, with_word, target_value, with_target};
 
 use crate::arithmetic::sign_extend;
-use crate::machine::Machine;
+use crate::hardware::Hardware;
 use crate::registers::Registers;
 use x86_table::{
     Base, ByteOperand, ByteReg, DataSeg, IndirectBase, Memory, Place, SegReg, Target, Width,
@@ -15,8 +15,8 @@ use x86_table::{
 };
 
 /// The width of an operand that may have either.
-pub fn width_of(target: Target) -> Width
-    ensures { result ≡ width_of target }
+pub fn width_of(target: &Target) -> Width
+    ensures { result ≡ width_of target.now }
 {
     match target {
         Target::Byte(_) => Width::Byte,
@@ -148,36 +148,36 @@ impl Registers {
 
     /// The effective address.
     #[tactic(auto, unfolding(crate::specs::Operand::offset_of))]
-    pub(crate) fn offset_of(&self, place: Place) -> u16
-        ensures { result ≡ offset_of self.now place }
+    pub(crate) fn offset_of(&self, place: &Place) -> u16
+        ensures { result ≡ offset_of self.now place.now }
     {
         match place {
-            Place::Direct(offset) => offset,
-            Place::Indirect(base) => (self.base_sum(plain_base(base)) % 0x1_0000) as u16,
+            Place::Direct(offset) => *offset,
+            Place::Indirect(base) => (self.base_sum(plain_base(*base)) % 0x1_0000) as u16,
             Place::ByteDisplacement(base, distance) => {
-                ((self.base_sum(base) + u32::from(sign_extend(distance))) % 0x1_0000) as u16
+                ((self.base_sum(*base) + u32::from(sign_extend(*distance))) % 0x1_0000) as u16
             }
             Place::WordDisplacement(base, distance) => {
-                ((self.base_sum(base) + u32::from(distance)) % 0x1_0000) as u16
+                ((self.base_sum(*base) + u32::from(*distance)) % 0x1_0000) as u16
             }
         }
     }
 
     /// The segment that serves where there is no override.
     #[tactic(auto, unfolding(crate::specs::Operand::usual_segment))]
-    pub(crate) fn usual_segment(&self, place: Place) -> u16
-        ensures { result ≡ usual_segment self.now place }
+    pub(crate) fn usual_segment(&self, place: &Place) -> u16
+        ensures { result ≡ usual_segment self.now place.now }
     {
         match place {
             Place::Direct(_) => self.ds,
-            Place::Indirect(base) => self.base_segment(plain_base(base)),
-            Place::ByteDisplacement(base, _) => self.base_segment(base),
-            Place::WordDisplacement(base, _) => self.base_segment(base),
+            Place::Indirect(base) => self.base_segment(plain_base(*base)),
+            Place::ByteDisplacement(base, _) => self.base_segment(*base),
+            Place::WordDisplacement(base, _) => self.base_segment(*base),
         }
     }
 }
 
-impl Machine {
+impl Hardware {
     pub(crate) fn seg_reg(&self, register: SegReg) -> u16
         ensures { result ≡ seg_reg self.now register }
     {
@@ -200,74 +200,74 @@ impl Machine {
         }
     }
 
-    pub(crate) fn segment_of(&self, memory: Memory) -> u16
-        ensures { result ≡ segment_of self.now memory }
+    pub(crate) fn segment_of(&self, memory: &Memory) -> u16
+        ensures { result ≡ segment_of self.now memory.now }
     {
-        self.chosen(self.registers.usual_segment(memory.place), memory.segment)
+        self.chosen(self.registers.usual_segment(&memory.place), memory.segment)
     }
 
     #[tactic(auto, unfolding(crate::specs::Direct::byte_value))]
-    pub(crate) fn byte_value(&self, operand: ByteOperand) -> u8
-        ensures { result ≡ byte_value self.now operand }
+    pub(crate) fn byte_value(&self, operand: &ByteOperand) -> u8
+        ensures { result ≡ byte_value self.now operand.now }
     {
         match operand {
-            ByteOperand::Reg(register) => self.registers.byte_reg(register),
+            ByteOperand::Reg(register) => self.registers.byte_reg(*register),
             ByteOperand::Mem(memory) => {
                 self.load_byte(
                     self.segment_of(memory),
-                    self.registers.offset_of(memory.place),
+                    self.registers.offset_of(&memory.place),
                 )
             }
         }
     }
 
     #[tactic(auto, unfolding(crate::specs::Direct::word_value))]
-    pub(crate) fn word_value(&self, operand: WordOperand) -> u16
-        ensures { result ≡ word_value self.now operand }
+    pub(crate) fn word_value(&self, operand: &WordOperand) -> u16
+        ensures { result ≡ word_value self.now operand.now }
     {
         match operand {
-            WordOperand::Reg(register) => self.registers.word_reg(register),
+            WordOperand::Reg(register) => self.registers.word_reg(*register),
             WordOperand::Mem(memory) => {
                 self.load_word(
                     self.segment_of(memory),
-                    self.registers.offset_of(memory.place),
+                    self.registers.offset_of(&memory.place),
                 )
             }
         }
     }
 
     #[tactic(auto, unfolding(crate::specs::Direct::with_byte))]
-    pub(crate) fn set_byte_value(&mut self, operand: ByteOperand, value: u8)
-        ensures { self.new ≡ with_byte self.old operand value }
+    pub(crate) fn set_byte_value(&mut self, operand: &ByteOperand, value: u8)
+        ensures { self.new ≡ with_byte self.old operand.now value }
     {
         match operand {
-            ByteOperand::Reg(register) => self.registers.set_byte_reg(register, value),
+            ByteOperand::Reg(register) => self.registers.set_byte_reg(*register, value),
             ByteOperand::Mem(memory) => {
                 let segment = self.segment_of(memory);
-                let offset = self.registers.offset_of(memory.place);
+                let offset = self.registers.offset_of(&memory.place);
                 self.store_byte(segment, offset, value);
             }
         }
     }
 
     #[tactic(auto, unfolding(crate::specs::Direct::with_word))]
-    pub(crate) fn set_word_value(&mut self, operand: WordOperand, value: u16)
-        ensures { self.new ≡ with_word self.old operand value }
+    pub(crate) fn set_word_value(&mut self, operand: &WordOperand, value: u16)
+        ensures { self.new ≡ with_word self.old operand.now value }
     {
         match operand {
-            WordOperand::Reg(register) => self.registers.set_word_reg(register, value),
+            WordOperand::Reg(register) => self.registers.set_word_reg(*register, value),
             WordOperand::Mem(memory) => {
                 let segment = self.segment_of(memory);
-                let offset = self.registers.offset_of(memory.place);
+                let offset = self.registers.offset_of(&memory.place);
                 self.store_word(segment, offset, value);
             }
         }
     }
 
     #[tactic(auto, unfolding(crate::specs::Direct::target_value))]
-    pub(crate) fn target_value(&self, target: Target) -> u16
-        ensures value { result ≡ target_value self.now target }
-        ensures fits { result < size (width_of target) }
+    pub(crate) fn target_value(&self, target: &Target) -> u16
+        ensures value { result ≡ target_value self.now target.now }
+        ensures fits { result < size (width_of target.now) }
     {
         match target {
             Target::Byte(operand) => u16::from(self.byte_value(operand)),
@@ -276,9 +276,9 @@ impl Machine {
     }
 
     #[tactic(auto, unfolding(crate::specs::Direct::with_target))]
-    pub(crate) fn set_target(&mut self, target: Target, value: u16)
-        requires { value < size (width_of target) }
-        ensures { self.new ≡ with_target self.old target value }
+    pub(crate) fn set_target(&mut self, target: &Target, value: u16)
+        requires { value < size (width_of target.now) }
+        ensures { self.new ≡ with_target self.old target.now value }
     {
         match target {
             Target::Byte(operand) => self.set_byte_value(operand, value as u8),

@@ -5,7 +5,7 @@ ghost use Rattle.cpu_8086.specs.Access.{lowered, raised};
 ghost use Rattle.cpu_8086.specs.Effect.{index_after, indices_after};
 ghost use Rattle.cpu_8086.specs.Direct.{moved_pair, moved_immediate, pushed, pushed_register, top_word, popped_register, popped_segment, first_word, second_word, exchanged, called, called_far, returned, returned_far, moved_byte, moved_bytes, moved_from};
 
-use crate::machine::Machine;
+use crate::hardware::Hardware;
 use crate::registers::Registers;
 use x86_table::{DataSeg, Immediate, Memory, Pair, SegReg, WordOperand, WordReg};
 
@@ -45,38 +45,38 @@ impl Registers {
     }
 }
 
-impl Machine {
+impl Hardware {
     #[tactic(auto, unfolding(crate::specs::Direct::moved_pair))]
-    pub(crate) fn move_pair(&mut self, pair: Pair)
-        ensures { self.new ≡ moved_pair self.old pair }
+    pub(crate) fn move_pair(&mut self, pair: &Pair)
+        ensures { self.new ≡ moved_pair self.old pair.now }
     {
         match pair {
             Pair::RmByte(operand, register) => {
-                let value = self.registers.byte_reg(register);
+                let value = self.registers.byte_reg(*register);
                 self.set_byte_value(operand, value);
             }
             Pair::RmWord(operand, register) => {
-                let value = self.registers.word_reg(register);
+                let value = self.registers.word_reg(*register);
                 self.set_word_value(operand, value);
             }
             Pair::ByteRm(register, operand) => {
                 let value = self.byte_value(operand);
-                self.registers.set_byte_reg(register, value);
+                self.registers.set_byte_reg(*register, value);
             }
             Pair::WordRm(register, operand) => {
                 let value = self.word_value(operand);
-                self.registers.set_word_reg(register, value);
+                self.registers.set_word_reg(*register, value);
             }
         }
     }
 
     #[tactic(auto, unfolding(crate::specs::Direct::moved_immediate))]
-    pub(crate) fn move_immediate(&mut self, immediate: Immediate)
-        ensures { self.new ≡ moved_immediate self.old immediate }
+    pub(crate) fn move_immediate(&mut self, immediate: &Immediate)
+        ensures { self.new ≡ moved_immediate self.old immediate.now }
     {
         match immediate {
-            Immediate::Byte(operand, value) => self.set_byte_value(operand, value),
-            Immediate::Word(operand, value) => self.set_word_value(operand, value),
+            Immediate::Byte(operand, value) => self.set_byte_value(operand, *value),
+            Immediate::Word(operand, value) => self.set_word_value(operand, *value),
         }
     }
 
@@ -128,26 +128,26 @@ impl Machine {
     }
 
     /// The word of a memory operand.
-    pub(crate) fn first_word(&self, memory: Memory) -> u16
-        ensures { result ≡ first_word self.now memory }
+    pub(crate) fn first_word(&self, memory: &Memory) -> u16
+        ensures { result ≡ first_word self.now memory.now }
     {
         self.load_word(
             self.segment_of(memory),
-            self.registers.offset_of(memory.place),
+            self.registers.offset_of(&memory.place),
         )
     }
 
     /// The word behind that of a memory operand.
-    pub(crate) fn second_word(&self, memory: Memory) -> u16
-        ensures { result ≡ second_word self.now memory }
+    pub(crate) fn second_word(&self, memory: &Memory) -> u16
+        ensures { result ≡ second_word self.now memory.now }
     {
-        let offset = self.registers.offset_of(memory.place).wrapping_add(2);
+        let offset = self.registers.offset_of(&memory.place).wrapping_add(2);
         self.load_word(self.segment_of(memory), offset)
     }
 
     #[tactic(auto, unfolding(crate::specs::Direct::exchanged))]
-    pub(crate) fn exchange(&mut self, operand: WordOperand, register: WordReg)
-        ensures { self.new ≡ exchanged self.old operand register }
+    pub(crate) fn exchange(&mut self, operand: &WordOperand, register: WordReg)
+        ensures { self.new ≡ exchanged self.old operand.now register }
     {
         let value = self.word_value(operand);
         let other = self.registers.word_reg(register);

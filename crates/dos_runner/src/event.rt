@@ -183,6 +183,7 @@ fn dos_call<S: Source, K: Sink, E: Sink>(
 }
 
 /// What INT with this number does, at this place.
+#[inline(never)]
 fn serve<S: Source, K: Sink, E: Sink>(
     machine: &mut Machine,
     number: u8,
@@ -234,6 +235,7 @@ fn serve<S: Source, K: Sink, E: Sink>(
 
 /// Finishes an event whose instruction, which stands at this place, was stepped over: the DOS function or the stop that it
 /// asks for. None where the process goes on.
+#[inline(always)]
 pub fn finish_step<S: Source, K: Sink, E: Sink>(
     machine: &mut Machine,
     event: Event,

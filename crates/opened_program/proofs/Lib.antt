@@ -1,2 +1,3 @@
 pub mod MatchLaws
 pub mod OpenLaws
+pub mod ReasonLaws

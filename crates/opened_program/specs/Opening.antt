@@ -115,3 +115,9 @@ IsRefused bytes name held buffer (errors.OverlayFileDamaged at) =
 IsRefused bytes name held buffer errors.FilesFault = Unit {0}
 IsRefused bytes name held buffer errors.NoMemory = Unit {0}
 IsRefused bytes name held buffer error = IsMisfitOf bytes held buffer error
+
+-- Want of memory and faults of the files have no reason in the bytes. Each other answer has.
+abbrev pub HasReason : OpenError → Type 0
+HasReason errors.FilesFault = ⊥
+HasReason errors.NoMemory = ⊥
+HasReason error = Unit {0}

@@ -3,6 +3,7 @@
 #![tactic(auto)]
 
 mod error;
+mod laws;
 mod matching;
 mod opening;
 mod stubs;
@@ -10,4 +11,5 @@ mod stubs;
 mod tests;
 
 pub use error::OpenError;
+pub use laws::one_reason;
 pub use opening::{Opened, open_program};

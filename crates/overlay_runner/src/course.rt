@@ -31,6 +31,7 @@ pub struct Part {
 
 impl Course {
     /// Serves INT with this number, which stands at this place. None where the process goes on.
+    #[inline(never)]
     fn serve<F: Files, S: Source, K: Sink, E: Sink>(
         &mut self,
         number: u8,

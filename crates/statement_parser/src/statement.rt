@@ -25,6 +25,7 @@ use std::alloc::Global;
 use syntax_tree::{CaseArm, CaseElse, CompoundStatement, ElsePart, Statement, WithRest};
 
 #[cycle(statements)]
+#[inline(never)]
 #[tactic(auto, unfolding(crate::specs::Reading::statement_by))]
 pub fn next_statement(
     alloc: Global,
@@ -53,6 +54,7 @@ pub fn next_statement(
 
 /// The statements between `begin`, which stands there, and `end`, and what stands behind them.
 #[cycle(statements)]
+#[inline(never)]
 #[tactic(auto, unfolding(crate::specs::Reading::compound_at))]
 pub fn next_compound(
     alloc: Global,
@@ -70,6 +72,7 @@ pub fn next_compound(
 
 // Statements with semicolons between them, at least one.
 #[cycle(statements)]
+#[inline(never)]
 #[tactic(auto, unfolding(crate::specs::Reading::statements_at))]
 fn next_statements(
     alloc: Global,
@@ -90,6 +93,7 @@ fn next_statements(
 }
 
 #[cycle(statements)]
+#[inline(never)]
 #[tactic(auto, unfolding(crate::specs::Reading::if_at))]
 fn next_if(
     alloc: Global,
@@ -109,6 +113,7 @@ fn next_if(
 
 // The `else` of the innermost `if` that is open.
 #[cycle(statements)]
+#[inline(never)]
 #[tactic(auto, unfolding(crate::specs::Reading::else_by))]
 fn next_else(
     alloc: Global,
@@ -126,6 +131,7 @@ fn next_else(
 }
 
 #[cycle(statements)]
+#[inline(never)]
 #[tactic(auto, unfolding(crate::specs::Reading::case_at))]
 fn next_case(
     alloc: Global,
@@ -150,6 +156,7 @@ fn next_case(
 
 // The arms of a `case`, of which the first was read, and whether a semicolon stands behind the last.
 #[cycle(statements)]
+#[inline(never)]
 fn next_arms(
     alloc: Global,
     depth: u32,
@@ -172,6 +179,7 @@ fn next_arms(
 }
 
 #[cycle(statements)]
+#[inline(never)]
 #[tactic(auto, unfolding(crate::specs::Reading::arm_at))]
 fn next_arm(
     alloc: Global,
@@ -188,6 +196,7 @@ fn next_arm(
 }
 
 #[cycle(statements)]
+#[inline(never)]
 #[tactic(auto, unfolding(crate::specs::Reading::case_else_by))]
 fn next_case_else(
     alloc: Global,
@@ -205,6 +214,7 @@ fn next_case_else(
 }
 
 #[cycle(statements)]
+#[inline(never)]
 #[tactic(auto, unfolding(crate::specs::Reading::while_at))]
 fn next_while(
     alloc: Global,
@@ -222,6 +232,7 @@ fn next_while(
 }
 
 #[cycle(statements)]
+#[inline(never)]
 #[tactic(auto, unfolding(crate::specs::Reading::repeat_at))]
 fn next_repeat(
     alloc: Global,
@@ -239,6 +250,7 @@ fn next_repeat(
 }
 
 #[cycle(statements)]
+#[inline(never)]
 #[tactic(auto, unfolding(crate::specs::Reading::for_at))]
 fn next_for(
     alloc: Global,
@@ -261,6 +273,7 @@ fn next_for(
 }
 
 #[cycle(statements)]
+#[inline(never)]
 #[tactic(auto, unfolding(crate::specs::Reading::with_at))]
 fn next_with(
     alloc: Global,
@@ -277,6 +290,7 @@ fn next_with(
 }
 
 #[cycle(statements)]
+#[inline(never)]
 #[tactic(auto, unfolding(crate::specs::Reading::with_rest_by))]
 fn next_with_rest(
     alloc: Global,

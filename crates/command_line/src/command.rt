@@ -1,0 +1,27 @@
+//! What the words of a command line ask for.
+
+use type_layout::Name;
+
+/// What the words of `run` say besides the program's name.
+#[derive(Clone, Copy, PartialEq, Eq, Debug)]
+pub struct RunOptions {
+    /// The paragraphs of the overlay buffer.
+    pub buffer: Option<u16>,
+    /// How many instructions the program may take.
+    pub limit: Option<u64>,
+    /// How many paragraphs of overlays that live returns need are kept and moved.
+    pub retry: Option<u16>,
+}
+
+/// What the words ask for.
+#[derive(Debug, Drop)]
+pub enum Command {
+    /// To read, build, write and run this program.
+    Go { name: Name },
+    /// To run this program from its files.
+    Run { name: Name, options: RunOptions },
+    /// To say what words there are.
+    Help,
+    /// To say which version this is.
+    Version,
+}

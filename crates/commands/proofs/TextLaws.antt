@@ -1,0 +1,81 @@
+-- Words that ask for a text, and what comes of it.
+use Rattle.std.proofs.Common.{◌≡◌, ◌⊎◌, inl, inr, ℕ, List, [], ◌∷◌, Option, sym, ap, ◌∙◌, refl, subst, arith}
+use Rattle.std.specs.Prelude.{codes, slice_get, slice_index, unwrap_or}
+use Rattle.std.specs.Io.KnownBytes.{append_known}
+use Rattle.tp_outside.specs.Faults.{HasRisen}
+use Rattle.tp_outside.proofs.Known.{append_known-nil}
+use Rattle.command_line.specs.declared.command.RunOptions.{RunOptions}
+use Rattle.command_line.specs.Words.{IsGo, IsRun, IsHelp, IsVersion}
+use Rattle.command_line.proofs.LineLaws.{help_not, version_not}
+use Rattle.commands.specs.declared.outcome.Outcome.{Outcome}
+use Rattle.commands.specs.declared.outcome.Outcome.TheVariants as outcome
+use Rattle.commands.specs.Line.{line_of}
+use Rattle.commands.specs.Performs.{Shown, DidShow}
+use Rattle.commands.specs.Texts.{IsTextOf}
+use Rattle.commands.specs.Turbo.{IsFault, Faults, Unchanged, Told}
+use Rattle.commands.specs.World.{World}
+use Rattle.commands.proofs.GoLaws.{told}
+
+pub not_go : (words : List (List ℕ)) (text name : List ℕ) → IsTextOf words text → IsGo words name → ⊥
+not_go words text name (inl help) go = help_not words help.0 go.fits
+not_go words text name (inr version) go = version_not words version.0 go.fits
+
+pub not_run : (words : List (List ℕ)) (text name : List ℕ) (options : RunOptions) → IsTextOf words text → IsRun words name options → ⊥
+not_run words text name options (inl help) run = help_not words help.0 run.fits
+not_run words text name options (inr version) run = version_not words version.0 run.fits
+
+pub no_text : (words : List (List ℕ)) → (IsHelp words → ⊥) → (IsVersion words → ⊥) → (text : List ℕ) → IsTextOf words text → ⊥
+no_text words no_help no_version text (inl help) = no_help help.0
+no_text words no_help no_version text (inr version) = no_version version.0
+
+apart : ◌≡◌ {A = ℕ} 104 118 → ⊥
+apart e = omega arith
+
+differ : (words : List (List ℕ)) → words ≡ codes "--help" ∷ [] → words ≡ codes "--version" ∷ [] → ⊥
+differ words help version = apart (ap (λ (ws : List (List ℕ)). slice_index (unwrap_or (slice_get ws 0) []) 2) (sym help ∙ version))
+
+-- words ask for one text
+one_text : (words : List (List ℕ)) (a b : List ℕ) → IsTextOf words a → IsTextOf words b → a ≡ b
+one_text words a b (inl x) (inl y) = x.1 ∙ sym y.1
+one_text words a b (inr x) (inr y) = x.1 ∙ sym y.1
+one_text words a b (inl x) (inr y) = absurd (differ words x.0 y.0)
+one_text words a b (inr x) (inl y) = absurd (differ words y.0 x.0)
+
+pub fault : (result : Outcome) (text : List ℕ) (old mid : World) (errors : Option (List ℕ)) (faults : ℕ) → Shown result text old.streams.output mid.streams.output old.streams.output_faults mid.streams.output_faults
+    → Faults old (told mid errors faults) result
+fault outcome.Done text old mid errors faults shown = tt
+fault outcome.OutputFault text old mid errors faults shown = shown
+fault other text old mid errors faults shown = absurd shown
+
+pub unchanged : (result : Outcome) (words : List (List ℕ)) (text : List ℕ) (old mid : World) (errors : Option (List ℕ)) (faults : ℕ) → Shown result text old.streams.output mid.streams.output old.streams.output_faults mid.streams.output_faults
+    → Unchanged words old (told mid errors faults) result
+unchanged outcome.Done words text old mid errors faults shown = tt
+unchanged outcome.OutputFault words text old mid errors faults shown = tt
+unchanged other words text old mid errors faults shown = absurd shown
+
+ended : (result : Outcome) (text : List ℕ) (old mid : World) (errors : Option (List ℕ)) (faults : ℕ) → Shown result text old.streams.output mid.streams.output old.streams.output_faults mid.streams.output_faults
+    → mid.streams.errors ≡ old.streams.errors → errors ≡ append_known mid.streams.errors (line_of result)
+    → ((result ≡ outcome.Done) × (mid.streams.output ≡ append_known old.streams.output text) × (errors ≡ old.streams.errors)) ⊎ IsFault result old (told mid errors faults)
+ended outcome.Done text old mid errors faults shown kept line = inl (refl, shown, line ∙ append_known-nil mid.streams.errors ∙ kept)
+ended outcome.OutputFault text old mid errors faults shown kept line = inr shown
+ended other text old mid errors faults shown kept line = absurd shown
+
+pub tells_with_line : (result : Outcome) (words : List (List ℕ)) (old mid : World) (errors : Option (List ℕ)) (faults : ℕ) (text : List ℕ) → DidShow result words old mid → errors ≡ append_known mid.streams.errors (line_of result)
+    → IsTextOf words text → Told text old (told mid errors faults) result
+tells_with_line result words old mid errors faults text shown line asked =
+    subst (λ (t : List ℕ). Told t old (told mid errors faults) result) (one_text words shown.text text shown.asked asked) (record {
+      ended = ended result shown.text old mid errors faults shown.shown shown.errors line;
+      front = shown.front;
+      folder = shown.folder;
+      input = shown.input;
+    })
+
+pub tells_without_line : (inner : Outcome) (words : List (List ℕ)) (old mid : World) (errors : Option (List ℕ)) (faults : ℕ) (text : List ℕ) → DidShow inner words old mid → HasRisen old.streams.errors_faults faults
+    → IsTextOf words text → Told text old (told mid errors faults) outcome.ErrorsFault
+tells_without_line inner words old mid errors faults text shown rose asked =
+    subst (λ (t : List ℕ). Told t old (told mid errors faults) outcome.ErrorsFault) (one_text words shown.text text shown.asked asked) (record {
+      ended = inr rose;
+      front = shown.front;
+      folder = shown.folder;
+      input = shown.input;
+    })

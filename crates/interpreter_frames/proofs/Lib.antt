@@ -1,0 +1,4 @@
+pub mod Lists
+pub mod Again
+pub mod Moves
+pub mod Framed

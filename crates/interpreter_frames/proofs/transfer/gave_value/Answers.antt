@@ -1,0 +1,15 @@
+use Rattle.std.proofs.Common.{ap}
+use Rattle.meaning.specs.Trees.{Value}
+use Rattle.meaning.specs.Activations.{Reached}
+use Rattle.meaning.specs.Calls.{Flow}
+use Rattle.meaning.specs.Outcomes.{Outcome, and_then}
+use Rattle.activations.specs.Views.{view_activation}
+use Rattle.interpreter_steps.proofs.Ends.{ends_bind}
+use Rattle.interpreter_frames.specs.Frames.{rest_of}
+use Rattle.interpreter_frames.proofs.transfer.gave_value.Goals as goal
+
+pub returns-in-Ok : goal.returns-in-Ok
+returns-in-Ok c = λ p work s o e. ap (λ (x : Outcome Value). and_then x (λ (v : Value). (rest_of p work).value v (view_activation work.f))) (rw c.in-Ok.is at e)
+
+pub returns-in-Err : goal.returns-in-Err
+returns-in-Err c = λ p work s o e. ends_bind c.in-Err.over s o _ (rw c.in-Err.is at e)

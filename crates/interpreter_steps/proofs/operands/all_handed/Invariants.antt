@@ -1,0 +1,9 @@
+-- The arguments so far are handed.
+use Rattle.std.proofs.Common.{◌≡◌, map}
+use Rattle.meaning.specs.Standard.{handed}
+use Rattle.cell_store.specs.Views.{view_value}
+use Rattle.standard_effects.specs.Operands.{view_operand}
+use Rattle.interpreter_steps.proofs.operands.all_handed.Given as goal
+
+abbrev pub invariant-operands : goal.invariant-operands
+invariant-operands l = map view_value l.values.items ≡ map handed (map view_operand l.yielded)

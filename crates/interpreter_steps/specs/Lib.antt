@@ -1,0 +1,4 @@
+pub mod Running
+pub mod Places
+pub mod Entering
+pub mod StatementParts

@@ -1,0 +1,33 @@
+//! Arguments of calls.
+
+ghost use Rattle.std.specs.Prelude.{◌≡◌, ◌++◌, ◌∷◌, [], map, IfOk};
+ghost use Rattle.meaning.specs.Standard.{handed};
+ghost use Rattle.cell_store.specs.Views.{view_value};
+ghost use Rattle.standard_effects.specs.Operands.{view_operand};
+
+use cell_store::Value;
+use standard_effects::{Operand, handed};
+use std::alloc::{AllocError, Global};
+
+/// The arguments as they are handed to a routine of the sources.
+pub fn all_handed(alloc: Global, args: Vec<Operand>) -> Result<Vec<Value>, AllocError>
+    ensures { IfOk result (λ values. map view_value values.items ≡ map handed (map view_operand args.entry.items)) }
+{
+    let mut values = Vec::new(alloc);
+    'operands: for operand in args {
+        values.push(handed(operand))?;
+    }
+    Ok(values)
+}
+
+/// An argument behind others.
+pub fn operand_behind<'a>(
+    front: Vec<Operand<'a>>,
+    last: Operand<'a>,
+) -> Result<Vec<Operand<'a>>, AllocError>
+    ensures { IfOk result (λ all. map view_operand all.items ≡ map view_operand front.entry.items ++ view_operand last.entry ∷ []) }
+{
+    let mut all = front;
+    all.push(last)?;
+    Ok(all)
+}

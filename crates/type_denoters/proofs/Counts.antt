@@ -1,0 +1,29 @@
+-- How many types of a unit are among the first of a table.
+use Rattle.std.proofs.Common.{◌≡◌, ◌≤◌, ℕ, zero, suc, ◌+◌, min, List, [], ◌∷◌, ◌++◌, length, take, Some, refl, ap, ◌∙◌, arith, add-one}
+use Rattle.std.specs.List.{sum_by}
+use Rattle.std.specs.Prelude.{slice_get}
+use Rattle.std.proofs.lemmas.List.{take_all}
+use Rattle.std.proofs.lemmas.List.Sums.{sum_by-append}
+use Rattle.type_layout.specs.declared.definitions.Origin.{Origin}
+use Rattle.type_denoters.specs.Additions.{one_of}
+
+take-next : {A : Type 0} → (all : List A) (place : ℕ) (one : A) → slice_get all place ≡ Some one → take (suc place) all ≡ take place all ++ one ∷ []
+take-next [] zero one at = cc
+take-next [] (suc place) one at = cc
+take-next (x ∷ xs) zero one at =
+    let same : x ≡ one = cc in
+    rw same refl
+take-next {A} (x ∷ xs) (suc place) one at = ap (λ (rest : List A). x ∷ rest) (take-next xs place one at)
+
+-- one type more is looked at
+pub next_count : (place : ℕ) (origins : List Origin) (number count : ℕ) (one : Origin) → slice_get origins number ≡ Some one
+    → count ≡ min (sum_by (one_of place) (take number origins)) 4294967295
+    → min (count + one_of place one) 4294967295 ≡ min (sum_by (one_of place) (take (number + 1) origins)) 4294967295
+next_count place origins number count one at is =
+    rw (add-one, take-next origins number one at, sum_by-append (one_of place) (take number origins) (one ∷ []), is) (omega arith)
+
+-- all are
+pub whole_count : (place : ℕ) (origins : List Origin) (number count : ℕ) → length origins ≤ number
+    → count ≡ min (sum_by (one_of place) (take number origins)) 4294967295
+    → count ≡ min (sum_by (one_of place) origins) 4294967295
+whole_count place origins number count past is = is ∙ ap (λ (all : List Origin). min (sum_by (one_of place) all) 4294967295) (take_all number origins past)
