@@ -13,12 +13,12 @@ use Rattle.flat_code.specs.Program.{Choice, named}
 use Rattle.flat_code.specs.Values.{Frame, stack_place, linked, if_placed, place_of}
 use Rattle.code_expressions.proofs.States.{word_no_division}
 
-bind_no : {A B : Type 0} (found : Found A) (go : A → Found B) → (found ≡ Err ByZero → ⊥) → ((v : A) → go v ≡ Err ByZero → ⊥) → (found >>= go) ≡ Err ByZero → ⊥
+pub bind_no : {A B : Type 0} (found : Found A) (go : A → Found B) → (found ≡ Err ByZero → ⊥) → ((v : A) → go v ≡ Err ByZero → ⊥) → (found >>= go) ≡ Err ByZero → ⊥
 bind_no (Ok v) go a b e = b v e
 bind_no (Err ByZero) go a b e = a refl
 bind_no (Err (Bad cause)) go a b e = absurd (cc)
 
-placed_no : {A : Type 0} (o : Option A) → if_placed o ≡ Err ByZero → ⊥
+pub placed_no : {A : Type 0} (o : Option A) → if_placed o ≡ Err ByZero → ⊥
 placed_no None e = absurd (cc)
 placed_no (Some v) e = absurd (cc)
 

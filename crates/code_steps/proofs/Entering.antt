@@ -23,7 +23,7 @@ use Rattle.code_calls.specs.Enters.{Reaches}
 use Rattle.code_steps.specs.Made.{Made, HasStack, BodyFlows}
 use Rattle.code_steps.proofs.Called.{refused_flows, activated_flows}
 
-and_not : (x y : Bool) → (x && not y) ≡ false → x ≡ true → y ≡ true
+pub and_not : (x y : Bool) → (x && not y) ≡ false → x ≡ true → y ≡ true
 and_not true true e h = refl
 and_not true false e h = absurd (cc)
 and_not false y e h = absurd (cc)

@@ -3,4 +3,4 @@
 
 mod laws;
 
-pub use laws::routine_law;
+pub use laws::{callable_law, routine_law, step_law};

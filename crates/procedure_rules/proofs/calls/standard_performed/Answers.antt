@@ -1,0 +1,10 @@
+use Rattle.std.proofs.Common.{◌≡◌, length, Some, arith}
+use Rattle.procedure_rules.specs.Rows.{slots_of}
+use Rattle.procedure_rules.proofs.Nodes.{performed_gives}
+use Rattle.procedure_rules.proofs.calls.standard_performed.Goals as goal
+
+pub returns : goal.returns
+returns c =
+    let m : c.len.result ≡ length c.args.values.items = omega (arith, c.len.ensures) in
+    let h : slots_of c.args.number c.len.result ≡ Some c.in-Some.slots = cc (c.slots_of.ensures, c.in-Some.is) in
+    performed_gives c.args.types.now.types c.args.place c.args.number c.args.values.items c.len.result c.in-Some.slots c.in_ok-args.args m h c.in_ok-args.ensures

@@ -1,0 +1,47 @@
+-- What standard procedures ask of their arguments.
+use Rattle.std.specs.Prelude.{ℕ, ◌==◌, Bool, false, ◌&&◌, ◌||◌, cond, List, [], ◌∷◌, Option, Some, None}
+use Rattle.standard_rules.specs.declared.signatures.Want.TheVariants.{Integer, Text}
+use Rattle.procedure_rules.specs.declared.rows.Slot.{Slot}
+use Rattle.procedure_rules.specs.declared.rows.Slot.TheVariants.{Value, Pointer, Ordinal, Whole, Line, Link}
+use Rattle.procedure_rules.specs.declared.rows.Slots.{Slots}
+use Rattle.procedure_rules.specs.declared.rows.Slots.TheVariants.{One, Pair, Triple}
+
+-- The standard procedures by their numbers, once for each count of arguments. Str, whose first argument may have a width, has a
+-- judgement of its own; Write, WriteLn, Read, ReadLn, Halt and Exit are statements of their own; constructors and destructors in
+-- New and Dispose are not built yet.
+unfoldable pub rows : List (ℕ × Slots)
+rows =
+    -- Inc, Dec
+    (7, One Ordinal) ∷ (7, Pair Ordinal (Value Integer)) ∷ (8, One Ordinal) ∷ (8, Pair Ordinal (Value Integer)) ∷
+    -- Delete, Insert, Val
+    (16, Triple Line (Value Integer) (Value Integer)) ∷ (17, Triple (Value Text) Line (Value Integer)) ∷ (21, Triple (Value Text) Whole Whole) ∷
+    -- New, Dispose
+    (28, One Link) ∷ (29, One Pointer) ∷
+    []
+
+-- in order
+abbrev pub listed : Slots → List Slot
+listed (One a) = a ∷ []
+listed (Pair a b) = a ∷ (b ∷ [])
+listed (Triple a b c) = a ∷ (b ∷ (c ∷ []))
+
+abbrev pub count_of : Slots → ℕ
+count_of (One a) = 1
+count_of (Pair a b) = 2
+count_of (Triple a b c) = 3
+
+-- the slots of the first row with a number and so many arguments
+abbrev pub slots_in : List (ℕ × Slots) → ℕ → ℕ → Option Slots
+slots_in [] number count = None
+slots_in (row ∷ all) number count = cond (row.0 == number && count_of row.1 == count) (Some row.1) (slots_in all number count)
+
+abbrev pub slots_of : ℕ → ℕ → Option Slots
+slots_of number count = slots_in rows number count
+
+-- whether a standard routine is one of these procedures
+abbrev pub is_listed : List (ℕ × Slots) → ℕ → Bool
+is_listed [] number = false
+is_listed (row ∷ all) number = row.0 == number || is_listed all number
+
+abbrev pub is_procedure : ℕ → Bool
+is_procedure number = is_listed rows number

@@ -1,0 +1,93 @@
+//! The table of the standard procedures.
+
+ghost use Rattle.std.specs.Prelude.{◌≡◌};
+ghost use Rattle.procedure_rules.specs.Rows.{count_of, slots_in, slots_of, is_listed, is_procedure};
+
+use standard_rules::Want;
+
+/// What is asked of an argument: a value, a pointer, or a variable of an ordinal type, of an integer type, that is a string, or
+/// that is a pointer.
+#[derive(Clone, Copy, Debug, PartialEq, Eq)]
+pub enum Slot {
+    Value(Want),
+    Pointer,
+    Ordinal,
+    Whole,
+    Line,
+    Link,
+}
+
+/// What is asked of all arguments, in order.
+#[derive(Clone, Copy, Debug, PartialEq, Eq)]
+pub enum Slots {
+    One(Slot),
+    Pair(Slot, Slot),
+    Triple(Slot, Slot, Slot),
+}
+
+const INTEGER: Slot = Slot::Value(Want::Integer);
+
+const TEXT: Slot = Slot::Value(Want::Text);
+
+// The procedures without widths by the numbers of the predeclared names, once for each count of arguments.
+const ROWS: [(u32, Slots); 9] = [
+    (7, Slots::One(Slot::Ordinal)),
+    (7, Slots::Pair(Slot::Ordinal, INTEGER)),
+    (8, Slots::One(Slot::Ordinal)),
+    (8, Slots::Pair(Slot::Ordinal, INTEGER)),
+    (16, Slots::Triple(Slot::Line, INTEGER, INTEGER)),
+    (17, Slots::Triple(TEXT, Slot::Line, INTEGER)),
+    (21, Slots::Triple(TEXT, Slot::Whole, Slot::Whole)),
+    (28, Slots::One(Slot::Link)),
+    (29, Slots::One(Slot::Pointer)),
+];
+
+fn count_of(slots: Slots) -> usize
+    ensures { result ≡ count_of slots }
+{
+    match slots {
+        Slots::One(_) => 1,
+        Slots::Pair(..) => 2,
+        Slots::Triple(..) => 3,
+    }
+}
+
+fn slots_in(rows: &[(u32, Slots)], number: u32, count: usize) -> Option<Slots>
+    ensures { result ≡ slots_in rows.now number count }
+{
+    match rows {
+        [] => None,
+        [row, rest @ ..] => {
+            if row.0 == number && count_of(row.1) == count {
+                Some(row.1)
+            } else {
+                slots_in(rest, number, count)
+            }
+        }
+    }
+}
+
+/// What is asked of so many arguments of the standard procedure with a number.
+#[tactic(auto, unfolding(crate::specs::Rows::rows))]
+pub(crate) fn slots_of(number: u32, count: usize) -> Option<Slots>
+    ensures { result ≡ slots_of number count }
+{
+    slots_in(&ROWS, number, count)
+}
+
+fn is_listed(rows: &[(u32, Slots)], number: u32) -> bool
+    ensures { result ≡ is_listed rows.now number }
+{
+    match rows {
+        [] => false,
+        [row, rest @ ..] => row.0 == number || is_listed(rest, number),
+    }
+}
+
+/// Whether the standard routine with a number is one of these procedures.
+#[tactic(auto, unfolding(crate::specs::Rows::rows))]
+pub(crate) fn is_procedure(number: u32) -> bool
+    ensures { result ≡ is_procedure number }
+{
+    is_listed(&ROWS, number)
+}

@@ -1,0 +1,390 @@
+-- Statements are judged lawfully.
+use Rattle.std.proofs.Common.{◌≡◌, ◌⊎◌, ℕ, ℤ, ◌<ℤ◌, ◌≤ℤ◌, int_lt, int_le, ◌==◌, ◌&&◌, ◌||◌, Bool, true, false, All, List, [], ◌∷◌, ◌++◌, Option, Some, None, Decides, refl, arith}
+use Rattle.std.specs.List.{list_all}
+use Rattle.std.proofs.lemmas.Int.{ints}
+use Rattle.std.proofs.lemmas.Bool.Decides.{Decides-and, Decides-or, Decides-eqb, Decides-by_and}
+use Rattle.type_layout.specs.declared.definitions.TypeId.{TypeId}
+use Rattle.type_layout.specs.declared.definitions.RoutineId.{RoutineId}
+use Rattle.type_layout.specs.declared.definitions.Header.{Header}
+use Rattle.type_layout.specs.declared.definitions.TypeDef.{TypeDef}
+use Rattle.type_layout.specs.declared.definitions.TypeDef.TheVariants as type
+use Rattle.type_layout.specs.declared.texts.Place.{Place}
+use Rattle.tp_lexer.specs.declared.token.Feature.{Feature}
+use Rattle.left_out_names.specs.Names.{feature_of}
+use Rattle.pascal_grammar.specs.declared.lexeme.Position.{Position}
+use Rattle.expression_tree.specs.Trees.{Tree, Operand, Operands, plain, wide, no_operands, and_operand, number, text, control, nil, set, call, signed, negated, combined, name, field, index, followed}
+use Rattle.statement_tree.specs.Trees.{Label, alone, from_to, Task, Tasks, Branches, empty, assignment, run, compound, choice, selection, while_loop, repeat_loop, for_loop, opened, no_tasks, and_task, no_branches, and_branch}
+use Rattle.statement_tree.specs.Places.{place_of}
+use Rattle.typed_tree.specs.declared.expressions.Variable.{Variable}
+use Rattle.typed_tree.specs.declared.statements.LabelRange.{LabelRange}
+use Rattle.typed_tree.specs.Expressions as tree
+use Rattle.typed_tree.specs.Expressions.{Expression}
+use Rattle.typed_tree.specs.Statements.{Statement, Assign, Halt, Case, With}
+use Rattle.scopes.specs.declared.entries.Entry.{Entry}
+use Rattle.scopes.specs.declared.entries.Entry.TheVariants as entry
+use Rattle.scopes.specs.Environment.{Environment, Meaning, named, member, find}
+use Rattle.well_formed.specs.Fits.{definition}
+use Rattle.constant_expressions.specs.Constants as constants
+use Rattle.constant_expressions.specs.Values.{number_of}
+use Rattle.constant_expressions.proofs.ConstantLaws as constant
+use Rattle.typing_rules.specs.declared.faults.Fault.{Fault}
+use Rattle.typing_rules.specs.declared.faults.Rule.{Rule}
+use Rattle.typing_rules.specs.declared.faults.Rule.TheVariants as rules
+use Rattle.typing_rules.specs.declared.sorts.Sort.{Sort}
+use Rattle.typing_rules.specs.declared.sorts.Sort.TheVariants as sort
+use Rattle.typing_rules.specs.Faults.{broken, not_yet}
+use Rattle.typing_rules.specs.Judgements.{Judgement, makes, refuses, rule, part, parts}
+use Rattle.typing_rules.specs.Sorts.{sort_of_type, sort_of}
+use Rattle.typing_rules.specs.Plans.{IsBoolean, is_boolean, IsInteger, is_integer, AreOfOneHost, are_of_one_host}
+use Rattle.typing_rules.specs.Assignments.{assigned}
+use Rattle.typing_rules.specs.Laws.{Lawful}
+use Rattle.typing_rules.proofs.JudgementLaws.{lawful_makes, lawful_refuses, lawful_rule, lawful_either, lawful_part, lawful_parts}
+use Rattle.typing_rules.proofs.PlanLaws.{yes, no, tells_integer, tells_one_host}
+use Rattle.typing_rules.proofs.AssignmentLaws.{lawful_assigned}
+use Rattle.call_rules.specs.Casts.{IsOrdinal, is_ordinal}
+use Rattle.call_rules.specs.Given.{performed}
+use Rattle.call_rules.proofs.CallLaws.{tells_ordinal, lawful_performed}
+use Rattle.tp_check_expr.specs.Names.{variable}
+use Rattle.tp_check_expr.specs.Typed.{judged}
+use Rattle.tp_check_expr.proofs.TypedLaws as expression
+use Rattle.tp_check_stmt.specs.declared.loops.Counter.{Counter}
+use Rattle.tp_check_stmt.specs.declared.standard.StandardStatement.{StandardStatement}
+use Rattle.tp_check_stmt.specs.declared.standard.StandardStatement.TheVariants as standard
+use Rattle.tp_check_stmt.specs.Lists.{each}
+use Rattle.tp_check_stmt.specs.Places.{Spot, spot_of, present}
+use Rattle.tp_check_stmt.specs.Asked.{such, condition, selector, IsWritable, is_writable, written_value, width, IsReadable, is_readable}
+use Rattle.tp_check_stmt.specs.Assignments.{held_target, is_inside, result_spot, result_target, meant_target, target, is_structured, copied, stored, assigned_to}
+use Rattle.tp_check_stmt.specs.Arguments.{argument, arguments}
+use Rattle.tp_check_stmt.specs.Standard.{item, written, taken_from, taken_one, taken, halted, left, standard_of, standard_run}
+use Rattle.tp_check_stmt.specs.Calls.{is_procedural, performed_entry, run_entry, run_meant, run_name, run_of}
+use Rattle.tp_check_stmt.specs.Labels.{from, label_value, label_range, AreApart, are_apart, IsNew, is_new, label_place, new_label, labelled}
+use Rattle.tp_check_stmt.specs.Loops.{IsNear, is_near, HasOrder, has_order, counter_of, counter_entry, counter_meant, counter, bound, Counted, counted_from, counted}
+use Rattle.tp_check_stmt.specs.Typed.{Armed, arms_of, block_of, three, blocked, HasMembers, has_members, opened_spot, held, within, stated, chosen, inside, listed, branched}
+
+-- ---- tests
+
+-- a catch-all stands for each that the clauses above it leave
+tells_boolean : (s : Sort) → Decides (is_boolean s) (IsBoolean s)
+tells_boolean sort.Boolean = yes
+tells_boolean _ = no
+
+tells_writable : (s : Sort) → Decides (is_writable s) (IsWritable s)
+tells_writable (sort.Integer r) = yes
+tells_writable sort.Boolean = yes
+tells_writable sort.Char = yes
+tells_writable sort.Text = yes
+tells_writable _ = no
+
+tells_readable : (s : Sort) → Decides (is_readable s) (IsReadable s)
+tells_readable (sort.Integer r) = yes
+tells_readable sort.Char = yes
+tells_readable sort.Text = yes
+tells_readable _ = no
+
+tells_order : (one : Option TypeDef) → Decides (has_order one) (HasOrder one)
+tells_order (Some (type.Ordinal host low high)) = yes
+tells_order _ = no
+
+tells_members : (one : Option TypeDef) → Decides (has_members one) (HasMembers one)
+tells_members (Some (type.RecordOf fields)) = yes
+tells_members (Some (type.ObjectOf parent dynamic fields methods)) = yes
+tells_members _ = no
+
+tells_less : (m n : ℤ) → Decides (int_lt m n) (m <ℤ n)
+tells_less m n = (λ e. grind (arith, ints), λ h. grind (arith, ints))
+
+tells_rising : (m n : ℤ) → Decides (int_le m n) (m ≤ℤ n)
+tells_rising m n = (λ e. grind (arith, ints), λ h. grind (arith, ints))
+
+tells_apart : (a b : LabelRange) → Decides (are_apart a b) (AreApart a b)
+tells_apart a b = Decides-or _ _ (tells_less a.high b.low) (tells_less b.high a.low)
+
+tells_new : (seen : List LabelRange) (one : LabelRange) → Decides (is_new seen one) (IsNew seen one)
+tells_new seen one = Decides-by_and (are_apart one) (AreApart one) (list_all (are_apart one)) (tells_apart one) refl (λ x xs. refl) seen
+
+tells_near : (one : Variable) → Decides (is_near one) (IsNear one)
+tells_near one = Decides-or _ _ (Decides-eqb one.level 1) (Decides-and _ _ (Decides-eqb one.level 0) (Decides-eqb one.unit 0))
+
+-- ---- what is shared
+
+lawful_present : {C : Type 0} (fault : Fault) (one : Option C) → Lawful (present fault one)
+lawful_present fault None = lawful_refuses _
+lawful_present fault (Some c) = lawful_makes _
+
+lawful_each : {C : Type 0} (of : Operand → Judgement C) → ((one : Operand) → Lawful (of one)) → (all : Operands) → Lawful (each of all)
+lawful_each of m no_operands = lawful_makes _
+lawful_each of m (and_operand one rest) = lawful_parts (of one) (each of rest) _ (m one) (lawful_each of m rest) (λ x xs. lawful_makes _)
+
+lawful_three : {A B C D : Type 0} (j : Judgement A) (k : Judgement B) (l : Judgement C) (f : A → B → C → D) → Lawful j → Lawful k → Lawful l → Lawful (three j k l f)
+lawful_three {B = B} {C = C} j k l f m n o =
+    let pair : B → C → B × C = λ b c. (b, c) in
+    lawful_parts {B = B × C} j (parts k l (λ b c. makes (pair b c))) (λ a p. makes (f a p.0 p.1)) m
+    (lawful_parts k l (λ b c. makes (pair b c)) n o (λ b c. lawful_makes (pair b c))) (λ a p. lawful_makes (f a p.0 p.1))
+
+module _ (g : Environment) where
+  lawful_such : (one : Tree) (broke : Rule) (test : Sort → Bool) (Asked : Sort → Type 0) → ((s : Sort) → Decides (test s) (Asked s)) → Lawful (such g one broke test Asked)
+  lawful_such one broke test Asked tells =
+      lawful_part (judged g one) (λ e. rule (broken (place_of one) broke) (test (sort_of g.types.types e)) (Asked (sort_of g.types.types e)) e) (expression.lawful g one)
+      (λ e. lawful_rule (broken (place_of one) broke) (test (sort_of g.types.types e)) (Asked (sort_of g.types.types e)) e (tells (sort_of g.types.types e)))
+
+  lawful_condition : (one : Tree) → Lawful (condition g one)
+  lawful_condition one = lawful_such one rules.Conditional is_boolean IsBoolean tells_boolean
+
+  lawful_selector : (one : Tree) → Lawful (selector g one)
+  lawful_selector one = lawful_such one rules.Labelled is_ordinal IsOrdinal tells_ordinal
+
+  lawful_value : (one : Tree) → Lawful (written_value g one)
+  lawful_value one = lawful_such one rules.Written is_writable IsWritable tells_writable
+
+  lawful_width : (one : Tree) → Lawful (width g one)
+  lawful_width one = lawful_such one rules.Written is_integer IsInteger tells_integer
+
+  -- ---- assignments
+
+  lawful_held_target : (one : Tree) → Lawful (held_target g one)
+  lawful_held_target one =
+      lawful_part (judged g one) (λ e. present (broken (place_of one) rules.Target) (spot_of e)) (expression.lawful g one)
+      (λ e. lawful_present (broken (place_of one) rules.Target) (spot_of e))
+
+  lawful_result : (place : Place) (routine : RoutineId) (level : ℕ) (header : Header) (result : Option TypeId) → Lawful (result_target g place routine level header result)
+  lawful_result place routine level header None = lawful_refuses _
+  lawful_result place routine level header (Some ty) =
+      lawful_either (is_inside g routine) (makes (result_spot g level header ty)) (refuses (broken place rules.Target)) (lawful_makes _) (lawful_refuses _)
+
+  lawful_meant : (place : Place) (one : Tree) (meaning : Option Meaning) → Lawful (meant_target g place one meaning)
+  lawful_meant place one None = lawful_held_target one
+  lawful_meant place one (Some (member n m)) = lawful_held_target one
+  lawful_meant place one (Some (named n (entry.Const ty v))) = lawful_held_target one
+  lawful_meant place one (Some (named n (entry.Ty ty))) = lawful_held_target one
+  lawful_meant place one (Some (named b (entry.Var unit level n ty))) = lawful_held_target one
+  lawful_meant place one (Some (named n (entry.Code routine level header))) = lawful_result place routine level header header.result
+  lawful_meant place one (Some (named b (entry.Std n))) = lawful_refuses _
+
+  lawful_target : (one : Tree) → Lawful (target g one)
+  lawful_target (name here word) = lawful_meant here.place (name here word) (find g word)
+  lawful_target (number place n) = lawful_held_target (number place n)
+  lawful_target (text place bytes) = lawful_held_target (text place bytes)
+  lawful_target (control place letter) = lawful_held_target (control place letter)
+  lawful_target (nil place) = lawful_held_target (nil place)
+  lawful_target (set here listing) = lawful_held_target (set here listing)
+  lawful_target (call here callee given) = lawful_held_target (call here callee given)
+  lawful_target (signed mark a) = lawful_held_target (signed mark a)
+  lawful_target (negated place a) = lawful_held_target (negated place a)
+  lawful_target (combined here op a b) = lawful_held_target (combined here op a b)
+  lawful_target (field here a one) = lawful_held_target (field here a one)
+  lawful_target (index here a i) = lawful_held_target (index here a i)
+  lawful_target (followed place a) = lawful_held_target (followed place a)
+
+module _ (types : List TypeDef) where
+  lawful_copied : (place : Place) (to : tree.Place) (from : Option Spot) → Lawful (copied place to from)
+  lawful_copied place to None = lawful_refuses _
+  lawful_copied place to (Some from) = lawful_makes _
+
+  lawful_stored : (place : Place) (to : Spot) (e : Expression) → Lawful (stored types place to e)
+  lawful_stored place to e =
+      lawful_either (is_structured (definition types to.ty)) (copied place to.at (spot_of e)) (makes (Assign to.at e)) (lawful_copied place to.at (spot_of e)) (lawful_makes _)
+
+  lawful_assigned_to : (here : Position) (to : Spot) (e : Expression) → Lawful (assigned_to types here to e)
+  lawful_assigned_to here to e =
+      lawful_part (assigned types here.place to.ty here.switches.r e) (λ v. stored types here.place to v) (lawful_assigned types here.place to.ty here.switches.r e)
+      (λ v. lawful_stored here.place to v)
+
+  -- ---- calls
+
+  lawful_from : (place : Place) (checked : Bool) (one : Option Spot) → Lawful (taken_from types place checked one)
+  lawful_from place checked None = lawful_refuses _
+  lawful_from place checked (Some one) =
+      lawful_rule (broken place rules.Read) (is_readable (sort_of_type types one.ty)) (IsReadable (sort_of_type types one.ty)) (record { at = one.at; ty = one.ty; checked = checked })
+      (tells_readable (sort_of_type types one.ty))
+
+  lawful_halted : (place : Place) (es : List Expression) → Lawful (halted types place es)
+  lawful_halted place [] = lawful_makes _
+  lawful_halted place (e ∷ []) = lawful_rule (broken place rules.Called) (is_integer (sort_of types e)) (IsInteger (sort_of types e)) (Halt e) (tells_integer (sort_of types e))
+  lawful_halted place (e ∷ (f ∷ es)) = lawful_refuses _
+
+  lawful_left : (place : Place) (es : List Expression) → Lawful (left place es)
+  lawful_left place [] = lawful_makes _
+  lawful_left place (e ∷ es) = lawful_refuses _
+
+  lawful_entry : (here : Position) (one : Entry) (es : List Expression) → Lawful (performed_entry types here one es)
+  lawful_entry here (entry.Const ty v) es = lawful_refuses _
+  lawful_entry here (entry.Ty ty) es = lawful_refuses _
+  lawful_entry here (entry.Var unit level n ty) es =
+      lawful_either (is_procedural (definition types ty)) (refuses (not_yet here.place)) (refuses (broken here.place rules.Stands)) (lawful_refuses _) (lawful_refuses _)
+  lawful_entry here (entry.Code routine level header) es =
+      lawful_part (performed types here.place here.switches.r routine header es) _ (lawful_performed types here.place here.switches.r routine header es) (λ e. lawful_makes _)
+  lawful_entry here (entry.Std n) es = lawful_refuses _
+
+module _ (g : Environment) where
+  lawful_argument : (place : Place) (one : Operand) → Lawful (argument g place one)
+  lawful_argument place (plain one) = expression.lawful g one
+  lawful_argument place (wide one by) = lawful_parts (judged g one) (judged g by) _ (expression.lawful g one) (expression.lawful g by) (λ e w. lawful_refuses _)
+
+  lawful_arguments : (place : Place) (all : Operands) → Lawful (arguments g place all)
+  lawful_arguments place all = lawful_each (argument g place) (lawful_argument place) all
+
+  lawful_item : (one : Operand) → Lawful (item g one)
+  lawful_item (plain one) = lawful_part (written_value g one) _ (lawful_value g one) (λ e. lawful_makes _)
+  lawful_item (wide one by) = lawful_parts (written_value g one) (width g by) _ (lawful_value g one) (lawful_width g by) (λ e w. lawful_makes _)
+
+  lawful_written : (line : Bool) (all : Operands) → Lawful (written g line all)
+  lawful_written line all = lawful_part (each (item g) all) _ (lawful_each (item g) lawful_item all) (λ items. lawful_makes _)
+
+  lawful_taken_one : (here : Position) (one : Operand) → Lawful (taken_one g here one)
+  lawful_taken_one here (plain one) =
+      lawful_part (judged g one) (λ e. taken_from g.types.types (place_of one) here.switches.r (spot_of e)) (expression.lawful g one)
+      (λ e. lawful_from g.types.types (place_of one) here.switches.r (spot_of e))
+  lawful_taken_one here (wide one by) = lawful_parts (judged g one) (judged g by) _ (expression.lawful g one) (expression.lawful g by) (λ e w. lawful_refuses _)
+
+  lawful_taken : (here : Position) (line : Bool) (all : Operands) → Lawful (taken g here line all)
+  lawful_taken here line all = lawful_part (each (taken_one g here) all) _ (lawful_each (taken_one g here) (lawful_taken_one here) all) (λ items. lawful_makes _)
+
+  lawful_standard : (here : Position) (one : StandardStatement) (all : Operands) → Lawful (standard_run g here one all)
+  lawful_standard here (standard.Write line) all = lawful_written line all
+  lawful_standard here (standard.Read line) all = lawful_taken here line all
+  lawful_standard here standard.Halt all =
+      lawful_part (arguments g here.place all) (λ es. halted g.types.types here.place es) (lawful_arguments here.place all) (λ es. lawful_halted g.types.types here.place es)
+  lawful_standard here standard.Exit all =
+      lawful_part (arguments g here.place all) (λ es. left here.place es) (lawful_arguments here.place all) (λ es. lawful_left g.types.types here.place es)
+  lawful_standard here standard.Later all = lawful_refuses _
+  lawful_standard here standard.Function all = lawful_part (arguments g here.place all) _ (lawful_arguments here.place all) (λ es. lawful_refuses _)
+
+  lawful_called : (here : Position) (one : Entry) (all : Operands) → Lawful (part (arguments g here.place all) (λ es. performed_entry g.types.types here one es))
+  lawful_called here one all =
+      lawful_part (arguments g here.place all) (λ es. performed_entry g.types.types here one es) (lawful_arguments here.place all) (λ es. lawful_entry g.types.types here one es)
+
+  lawful_run_entry : (here : Position) (one : Entry) (all : Operands) → Lawful (run_entry g here one all)
+  lawful_run_entry here (entry.Const ty v) all = lawful_called here (entry.Const ty v) all
+  lawful_run_entry here (entry.Ty ty) all = lawful_called here (entry.Ty ty) all
+  lawful_run_entry here (entry.Var unit level n ty) all = lawful_called here (entry.Var unit level n ty) all
+  lawful_run_entry here (entry.Code routine level header) all = lawful_called here (entry.Code routine level header) all
+  lawful_run_entry here (entry.Std n) all = lawful_standard here (standard_of n) all
+
+  lawful_run_meant : (here : Position) (feature : Option Feature) (one : Option Meaning) (all : Operands) → Lawful (run_meant g here feature one all)
+  lawful_run_meant here feature None all = lawful_refuses _
+  lawful_run_meant here feature (Some (named n one)) all = lawful_run_entry here one all
+  lawful_run_meant here feature (Some (member n m)) all = lawful_refuses _
+
+  lawful_run_name : (here : Position) (word : List ℕ) (all : Operands) → Lawful (run_name g here word all)
+  unfolding run_name
+  lawful_run_name here word all = lawful_run_meant here (feature_of word) (find g word) all
+
+  lawful_run : (here : Position) (callee : Tree) (all : Operands) → Lawful (run_of g here callee all)
+  lawful_run here (name at word) all = lawful_run_name at word all
+  lawful_run here (number place n) all = lawful_refuses _
+  lawful_run here (text place bytes) all = lawful_refuses _
+  lawful_run here (control place letter) all = lawful_refuses _
+  lawful_run here (nil place) all = lawful_refuses _
+  lawful_run here (set at listing) all = lawful_refuses _
+  lawful_run here (call at callee given) all = lawful_refuses _
+  lawful_run here (signed mark a) all = lawful_refuses _
+  lawful_run here (negated place a) all = lawful_refuses _
+  lawful_run here (combined at op a b) all = lawful_refuses _
+  lawful_run here (field at a one) all = lawful_refuses _
+  lawful_run here (index at a i) all = lawful_refuses _
+  lawful_run here (followed place a) all = lawful_refuses _
+
+  -- ---- labels
+
+  lawful_label_value : (s : Sort) (one : Tree) → Lawful (label_value g s one)
+  lawful_label_value s one =
+      lawful_part (constants.judged g one) (λ c. rule (broken (place_of one) rules.Labelled) (are_of_one_host s (sort_of_type g.types.types c.ty)) (AreOfOneHost s (sort_of_type g.types.types c.ty)) (number_of c.value)) (constant.lawful g one)
+      (λ c. lawful_rule (broken (place_of one) rules.Labelled) (are_of_one_host s (sort_of_type g.types.types c.ty)) (AreOfOneHost s (sort_of_type g.types.types c.ty)) (number_of c.value) (tells_one_host s (sort_of_type g.types.types c.ty)))
+
+  lawful_range : (s : Sort) (one : Label) → Lawful (label_range g s one)
+  lawful_range s (alone one) = lawful_part (label_value g s one) _ (lawful_label_value s one) (λ n. lawful_makes _)
+  lawful_range s (from_to low high) =
+      lawful_parts (label_value g s low) (label_value g s high) (λ m n. rule (broken (place_of low) rules.Constant) (int_le m n) (m ≤ℤ n) (from m n)) (lawful_label_value s low) (lawful_label_value s high)
+      (λ m n. lawful_rule (broken (place_of low) rules.Constant) (int_le m n) (m ≤ℤ n) (from m n) (tells_rising m n))
+
+  lawful_new : (s : Sort) (seen : List LabelRange) (one : Label) → Lawful (new_label g s seen one)
+  lawful_new s seen one =
+      lawful_part (label_range g s one) (λ r. rule (broken (label_place one) rules.Labelled) (is_new seen r) (IsNew seen r) r) (lawful_range s one)
+      (λ r. lawful_rule (broken (label_place one) rules.Labelled) (is_new seen r) (IsNew seen r) r (tells_new seen r))
+
+  lawful_labelled : (s : Sort) (seen : List LabelRange) (all : List Label) → Lawful (labelled g s seen all)
+  lawful_labelled s seen [] = lawful_makes _
+  lawful_labelled s seen (one ∷ rest) =
+      lawful_part (new_label g s seen one) (λ r. part (labelled g s (seen ++ r ∷ []) rest) (λ rs. makes (r ∷ rs))) (lawful_new s seen one)
+      (λ r. lawful_part (labelled g s (seen ++ r ∷ []) rest) (λ rs. makes (r ∷ rs)) (lawful_labelled s (seen ++ r ∷ []) rest) (λ rs. lawful_makes (r ∷ rs)))
+
+  -- ---- loops
+
+  lawful_counter_of : (place : Place) (one : Variable) (ty : TypeId) → Lawful (counter_of g.types.types place one ty)
+  lawful_counter_of place one ty =
+      lawful_rule (broken place rules.Counted) (is_near one && has_order (definition g.types.types ty)) (IsNear one × HasOrder (definition g.types.types ty)) (record { variable = one; ty = ty })
+      (Decides-and _ _ (tells_near one) (tells_order (definition g.types.types ty)))
+
+  lawful_counter_entry : (place : Place) (one : Entry) → Lawful (counter_entry g place one)
+  lawful_counter_entry place (entry.Const ty v) = lawful_refuses _
+  lawful_counter_entry place (entry.Ty ty) = lawful_refuses _
+  lawful_counter_entry place (entry.Var unit level n ty) = lawful_counter_of place (variable g unit level n) ty
+  lawful_counter_entry place (entry.Code routine level header) = lawful_refuses _
+  lawful_counter_entry place (entry.Std n) = lawful_refuses _
+
+  lawful_counter_meant : (place : Place) (feature : Option Feature) (one : Option Meaning) → Lawful (counter_meant g place feature one)
+  lawful_counter_meant place feature None = lawful_refuses _
+  lawful_counter_meant place feature (Some (named n one)) = lawful_counter_entry place one
+  lawful_counter_meant place feature (Some (member n m)) = lawful_refuses _
+
+  lawful_counter : (place : Place) (word : List ℕ) → Lawful (counter g place word)
+  unfolding counter
+  lawful_counter place word = lawful_counter_meant place (feature_of word) (find g word)
+
+  lawful_bound : (ty : TypeId) (one : Tree) → Lawful (bound g ty one)
+  lawful_bound ty one = lawful_part (judged g one) (λ e. assigned g.types.types (place_of one) ty false e) (expression.lawful g one) (λ e. lawful_assigned g.types.types (place_of one) ty false e)
+
+  lawful_counted_from : (first last : Tree) (one : Counter) → Lawful (counted_from g first last one)
+  lawful_counted_from first last one = lawful_parts (bound g one.ty first) (bound g one.ty last) _ (lawful_bound one.ty first) (lawful_bound one.ty last) (λ a b. lawful_makes _)
+
+  lawful_counted : (place : Place) (word : List ℕ) (first last : Tree) → Lawful (counted g place word first last)
+  lawful_counted place word first last = lawful_part (counter g place word) (counted_from g first last) (lawful_counter place word) (lawful_counted_from first last)
+
+  -- ---- what is opened
+
+  lawful_spot : (place : Place) (one : Option Spot) → Lawful (opened_spot g.types.types place one)
+  lawful_spot place None = lawful_refuses _
+  lawful_spot place (Some one) =
+      lawful_rule (broken place rules.Opened) (has_members (definition g.types.types one.ty)) (HasMembers (definition g.types.types one.ty)) one (tells_members (definition g.types.types one.ty))
+
+  lawful_held : (place : Place) (one : Tree) → Lawful (held g place one)
+  lawful_held place one = lawful_part (judged g one) (λ e. opened_spot g.types.types place (spot_of e)) (expression.lawful g one) (λ e. lawful_spot place (spot_of e))
+
+-- ---- statements
+
+abbrev branch : Environment → Sort → List LabelRange → Task → Branches → List LabelRange → Judgement (List Armed)
+branch g s seen body rest rs = parts (stated g body) (branched g s (seen ++ rs) rest) (λ x arms. makes ((record { labels = rs; body = x }) ∷ arms))
+
+lawful_blocked : (all : Judgement (List Statement)) → Lawful all → Lawful (blocked all)
+lawful_blocked all m = lawful_part all (λ l. makes (block_of l)) m (λ l. lawful_makes (block_of l))
+
+mutual
+  pub lawful : (g : Environment) (task : Task) → Lawful (stated g task)
+  lawful g empty = lawful_makes _
+  lawful g (assignment here to from) =
+      lawful_parts (target g to) (judged g from) (λ t e. assigned_to g.types.types here t e) (lawful_target g to) (expression.lawful g from) (λ t e. lawful_assigned_to g.types.types here t e)
+  lawful g (run here callee given) = lawful_run g here callee given
+  lawful g (compound all) = lawful_blocked (listed g all) (lawful_listed g all)
+  lawful g (choice here test then other) = lawful_three (condition g test) (stated g then) (stated g other) _ (lawful_condition g test) (lawful g then) (lawful g other)
+  lawful g (selection here by branches other) =
+      lawful_part (selector g by) (chosen g branches other) (lawful_selector g by)
+      (λ e. lawful_parts (branched g (sort_of g.types.types e) [] branches) (listed g other) (λ arms l. makes (Case e (arms_of arms) (block_of l)))
+      (lawful_branched g (sort_of g.types.types e) [] branches) (lawful_listed g other) (λ arms l. lawful_makes (Case e (arms_of arms) (block_of l))))
+  lawful g (while_loop here test body) = lawful_parts (condition g test) (stated g body) _ (lawful_condition g test) (lawful g body) (λ e s. lawful_makes _)
+  lawful g (repeat_loop here all test) = lawful_parts (listed g all) (condition g test) _ (lawful_listed g all) (lawful_condition g test) (λ l e. lawful_makes _)
+  lawful g (for_loop here at word first way last body) =
+      lawful_parts (counted g at.place word first last) (stated g body) _ (lawful_counted g at.place word first last) (lawful g body) (λ c s. lawful_makes _)
+  lawful g (opened here designator body) =
+      lawful_part (held g here.place designator) (inside g body) (lawful_held g here.place designator)
+      (λ t. lawful_part (stated (within g t.ty) body) (λ s. makes (With t.at s)) (lawful (within g t.ty) body) (λ s. lawful_makes (With t.at s)))
+
+  lawful_listed : (g : Environment) (all : Tasks) → Lawful (listed g all)
+  lawful_listed g no_tasks = lawful_makes _
+  lawful_listed g (and_task one rest) = lawful_parts (stated g one) (listed g rest) _ (lawful g one) (lawful_listed g rest) (λ s l. lawful_makes _)
+
+  lawful_branched : (g : Environment) (s : Sort) (seen : List LabelRange) (all : Branches) → Lawful (branched g s seen all)
+  lawful_branched g s seen no_branches = lawful_makes _
+  lawful_branched g s seen (and_branch labels body rest) =
+      lawful_part (labelled g s seen labels) (branch g s seen body rest) (lawful_labelled g s seen labels)
+      (λ rs. lawful_parts (stated g body) (branched g s (seen ++ rs) rest) (λ x arms. makes ((record { labels = rs; body = x }) ∷ arms))
+      (lawful g body) (lawful_branched g s (seen ++ rs) rest) (λ x arms. lawful_makes ((record { labels = rs; body = x }) ∷ arms)))

@@ -1,0 +1,11 @@
+pub mod Lists
+pub mod Places
+pub mod Asked
+pub mod Assignments
+pub mod Arguments
+pub mod Standard
+pub mod Calls
+pub mod Labels
+pub mod Loops
+pub mod Typed
+pub mod Laws

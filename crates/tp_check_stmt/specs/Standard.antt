@@ -1,0 +1,79 @@
+-- Standard routines as statements.
+use Rattle.std.specs.Prelude.{ℕ, ◌==◌, pos, Bool, true, false, cond, List, [], ◌∷◌, Option, Some, None}
+use Rattle.type_layout.specs.declared.definitions.TypeDef.{TypeDef}
+use Rattle.type_layout.specs.declared.texts.Place.{Place}
+use Rattle.pascal_grammar.specs.declared.lexeme.Position.{Position}
+use Rattle.expression_tree.specs.Trees.{Operand, Operands, plain, wide}
+use Rattle.statement_tree.specs.Places.{place_of}
+use Rattle.typed_tree.specs.declared.expressions.Value.TheVariants as value
+use Rattle.typed_tree.specs.Expressions.{Expression, Const}
+use Rattle.typed_tree.specs.Statements.{Statement, Written, Taken, WriteItems, ReadItems, Halt, Exit}
+use Rattle.scopes.specs.Environment.{Environment}
+use Rattle.typing_rules.specs.declared.faults.Rule.TheVariants as rules
+use Rattle.typing_rules.specs.Faults.{broken, not_yet}
+use Rattle.typing_rules.specs.Judgements.{Judgement, makes, refuses, rule, part, parts}
+use Rattle.typing_rules.specs.Sorts.{integer, sort_of_type, sort_of}
+use Rattle.typing_rules.specs.Plans.{IsInteger, is_integer}
+use Rattle.tp_check_expr.specs.Typed.{judged}
+use Rattle.tp_check_stmt.specs.declared.standard.StandardStatement.{StandardStatement}
+use Rattle.tp_check_stmt.specs.declared.standard.StandardStatement.TheVariants as standard
+use Rattle.tp_check_stmt.specs.Lists.{each}
+use Rattle.tp_check_stmt.specs.Places.{Spot, spot_of}
+use Rattle.tp_check_stmt.specs.Asked.{written_value, width, IsReadable, is_readable}
+use Rattle.tp_check_stmt.specs.Arguments.{arguments}
+
+-- ---- Write and Read
+
+abbrev pub item : Environment → Operand → Judgement Written
+item g (plain one) = part (written_value g one) (λ e. makes (record { value = e; width = None }))
+item g (wide one by) = parts (written_value g one) (width g by) (λ e w. makes (record { value = e; width = Some w }))
+
+abbrev pub written : Environment → Bool → Operands → Judgement Statement
+written g line all = part (each (item g) all) (λ items. makes (WriteItems items line))
+
+-- a variable, or a part of one, of what can be read
+abbrev pub taken_from : List TypeDef → Place → Bool → Option Spot → Judgement Taken
+taken_from types place checked None = refuses (broken place rules.Read)
+taken_from types place checked (Some from) =
+    rule (broken place rules.Read) (is_readable (sort_of_type types from.ty)) (IsReadable (sort_of_type types from.ty))
+    (record { at = from.at; ty = from.ty; checked = checked })
+
+abbrev pub taken_one : Environment → Position → Operand → Judgement Taken
+taken_one g here (plain one) = part (judged g one) (λ e. taken_from g.types.types (place_of one) here.switches.r (spot_of e))
+taken_one g here (wide one by) = parts (judged g one) (judged g by) (λ e w. refuses (broken here.place rules.Called))
+
+abbrev pub taken : Environment → Position → Bool → Operands → Judgement Statement
+taken g here line all = part (each (taken_one g here) all) (λ items. makes (ReadItems items line))
+
+-- ---- Halt and Exit
+
+-- an integer, or nothing for 0
+abbrev pub halted : List TypeDef → Place → List Expression → Judgement Statement
+halted types place [] = makes (Halt (Const integer (value.Number (pos 0))))
+halted types place (e ∷ []) = rule (broken place rules.Called) (is_integer (sort_of types e)) (IsInteger (sort_of types e)) (Halt e)
+halted types place _ = refuses (broken place rules.Called)
+
+abbrev pub left : Place → List Expression → Judgement Statement
+left place [] = makes Exit
+left place _ = refuses (broken place rules.Called)
+
+-- ---- standard routines
+
+-- which statement a standard routine is, by its number among the predeclared names
+abbrev pub standard_of : ℕ → StandardStatement
+standard_of n =
+    cond (n == 22) (standard.Write false) (cond (n == 23) (standard.Write true)
+    (cond (n == 24) (standard.Read false) (cond (n == 25) (standard.Read true)
+    (cond (n == 30) standard.Halt (cond (n == 31) standard.Exit
+    (cond (n == 7) standard.Later (cond (n == 8) standard.Later (cond (n == 16) standard.Later (cond (n == 17) standard.Later
+    (cond (n == 20) standard.Later (cond (n == 21) standard.Later (cond (n == 28) standard.Later (cond (n == 29) standard.Later
+    standard.Function)))))))))))))
+
+-- a function is no statement
+abbrev pub standard_run : Environment → Position → StandardStatement → Operands → Judgement Statement
+standard_run g here (standard.Write line) all = written g line all
+standard_run g here (standard.Read line) all = taken g here line all
+standard_run g here standard.Halt all = part (arguments g here.place all) (λ es. halted g.types.types here.place es)
+standard_run g here standard.Exit all = part (arguments g here.place all) (λ es. left here.place es)
+standard_run g here standard.Later all = refuses (not_yet here.place)
+standard_run g here standard.Function all = part (arguments g here.place all) (λ es. refuses (broken here.place rules.Stands))

@@ -1,0 +1,208 @@
+//! Standard routines as statements.
+
+ghost use Rattle.std.specs.Prelude.{◌≡◌, map};
+ghost use Rattle.typed_tree.specs.Expressions.{view_expr};
+ghost use Rattle.typed_tree.specs.Statements.{view_stmt, view_written, view_taken};
+ghost use Rattle.expression_tree.specs.Trees.{view_argument, view_arguments};
+ghost use Rattle.typing_rules.specs.Judgements.{Gives};
+ghost use Rattle.tp_check_stmt.specs.Lists.{each};
+ghost use Rattle.tp_check_stmt.specs.Places.{spot_of};
+ghost use Rattle.tp_check_stmt.specs.Standard.{item, written, taken_from, taken_one, taken, halted, left, standard_of, standard_run};
+
+use crate::arguments::values;
+use crate::asked::{is_readable, width, written_value};
+use crate::places::spot_of;
+use pascal_grammar::Position;
+use scopes::{INTEGER, Scope};
+use statement_tree::place_of;
+use std::alloc::Global;
+use syntax_tree::Argument;
+use tp_check_expr::judged_expression;
+use type_layout::{Place, Types};
+use typed_tree::{Expr, ReadItem, Stmt, Value, WriteItem};
+use typing_rules::{Refusal, Rule, broken, is_integer, not_yet, sort_of, sort_of_type};
+
+/// Which statement a standard routine is. Those of `Later` are not built yet.
+#[derive(Clone, Copy, Debug, PartialEq, Eq)]
+pub(crate) enum StandardStatement {
+    Write(bool),
+    Read(bool),
+    Halt,
+    Exit,
+    Later,
+    Function,
+}
+
+fn item(alloc: Global, argument: &Argument, scope: &Scope) -> Result<WriteItem, Refusal>
+    ensures { Gives view_written result (item scope.now (view_argument argument.now)).run }
+{
+    match argument {
+        Argument::Plain(one) => Ok(WriteItem {
+            value: written_value(alloc, one, scope)?,
+            width: None,
+        }),
+        Argument::Wide(one, by) => {
+            let value = written_value(alloc, one, scope)?;
+            let width = width(alloc, by, scope)?;
+            Ok(WriteItem {
+                value,
+                width: Some(width),
+            })
+        }
+    }
+}
+
+fn items(alloc: Global, given: &[Argument], scope: &Scope) -> Result<Vec<WriteItem>, Refusal>
+    ensures { Gives (λ all. map view_written all.items) result (each (item scope.now) (view_arguments given.now)).run }
+{
+    let mut items = Vec::new(alloc);
+    for one in given {
+        let item = item(alloc, one, scope)?;
+        items.push(item)?;
+    }
+    Ok(items)
+}
+
+fn written(alloc: Global, line: bool, given: &[Argument], scope: &Scope) -> Result<Stmt, Refusal>
+    ensures { Gives view_stmt result (written scope.now line (view_arguments given.now)).run }
+{
+    let items = items(alloc, given, scope)?;
+    Ok(Stmt::WriteItems { items, line })
+}
+
+fn taken_from(types: &Types, place: Place, checked: bool, value: Expr) -> Result<ReadItem, Refusal>
+    ensures { Gives view_taken result (taken_from types.now.types place checked (spot_of (view_expr value))).run }
+{
+    match spot_of(value) {
+        Some(from) if is_readable(sort_of_type(types, from.ty)) => Ok(ReadItem {
+            place: from.at,
+            ty: from.ty,
+            checked,
+        }),
+        _ => Err(Refusal::Because(broken(place, Rule::Read))),
+    }
+}
+
+fn taken_one(
+    alloc: Global,
+    here: Position,
+    argument: &Argument,
+    scope: &Scope,
+) -> Result<ReadItem, Refusal>
+    ensures { Gives view_taken result (taken_one scope.now here (view_argument argument.now)).run }
+{
+    match argument {
+        Argument::Plain(one) => {
+            let value = judged_expression(alloc, one, scope)?;
+            taken_from(scope.types(), place_of(one), here.switches.r, value)
+        }
+        Argument::Wide(one, by) => {
+            let _value = judged_expression(alloc, one, scope)?;
+            let _width = judged_expression(alloc, by, scope)?;
+            Err(Refusal::Because(broken(here.place, Rule::Called)))
+        }
+    }
+}
+
+fn places(
+    alloc: Global,
+    here: Position,
+    given: &[Argument],
+    scope: &Scope,
+) -> Result<Vec<ReadItem>, Refusal>
+    ensures { Gives (λ all. map view_taken all.items) result (each (taken_one scope.now here) (view_arguments given.now)).run }
+{
+    let mut places = Vec::new(alloc);
+    for one in given {
+        let place = taken_one(alloc, here, one, scope)?;
+        places.push(place)?;
+    }
+    Ok(places)
+}
+
+fn taken(
+    alloc: Global,
+    here: Position,
+    line: bool,
+    given: &[Argument],
+    scope: &Scope,
+) -> Result<Stmt, Refusal>
+    ensures { Gives view_stmt result (taken scope.now here line (view_arguments given.now)).run }
+{
+    let items = places(alloc, here, given, scope)?;
+    Ok(Stmt::ReadItems { items, line })
+}
+
+fn halted(types: &Types, place: Place, values: Vec<Expr>) -> Result<Stmt, Refusal>
+    ensures { Gives view_stmt result (halted types.now.types place (map view_expr values.items)).run }
+{
+    let mut values = values;
+    if values.len() > 1 {
+        return Err(Refusal::Because(broken(place, Rule::Called)));
+    }
+    match values.pop() {
+        None => Ok(Stmt::Halt {
+            code: Expr::Const {
+                ty: INTEGER,
+                value: Value::Number(0),
+            },
+        }),
+        Some(code) if is_integer(sort_of(types, &code)) => Ok(Stmt::Halt { code }),
+        Some(_) => Err(Refusal::Because(broken(place, Rule::Called))),
+    }
+}
+
+fn left(place: Place, values: &[Expr]) -> Result<Stmt, Refusal>
+    ensures { Gives view_stmt result (left place (map view_expr values.now)).run }
+{
+    match values {
+        [] => Ok(Stmt::Exit),
+        _ => Err(Refusal::Because(broken(place, Rule::Called))),
+    }
+}
+
+/// Which statement the standard routine with a number is.
+pub(crate) fn standard_of(number: u32) -> StandardStatement
+    ensures { result ≡ standard_of number }
+{
+    match number {
+        22 => StandardStatement::Write(false),
+        23 => StandardStatement::Write(true),
+        24 => StandardStatement::Read(false),
+        25 => StandardStatement::Read(true),
+        30 => StandardStatement::Halt,
+        31 => StandardStatement::Exit,
+        7 | 8 | 16 | 17 | 20 | 21 | 28 | 29 => StandardStatement::Later,
+        _ => StandardStatement::Function,
+    }
+}
+
+/// The call of a standard routine that begins here.
+pub(crate) fn standard_run(
+    alloc: Global,
+    here: Position,
+    one: StandardStatement,
+    given: &[Argument],
+    scope: &Scope,
+) -> Result<Stmt, Refusal>
+    ensures { Gives view_stmt result (standard_run scope.now here one (view_arguments given.now)).run }
+{
+    let place = here.place;
+    match one {
+        StandardStatement::Write(line) => written(alloc, line, given, scope),
+        StandardStatement::Read(line) => taken(alloc, here, line, given, scope),
+        StandardStatement::Halt => {
+            let values = values(alloc, place, given, scope)?;
+            halted(scope.types(), place, values)
+        }
+        StandardStatement::Exit => {
+            let values = values(alloc, place, given, scope)?;
+            left(place, values.as_slice())
+        }
+        StandardStatement::Later => Err(Refusal::Because(not_yet(place))),
+        StandardStatement::Function => {
+            let _values = values(alloc, place, given, scope)?;
+            Err(Refusal::Because(broken(place, Rule::Stands)))
+        }
+    }
+}

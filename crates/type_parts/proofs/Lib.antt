@@ -1,0 +1,4 @@
+pub mod Closing
+pub mod PartLaws
+pub mod CountSteps
+pub mod Wholes

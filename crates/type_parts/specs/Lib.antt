@@ -1,0 +1,4 @@
+pub mod Promised
+pub mod Objects
+pub mod Parts
+pub mod Laws
