@@ -63,7 +63,7 @@ placed tokens lexemes (r.TooDeep left) = e.TooDeep (place_at tokens lexemes left
 
 -- The fault is the first one, and stands at its place: the tokens before it begin a source within the limit, and
 -- with the token there, or the end, they begin none. Then they either begin none in the full language; or they do, by what is
--- left out; or they do, but with more constructs open than may be.
+-- left out; or they do, but each has more constructs open by then than may be.
 abbrev pub IsFault : List Token → ParseError → Type 0
 IsFault tokens e.NoMemory = Unit {0}
 IsFault tokens (e.Syntax at) = (left : ℕ) × IsSyntax grammar n.source limit (lexemes_of tokens) left × (at ≡ place_at tokens (lexemes_of tokens) left)
