@@ -1,0 +1,4 @@
+pub mod Forms
+pub mod Paths
+pub mod Stores
+pub mod Laws
