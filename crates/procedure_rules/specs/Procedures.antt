@@ -14,6 +14,7 @@ use Rattle.typing_rules.specs.Judgements.{Judgement, makes, refuses, rule, part,
 use Rattle.typing_rules.specs.Sorts.{sort_of_type, sort_of}
 use Rattle.typing_rules.specs.Plans.{IsInteger, is_integer}
 use Rattle.typing_rules.specs.Assignments.{IsString, is_string}
+use Rattle.typing_rules.specs.Joins.{is_address}
 use Rattle.call_rules.specs.Casts.{IsOrdinal, is_ordinal}
 use Rattle.call_rules.specs.Given.{Handed, value, place_of, arguments_of}
 use Rattle.standard_rules.specs.Standard.{Fits, fits, is_for_text, handed}
@@ -31,6 +32,12 @@ IsPointer _ = ⊥
 abbrev pub is_pointer : Sort → Bool
 is_pointer sort.Pointer = true
 is_pointer _ = false
+
+-- a pointer, or nil, which is one of no type in particular
+abbrev pub IsAddress : Sort → Type 0
+IsAddress sort.Pointer = Unit {0}
+IsAddress sort.Nil = Unit {0}
+IsAddress _ = ⊥
 
 -- what a variable holds that is taken: an ordinal, an integer, a string or a pointer
 abbrev pub Holds : Slot → Sort → Type 0
@@ -55,7 +62,7 @@ variable types place slot e = refuses (broken place rules.Called)
 -- an argument by what is asked of it
 unfoldable pub taken : List TypeDef → Place → Slot → Expression → Judgement Handed
 taken types place (Value want) e = rule (broken place rules.Called) (fits want (sort_of types e)) (Fits want (sort_of types e)) (handed types (is_for_text want) e)
-taken types place Pointer e = rule (broken place rules.Called) (is_pointer (sort_of types e)) (IsPointer (sort_of types e)) (value e)
+taken types place Pointer e = rule (broken place rules.Called) (is_address (sort_of types e)) (IsAddress (sort_of types e)) (value e)
 taken types place slot e = variable types place slot e
 
 -- ---- all arguments
@@ -67,7 +74,7 @@ by_slots types place _ _ = refuses (broken place rules.Called)
 
 -- ---- calls
 
--- a function stands for a value alone
+-- a procedure has other arguments; a function stands for a value alone
 abbrev pub unlisted : ℕ → Rule
 unlisted number = cond (is_procedure number) rules.Called rules.Stands
 

@@ -38,10 +38,21 @@ slots_in (row ∷ all) number count = cond (row.0 == number && count_of row.1 ==
 abbrev pub slots_of : ℕ → ℕ → Option Slots
 slots_of number count = slots_in rows number count
 
--- whether a standard routine is one of these procedures
-abbrev pub is_listed : List (ℕ × Slots) → ℕ → Bool
-is_listed [] number = false
-is_listed (row ∷ all) number = row.0 == number || is_listed all number
+-- all standard procedures by their numbers, also those that have no row
+unfoldable pub procedures : List ℕ
+procedures =
+    -- Inc, Dec, Delete, Insert, Str, Val
+    7 ∷ 8 ∷ 16 ∷ 17 ∷ 20 ∷ 21 ∷
+    -- Write, WriteLn, Read, ReadLn
+    22 ∷ 23 ∷ 24 ∷ 25 ∷
+    -- New, Dispose, Halt, Exit
+    28 ∷ 29 ∷ 30 ∷ 31 ∷
+    []
 
+abbrev pub is_listed : List ℕ → ℕ → Bool
+is_listed [] number = false
+is_listed (one ∷ all) number = one == number || is_listed all number
+
+-- whether a standard routine is a procedure
 abbrev pub is_procedure : ℕ → Bool
-is_procedure number = is_listed rows number
+is_procedure number = is_listed procedures number

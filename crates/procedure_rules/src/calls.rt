@@ -6,6 +6,7 @@ ghost use Rattle.typed_tree.specs.Expressions.{Load, view_expr, view_place};
 ghost use Rattle.typed_tree.specs.Statements.{view_written};
 ghost use Rattle.typing_rules.specs.Judgements.{Gives};
 ghost use Rattle.call_rules.specs.Given.{view_handed};
+ghost use Rattle.typing_rules.specs.Joins.{is_address};
 ghost use Rattle.procedure_rules.specs.Procedures.{is_pointer, holds, variable, taken, by_slots, unlisted, standard_performed, whole, told_number, told_into, told};
 ghost use Rattle.procedure_rules.specs.Rows.{listed};
 
@@ -24,6 +25,13 @@ fn is_pointer(sort: Sort) -> bool
     ensures { result ≡ is_pointer sort }
 {
     matches!(sort, Sort::Pointer)
+}
+
+// A pointer, or nil.
+fn is_address(sort: Sort) -> bool
+    ensures { result ≡ is_address sort }
+{
+    matches!(sort, Sort::Pointer | Sort::Nil)
 }
 
 fn holds(slot: Slot, sort: Sort) -> bool
@@ -71,7 +79,7 @@ fn taken(
         Slot::Value(want) if fits(*want, sort_of(types, &value)) => {
             handed(alloc, types, is_for_text(*want), value)
         }
-        Slot::Pointer if is_pointer(sort_of(types, &value)) => Ok(Arg::Value(value)),
+        Slot::Pointer if is_address(sort_of(types, &value)) => Ok(Arg::Value(value)),
         Slot::Value(_) | Slot::Pointer => Err(Refusal::Because(broken(place, Rule::Called))),
         _ => variable(types, place, *slot, value),
     }

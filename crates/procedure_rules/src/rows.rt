@@ -5,8 +5,8 @@ ghost use Rattle.procedure_rules.specs.Rows.{count_of, slots_in, slots_of, is_li
 
 use standard_rules::Want;
 
-/// What is asked of an argument: a value, a pointer, or a variable of an ordinal type, of an integer type, that is a string, or
-/// that is a pointer.
+/// What is asked of an argument: a value, a pointer or nil, or a variable of an ordinal type, of an integer type, that is a
+/// string, or that is a pointer.
 #[derive(Clone, Copy, Debug, PartialEq, Eq)]
 pub enum Slot {
     Value(Want),
@@ -42,6 +42,9 @@ const ROWS: [(u32, Slots); 9] = [
     (29, Slots::One(Slot::Pointer)),
 ];
 
+// All procedures, also those that have no row.
+const PROCEDURES: [u32; 14] = [7, 8, 16, 17, 20, 21, 22, 23, 24, 25, 28, 29, 30, 31];
+
 fn count_of(slots: Slots) -> usize
     ensures { result ≡ count_of slots }
 {
@@ -75,19 +78,19 @@ pub(crate) fn slots_of(number: u32, count: usize) -> Option<Slots>
     slots_in(&ROWS, number, count)
 }
 
-fn is_listed(rows: &[(u32, Slots)], number: u32) -> bool
-    ensures { result ≡ is_listed rows.now number }
+fn is_listed(numbers: &[u32], number: u32) -> bool
+    ensures { result ≡ is_listed numbers.now number }
 {
-    match rows {
+    match numbers {
         [] => false,
-        [row, rest @ ..] => row.0 == number || is_listed(rest, number),
+        [one, rest @ ..] => *one == number || is_listed(rest, number),
     }
 }
 
-/// Whether the standard routine with a number is one of these procedures.
-#[tactic(auto, unfolding(crate::specs::Rows::rows))]
+/// Whether the standard routine with a number is a procedure.
+#[tactic(auto, unfolding(crate::specs::Rows::procedures))]
 pub(crate) fn is_procedure(number: u32) -> bool
     ensures { result ≡ is_procedure number }
 {
-    is_listed(&ROWS, number)
+    is_listed(&PROCEDURES, number)
 }

@@ -19,7 +19,7 @@ use Rattle.typed_tree.specs.declared.expressions.Variable.{Variable}
 use Rattle.typed_tree.specs.declared.statements.LabelRange.{LabelRange}
 use Rattle.typed_tree.specs.Expressions as tree
 use Rattle.typed_tree.specs.Expressions.{Expression}
-use Rattle.typed_tree.specs.Statements.{Statement, Assign, Halt, Case, With}
+use Rattle.typed_tree.specs.Statements.{Statement, Written, Run, Assign, Halt, Case, With}
 use Rattle.scopes.specs.declared.entries.Entry.{Entry}
 use Rattle.scopes.specs.declared.entries.Entry.TheVariants as entry
 use Rattle.scopes.specs.Environment.{Environment, Meaning, named, member, find}
@@ -54,8 +54,11 @@ use Rattle.tp_check_stmt.specs.Lists.{each}
 use Rattle.tp_check_stmt.specs.Places.{Spot, spot_of, present}
 use Rattle.tp_check_stmt.specs.Asked.{such, condition, selector, IsWritable, is_writable, written_value, width, IsReadable, is_readable}
 use Rattle.tp_check_stmt.specs.Assignments.{held_target, is_inside, result_spot, result_target, meant_target, target, is_structured, copied, stored, assigned_to}
-use Rattle.tp_check_stmt.specs.Arguments.{argument, arguments}
-use Rattle.tp_check_stmt.specs.Standard.{item, written, taken_from, taken_one, taken, halted, left, standard_of, standard_run}
+use Rattle.procedure_rules.specs.Procedures.{standard_performed, told}
+use Rattle.procedure_rules.proofs.ProcedureLaws as procedure
+use Rattle.procedure_rules.proofs.ProcedureLaws.{lawful_told}
+use Rattle.tp_check_stmt.specs.Arguments.{argument, arguments, sized}
+use Rattle.tp_check_stmt.specs.Standard.{item, written, taken_from, taken_one, taken, halted, left, told_of, misgiven, told_two, are_two, telling, proceeding, managing, standard_of, standard_run}
 use Rattle.tp_check_stmt.specs.Calls.{is_procedural, performed_entry, run_entry, run_meant, run_name, run_of}
 use Rattle.tp_check_stmt.specs.Labels.{from, label_value, label_range, AreApart, are_apart, IsNew, is_new, label_place, new_label, labelled}
 use Rattle.tp_check_stmt.specs.Loops.{IsNear, is_near, HasOrder, has_order, counter_of, counter_entry, counter_meant, counter, bound, Counted, counted_from, counted}
@@ -239,15 +242,43 @@ module _ (g : Environment) where
   lawful_taken : (here : Position) (line : Bool) (all : Operands) → Lawful (taken g here line all)
   lawful_taken here line all = lawful_part (each (taken_one g here) all) _ (lawful_each (taken_one g here) (lawful_taken_one here) all) (λ items. lawful_makes _)
 
-  lawful_standard : (here : Position) (one : StandardStatement) (all : Operands) → Lawful (standard_run g here one all)
-  lawful_standard here (standard.Write line) all = lawful_written line all
-  lawful_standard here (standard.Read line) all = lawful_taken here line all
-  lawful_standard here standard.Halt all =
+  lawful_sized : (one : Operand) → Lawful (sized g one)
+  lawful_sized (plain one) = lawful_part (judged g one) _ (expression.lawful g one) (λ e. lawful_makes _)
+  lawful_sized (wide one by) = lawful_parts (judged g one) (judged g by) _ (expression.lawful g one) (expression.lawful g by) (λ e w. lawful_makes _)
+
+  lawful_told_of : (place : Place) (one to : Written) → Lawful (told_of g.types.types place one to)
+  lawful_told_of place one to = lawful_part (told g.types.types place one to) (λ e. makes (Run e)) (lawful_told g.types.types place one to) (λ e. lawful_makes (Run e))
+
+  lawful_misgiven : (place : Place) (all : Operands) → Lawful (misgiven g place all)
+  lawful_misgiven place all = lawful_part (arguments g place all) (λ es. refuses {C = Statement} (broken place rules.Called)) (lawful_arguments place all) (λ es. lawful_refuses _)
+
+  lawful_told_two : (place : Place) (all : Operands) → Lawful (told_two g place all)
+  lawful_told_two place no_operands = lawful_misgiven place no_operands
+  lawful_told_two place (and_operand one no_operands) = lawful_misgiven place (and_operand one no_operands)
+  lawful_told_two place (and_operand one (and_operand to rest)) =
+      lawful_parts (sized g one) (sized g to) (told_of g.types.types place) (lawful_sized one) (lawful_sized to) (lawful_told_of place)
+
+  lawful_telling : (place : Place) (all : Operands) → Lawful (telling g place all)
+  lawful_telling place all = lawful_either (are_two all) (told_two g place all) (misgiven g place all) (lawful_told_two place all) (lawful_misgiven place all)
+
+  lawful_proceeding : (place : Place) (n : ℕ) (all : Operands) → Lawful (proceeding g place n all)
+  lawful_proceeding place n all =
+      lawful_part (arguments g place all) (λ es. part (standard_performed g.types.types place n es) (λ e. makes (Run e))) (lawful_arguments place all)
+      (λ es. lawful_part (standard_performed g.types.types place n es) (λ e. makes (Run e)) (procedure.lawful_performed g.types.types place n es) (λ e. lawful_makes (Run e)))
+
+  lawful_managing : (place : Place) (n : ℕ) (all : Operands) → Lawful (managing g place n all)
+  lawful_managing place n all = lawful_either (are_two all) (refuses (not_yet place)) (proceeding g place n all) (lawful_refuses _) (lawful_proceeding place n all)
+
+  lawful_standard : (here : Position) (n : ℕ) (one : StandardStatement) (all : Operands) → Lawful (standard_run g here n one all)
+  lawful_standard here n (standard.Write line) all = lawful_written line all
+  lawful_standard here n (standard.Read line) all = lawful_taken here line all
+  lawful_standard here n standard.Halt all =
       lawful_part (arguments g here.place all) (λ es. halted g.types.types here.place es) (lawful_arguments here.place all) (λ es. lawful_halted g.types.types here.place es)
-  lawful_standard here standard.Exit all =
+  lawful_standard here n standard.Exit all =
       lawful_part (arguments g here.place all) (λ es. left here.place es) (lawful_arguments here.place all) (λ es. lawful_left g.types.types here.place es)
-  lawful_standard here standard.Later all = lawful_refuses _
-  lawful_standard here standard.Function all = lawful_part (arguments g here.place all) _ (lawful_arguments here.place all) (λ es. lawful_refuses _)
+  lawful_standard here n standard.Str all = lawful_telling here.place all
+  lawful_standard here n standard.Heap all = lawful_managing here.place n all
+  lawful_standard here n standard.Other all = lawful_proceeding here.place n all
 
   lawful_called : (here : Position) (one : Entry) (all : Operands) → Lawful (part (arguments g here.place all) (λ es. performed_entry g.types.types here one es))
   lawful_called here one all =
@@ -258,7 +289,7 @@ module _ (g : Environment) where
   lawful_run_entry here (entry.Ty ty) all = lawful_called here (entry.Ty ty) all
   lawful_run_entry here (entry.Var unit level n ty) all = lawful_called here (entry.Var unit level n ty) all
   lawful_run_entry here (entry.Code routine level header) all = lawful_called here (entry.Code routine level header) all
-  lawful_run_entry here (entry.Std n) all = lawful_standard here (standard_of n) all
+  lawful_run_entry here (entry.Std n) all = lawful_standard here n (standard_of n) all
 
   lawful_run_meant : (here : Position) (feature : Option Feature) (one : Option Meaning) (all : Operands) → Lawful (run_meant g here feature one all)
   lawful_run_meant here feature None all = lawful_refuses _

@@ -30,7 +30,7 @@ performed_entry types here (entry.Var unit level n ty) es = either (is_procedura
 performed_entry types here one es = refuses (broken here.place rules.Stands)
 
 abbrev pub run_entry : Environment → Position → Entry → Operands → Judgement Statement
-run_entry g here (entry.Std n) all = standard_run g here (standard_of n) all
+run_entry g here (entry.Std n) all = standard_run g here n (standard_of n) all
 run_entry g here one all = part (arguments g here.place all) (λ es. performed_entry g.types.types here one es)
 
 -- methods are not built yet

@@ -3,15 +3,15 @@ use Rattle.std.specs.Prelude.{ℕ, ◌==◌, pos, Bool, true, false, cond, List,
 use Rattle.type_layout.specs.declared.definitions.TypeDef.{TypeDef}
 use Rattle.type_layout.specs.declared.texts.Place.{Place}
 use Rattle.pascal_grammar.specs.declared.lexeme.Position.{Position}
-use Rattle.expression_tree.specs.Trees.{Operand, Operands, plain, wide}
+use Rattle.expression_tree.specs.Trees.{Operand, Operands, plain, wide, no_operands, and_operand}
 use Rattle.statement_tree.specs.Places.{place_of}
 use Rattle.typed_tree.specs.declared.expressions.Value.TheVariants as value
 use Rattle.typed_tree.specs.Expressions.{Expression, Const}
-use Rattle.typed_tree.specs.Statements.{Statement, Written, Taken, WriteItems, ReadItems, Halt, Exit}
+use Rattle.typed_tree.specs.Statements.{Statement, Written, Taken, Run, WriteItems, ReadItems, Halt, Exit}
 use Rattle.scopes.specs.Environment.{Environment}
 use Rattle.typing_rules.specs.declared.faults.Rule.TheVariants as rules
 use Rattle.typing_rules.specs.Faults.{broken, not_yet}
-use Rattle.typing_rules.specs.Judgements.{Judgement, makes, refuses, rule, part, parts}
+use Rattle.typing_rules.specs.Judgements.{Judgement, makes, refuses, rule, either, part, parts}
 use Rattle.typing_rules.specs.Sorts.{integer, sort_of_type, sort_of}
 use Rattle.typing_rules.specs.Plans.{IsInteger, is_integer}
 use Rattle.tp_check_expr.specs.Typed.{judged}
@@ -20,7 +20,8 @@ use Rattle.tp_check_stmt.specs.declared.standard.StandardStatement.TheVariants a
 use Rattle.tp_check_stmt.specs.Lists.{each}
 use Rattle.tp_check_stmt.specs.Places.{Spot, spot_of}
 use Rattle.tp_check_stmt.specs.Asked.{written_value, width, IsReadable, is_readable}
-use Rattle.tp_check_stmt.specs.Arguments.{arguments}
+use Rattle.procedure_rules.specs.Procedures.{standard_performed, told}
+use Rattle.tp_check_stmt.specs.Arguments.{arguments, sized}
 
 -- ---- Write and Read
 
@@ -57,6 +58,47 @@ abbrev pub left : Place → List Expression → Judgement Statement
 left place [] = makes Exit
 left place _ = refuses (broken place rules.Called)
 
+-- ---- standard procedures
+
+-- Str: an integer, with a width or without, and a string
+abbrev pub told_of : List TypeDef → Place → Written → Written → Judgement Statement
+told_of types place one to = part (told types place one to) (λ e. makes (Run e))
+
+-- other arguments than those that are asked for
+abbrev pub misgiven : Environment → Place → Operands → Judgement Statement
+misgiven g place all = part (arguments g place all) (λ es. refuses (broken place rules.Called))
+
+abbrev pub told_first : Environment → Place → Operand → Operands → Judgement Statement
+told_first g place one no_operands = misgiven g place (and_operand one no_operands)
+told_first g place one (and_operand to rest) = parts (sized g one) (sized g to) (told_of g.types.types place)
+
+abbrev pub told_two : Environment → Place → Operands → Judgement Statement
+told_two g place no_operands = misgiven g place no_operands
+told_two g place (and_operand one rest) = told_first g place one rest
+
+abbrev pub is_none : Operands → Bool
+is_none no_operands = true
+is_none (and_operand one rest) = false
+
+abbrev pub is_one : Operands → Bool
+is_one no_operands = false
+is_one (and_operand one rest) = is_none rest
+
+abbrev pub are_two : Operands → Bool
+are_two no_operands = false
+are_two (and_operand one rest) = is_one rest
+
+abbrev pub telling : Environment → Place → Operands → Judgement Statement
+telling g place all = either (are_two all) (told_two g place all) (misgiven g place all)
+
+-- another one
+abbrev pub proceeding : Environment → Place → ℕ → Operands → Judgement Statement
+proceeding g place number all = part (arguments g place all) (λ es. part (standard_performed g.types.types place number es) (λ e. makes (Run e)))
+
+-- New and Dispose; those with a constructor or a destructor are not built yet
+abbrev pub managing : Environment → Place → ℕ → Operands → Judgement Statement
+managing g place number all = either (are_two all) (refuses (not_yet place)) (proceeding g place number all)
+
 -- ---- standard routines
 
 -- which statement a standard routine is, by its number among the predeclared names
@@ -64,16 +106,15 @@ abbrev pub standard_of : ℕ → StandardStatement
 standard_of n =
     cond (n == 22) (standard.Write false) (cond (n == 23) (standard.Write true)
     (cond (n == 24) (standard.Read false) (cond (n == 25) (standard.Read true)
-    (cond (n == 30) standard.Halt (cond (n == 31) standard.Exit
-    (cond (n == 7) standard.Later (cond (n == 8) standard.Later (cond (n == 16) standard.Later (cond (n == 17) standard.Later
-    (cond (n == 20) standard.Later (cond (n == 21) standard.Later (cond (n == 28) standard.Later (cond (n == 29) standard.Later
-    standard.Function)))))))))))))
+    (cond (n == 30) standard.Halt (cond (n == 31) standard.Exit (cond (n == 20) standard.Str
+    (cond (n == 28) standard.Heap (cond (n == 29) standard.Heap standard.Other))))))))
 
 -- a function is no statement
-abbrev pub standard_run : Environment → Position → StandardStatement → Operands → Judgement Statement
-standard_run g here (standard.Write line) all = written g line all
-standard_run g here (standard.Read line) all = taken g here line all
-standard_run g here standard.Halt all = part (arguments g here.place all) (λ es. halted g.types.types here.place es)
-standard_run g here standard.Exit all = part (arguments g here.place all) (λ es. left here.place es)
-standard_run g here standard.Later all = refuses (not_yet here.place)
-standard_run g here standard.Function all = part (arguments g here.place all) (λ es. refuses (broken here.place rules.Stands))
+abbrev pub standard_run : Environment → Position → ℕ → StandardStatement → Operands → Judgement Statement
+standard_run g here n (standard.Write line) all = written g line all
+standard_run g here n (standard.Read line) all = taken g here line all
+standard_run g here n standard.Halt all = part (arguments g here.place all) (λ es. halted g.types.types here.place es)
+standard_run g here n standard.Exit all = part (arguments g here.place all) (λ es. left here.place es)
+standard_run g here n standard.Str all = telling g here.place all
+standard_run g here n standard.Heap all = managing g here.place n all
+standard_run g here n standard.Other all = proceeding g here.place n all

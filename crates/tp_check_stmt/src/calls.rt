@@ -8,7 +8,7 @@ ghost use Rattle.typing_rules.specs.Judgements.{Gives};
 ghost use Rattle.tp_check_stmt.specs.Calls.{is_procedural, performed_entry, run_entry, run_name, run_of};
 
 use crate::arguments::values;
-use crate::standard::{standard_of, standard_run};
+use crate::standard::standard_run;
 use call_rules::performed;
 use left_out_names::feature_of;
 use pascal_grammar::Position;
@@ -62,7 +62,7 @@ fn run_entry(
     ensures { Gives view_stmt result (run_entry scope.now here entry.now (view_arguments given.now)).run }
 {
     match entry {
-        Entry::Std { number } => standard_run(alloc, here, standard_of(*number), given, scope),
+        Entry::Std { number } => standard_run(alloc, here, *number, given, scope),
         _ => {
             let values = values(alloc, here.place, given, scope)?;
             performed_entry(alloc, scope.types(), here, entry, values)

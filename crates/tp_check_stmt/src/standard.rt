@@ -4,15 +4,17 @@ ghost use Rattle.std.specs.Prelude.{◌≡◌, map};
 ghost use Rattle.typed_tree.specs.Expressions.{view_expr};
 ghost use Rattle.typed_tree.specs.Statements.{view_stmt, view_written, view_taken};
 ghost use Rattle.expression_tree.specs.Trees.{view_argument, view_arguments};
-ghost use Rattle.typing_rules.specs.Judgements.{Gives};
+ghost use Rattle.typing_rules.specs.Judgements.{Gives, parts};
+ghost use Rattle.tp_check_stmt.specs.Arguments.{sized};
 ghost use Rattle.tp_check_stmt.specs.Lists.{each};
 ghost use Rattle.tp_check_stmt.specs.Places.{spot_of};
-ghost use Rattle.tp_check_stmt.specs.Standard.{item, written, taken_from, taken_one, taken, halted, left, standard_of, standard_run};
+ghost use Rattle.tp_check_stmt.specs.Standard.{item, written, taken_from, taken_one, taken, halted, left, told_of, misgiven, told_two, is_none, is_one, are_two, telling, proceeding, managing, standard_of, standard_run};
 
-use crate::arguments::values;
+use crate::arguments::{sized, values};
 use crate::asked::{is_readable, width, written_value};
 use crate::places::spot_of;
 use pascal_grammar::Position;
+use procedure_rules::{standard_performed, told};
 use scopes::{INTEGER, Scope};
 use statement_tree::place_of;
 use std::alloc::Global;
@@ -22,15 +24,16 @@ use type_layout::{Place, Types};
 use typed_tree::{Expr, ReadItem, Stmt, Value, WriteItem};
 use typing_rules::{Refusal, Rule, broken, is_integer, not_yet, sort_of, sort_of_type};
 
-/// Which statement a standard routine is. Those of `Later` are not built yet.
+/// Which statement a standard routine is. `Heap` is New or Dispose. A function is none; it counts among the other ones.
 #[derive(Clone, Copy, Debug, PartialEq, Eq)]
 pub(crate) enum StandardStatement {
     Write(bool),
     Read(bool),
     Halt,
     Exit,
-    Later,
-    Function,
+    Str,
+    Heap,
+    Other,
 }
 
 fn item(alloc: Global, argument: &Argument, scope: &Scope) -> Result<WriteItem, Refusal>
@@ -161,8 +164,112 @@ fn left(place: Place, values: &[Expr]) -> Result<Stmt, Refusal>
     }
 }
 
-/// Which statement the standard routine with a number is.
-pub(crate) fn standard_of(number: u32) -> StandardStatement
+// Other arguments than those that are asked for.
+fn misgiven(alloc: Global, place: Place, given: &[Argument], scope: &Scope) -> Result<Stmt, Refusal>
+    ensures { Gives view_stmt result (misgiven scope.now place (view_arguments given.now)).run }
+{
+    let _values = values(alloc, place, given, scope)?;
+    Err(Refusal::Because(broken(place, Rule::Called)))
+}
+
+fn told_pair(
+    alloc: Global,
+    place: Place,
+    one: &Argument,
+    to: &Argument,
+    scope: &Scope,
+) -> Result<Stmt, Refusal>
+    ensures { Gives view_stmt result (parts (sized scope.now (view_argument one.now)) (sized scope.now (view_argument to.now)) (told_of scope.now.types.types place)).run }
+{
+    let one = sized(alloc, one, scope)?;
+    let to = sized(alloc, to, scope)?;
+    let call = told(alloc, scope.types(), place, one, to)?;
+    Ok(Stmt::Run { call })
+}
+
+fn told_two(alloc: Global, place: Place, given: &[Argument], scope: &Scope) -> Result<Stmt, Refusal>
+    ensures { Gives view_stmt result (told_two scope.now place (view_arguments given.now)).run }
+{
+    match given {
+        [] => misgiven(alloc, place, given, scope),
+        [one, rest @ ..] => match rest {
+            [] => misgiven(alloc, place, given, scope),
+            [to, _more @ ..] => told_pair(alloc, place, one, to, scope),
+        },
+    }
+}
+
+fn is_none(given: &[Argument]) -> bool
+    ensures { result ≡ is_none (view_arguments given.now) }
+{
+    match given {
+        [] => true,
+        [_one, _rest @ ..] => false,
+    }
+}
+
+fn is_one(given: &[Argument]) -> bool
+    ensures { result ≡ is_one (view_arguments given.now) }
+{
+    match given {
+        [] => false,
+        [_one, rest @ ..] => is_none(rest),
+    }
+}
+
+fn are_two(given: &[Argument]) -> bool
+    ensures { result ≡ are_two (view_arguments given.now) }
+{
+    match given {
+        [] => false,
+        [_one, rest @ ..] => is_one(rest),
+    }
+}
+
+// Str: an integer, with a width or without, and a string.
+fn telling(alloc: Global, place: Place, given: &[Argument], scope: &Scope) -> Result<Stmt, Refusal>
+    ensures { Gives view_stmt result (telling scope.now place (view_arguments given.now)).run }
+{
+    if are_two(given) {
+        told_two(alloc, place, given, scope)
+    } else {
+        misgiven(alloc, place, given, scope)
+    }
+}
+
+// Another standard procedure.
+fn proceeding(
+    alloc: Global,
+    place: Place,
+    number: u32,
+    given: &[Argument],
+    scope: &Scope,
+) -> Result<Stmt, Refusal>
+    ensures { Gives view_stmt result (proceeding scope.now place number (view_arguments given.now)).run }
+{
+    let values = values(alloc, place, given, scope)?;
+    let call = standard_performed(alloc, scope.types(), place, number, values)?;
+    Ok(Stmt::Run { call })
+}
+
+// New and Dispose.
+fn managing(
+    alloc: Global,
+    place: Place,
+    number: u32,
+    given: &[Argument],
+    scope: &Scope,
+) -> Result<Stmt, Refusal>
+    ensures { Gives view_stmt result (managing scope.now place number (view_arguments given.now)).run }
+{
+    if are_two(given) {
+        Err(Refusal::Because(not_yet(place)))
+    } else {
+        proceeding(alloc, place, number, given, scope)
+    }
+}
+
+fn standard_of(number: u32) -> StandardStatement
     ensures { result ≡ standard_of number }
 {
     match number {
@@ -172,20 +279,21 @@ pub(crate) fn standard_of(number: u32) -> StandardStatement
         25 => StandardStatement::Read(true),
         30 => StandardStatement::Halt,
         31 => StandardStatement::Exit,
-        7 | 8 | 16 | 17 | 20 | 21 | 28 | 29 => StandardStatement::Later,
-        _ => StandardStatement::Function,
+        20 => StandardStatement::Str,
+        28 | 29 => StandardStatement::Heap,
+        _ => StandardStatement::Other,
     }
 }
 
-/// The call of a standard routine that begins here.
-pub(crate) fn standard_run(
+fn statement_of(
     alloc: Global,
     here: Position,
+    number: u32,
     one: StandardStatement,
     given: &[Argument],
     scope: &Scope,
 ) -> Result<Stmt, Refusal>
-    ensures { Gives view_stmt result (standard_run scope.now here one (view_arguments given.now)).run }
+    ensures { Gives view_stmt result (standard_run scope.now here number one (view_arguments given.now)).run }
 {
     let place = here.place;
     match one {
@@ -199,10 +307,21 @@ pub(crate) fn standard_run(
             let values = values(alloc, place, given, scope)?;
             left(place, values.as_slice())
         }
-        StandardStatement::Later => Err(Refusal::Because(not_yet(place))),
-        StandardStatement::Function => {
-            let _values = values(alloc, place, given, scope)?;
-            Err(Refusal::Because(broken(place, Rule::Stands)))
-        }
+        StandardStatement::Str => telling(alloc, place, given, scope),
+        StandardStatement::Heap => managing(alloc, place, number, given, scope),
+        StandardStatement::Other => proceeding(alloc, place, number, given, scope),
     }
+}
+
+/// The call of the standard routine with a number, which begins here.
+pub(crate) fn standard_run(
+    alloc: Global,
+    here: Position,
+    number: u32,
+    given: &[Argument],
+    scope: &Scope,
+) -> Result<Stmt, Refusal>
+    ensures { Gives view_stmt result (standard_run scope.now here number (standard_of number) (view_arguments given.now)).run }
+{
+    statement_of(alloc, here, number, standard_of(number), given, scope)
 }
