@@ -1,0 +1,2 @@
+pub mod FirstTrees
+pub mod Laws

@@ -1,0 +1,6 @@
+//! The meaning reads the first values of typed constants as the sources say them.
+#![tactic(auto)]
+
+mod laws;
+
+pub use laws::first_tree_laws;

@@ -1,0 +1,3 @@
+pub mod Ordinals
+pub mod Strings
+pub mod Sets

@@ -1,0 +1,4 @@
+pub mod Views
+pub mod FirstValueLaws
+pub mod Sizes
+pub mod Answered

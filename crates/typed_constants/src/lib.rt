@@ -1,0 +1,14 @@
+//! First values of typed constants, as the bytes that their variables begin with.
+#![tactic(auto)]
+
+mod bounds;
+mod check;
+mod fields;
+mod fitting;
+mod initial;
+mod places;
+mod plain;
+mod written;
+
+pub use check::{check_first_value, first_value_laws};
+pub use initial::first_value;
