@@ -15,7 +15,7 @@ use Rattle.dos_runner.specs.declared.runner.RunEnd.TheVariants as ends
 use Rattle.dos_runner.specs.Run.{running, IsInput, Progress, advanced, IsFinish}
 use Rattle.dos_runner.specs.Outside.{Outside, Progresses, Advances}
 use Rattle.dos_runner.proofs.Answered.{goes_quietly, stops_quietly, advances_so}
-use Rattle.dos_runner.proofs.Services.{quiet}
+use Rattle.dos_runner.proofs.Services.{quiet, finishes_running}
 use Rattle.overlay_manager.specs.Manager.{Manager}
 use Rattle.overlay_run.specs.Managed.{Managed, IsTrapped, IsCleared, IsServicedAs, IsAfter}
 use Rattle.overlay_runner.specs.declared.course.Course.{Course}
@@ -179,6 +179,21 @@ plain-event (Some held) old t event machine over at result traps o o' steps othe
           (ap (managed old.ovr traps) (sym (finish input taken out err is_input)));
     })
     (finished old.machine segment offset)
+
+-- an instruction ran that asked for nothing
+pub ran-event : (known : Option Folder) (old : Course) (t : State) (traps : ℕ) (o : Outside) → Steps old.machine t events.Ran
+    → IfSome known (λ held. ManagedAdvances (IsManagedEvent (bytes_of held old.ovr.name) old.machine old.ovr traps old.ovr traps old.over) (FindsTrap old.ovr old.machine) None old (with_streams old t old.over) traps traps o o)
+ran-event None old t traps o steps = tt
+ran-event (Some held) old t traps o steps =
+    goes_quietly (IsManagedEvent (bytes_of held old.ovr.name) old.machine old.ovr traps old.ovr traps old.over) t t old.over o o refl
+    (λ input taken out err is_input. record {
+      running = refl;
+      machine = t;
+      event = events.Ran;
+      steps = steps;
+      result = ap (managed old.ovr traps) (sym (finishes_running old.machine t old.over input taken out err is_input));
+    })
+    (record { input = refl; output = refl; errors = refl })
 
 -- a fault is counted by what it names
 pub quiet-rises : (end : Option RunEnd) (o : Outside) (files files' : ℕ) → IsQuietEnd end → (end ≡ Some ends.FilesFault → HasRisen files files') → Rises end o o files files'

@@ -107,6 +107,7 @@ impl Course {
     }
 
     /// One event. None where the process goes on.
+    #[inline(always)]
     fn advance<F: Files, S: Source, K: Sink, E: Sink>(
         &mut self,
         traps: &mut u64,
@@ -165,6 +166,7 @@ impl Course {
         let segment = self.machine.reg(Reg::Cs);
         let at = Far { offset, segment };
         match self.machine.step() {
+            Event::Ran => None,
             Event::Service(number) => {
                 self.serve(number, at, traps, files, input, output, errors)
             }
@@ -252,6 +254,7 @@ impl Course {
 }
 
 /// How many events the last one is that ended a run so: none where nothing came of it.
+#[inline(always)]
 fn events_in(end: RunEnd) -> u64
     ensures value { result ≡ events_in end }
     ensures small { result ≤ 1 }

@@ -1,10 +1,18 @@
-use Rattle.std.proofs.Common.{sym}
+use Rattle.std.proofs.Common.{sym, subst}
+use Rattle.cpu_8086.specs.declared.machine.Event.{Event}
 use Rattle.cpu_8086.specs.declared.registers.Far.{Far}
+use Rattle.cpu_8086.specs.Step.{Steps}
 use Rattle.dos_runner.specs.Outside.{Outside}
 use Rattle.dos_runner.specs.Run.{IsFinish}
 use Rattle.dos_runner.proofs.Answered.{outside}
-use Rattle.overlay_runner.proofs.EventLaws.{service-event, plain-event, plain-rises}
+use Rattle.overlay_runner.proofs.EventLaws.{ran-event, service-event, plain-event, plain-rises}
 use Rattle.overlay_runner.proofs.course.Course.advance.Goals as goal
+
+pub returns-in-Ran-clause-advanced : goal.returns-in-Ran-clause-advanced
+returns-in-Ran-clause-advanced g c =
+    let o : Outside = outside (g.S.Source.remaining c.args.input.now) (g.K.Sink.contents c.args.output.now) (g.E.Sink.contents c.args.errors.now) (g.S.Source.faults c.args.input.now) (g.K.Sink.faults c.args.output.now) (g.E.Sink.faults c.args.errors.now) in
+    ran-event (g.F.Files.folder c.args.files.now) c.args.self.now c.step.new.self c.args.traps.now o
+    (subst (λ (event : Event). Steps c.args.self.now.machine c.step.new.self event) c.in-Ran.is c.step.ensures)
 
 pub returns-in-Service-clause-advanced : goal.returns-in-Service-clause-advanced
 returns-in-Service-clause-advanced g c =
