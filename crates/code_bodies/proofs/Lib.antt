@@ -1,0 +1,4 @@
+pub mod Frames
+pub mod Calls
+pub mod Statements
+pub mod Induction

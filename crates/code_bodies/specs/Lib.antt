@@ -1,0 +1,3 @@
+pub mod Expressible
+pub mod Layouts
+pub mod Bodies

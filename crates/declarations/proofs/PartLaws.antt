@@ -1,0 +1,81 @@
+-- Parts of declarations are judged lawfully.
+use Rattle.std.proofs.Common.{ℕ, List, [], ◌∷◌, Option}
+use Rattle.type_layout.specs.declared.definitions.TypeId.{TypeId}
+use Rattle.syntax_tree.specs.declared.identifier.Identifier.{Identifier}
+use Rattle.source_tree.specs.declared.declaration.ConstantDeclaration.{ConstantDeclaration}
+use Rattle.source_tree.specs.declared.declaration.ConstantDeclaration.TheVariants as c
+use Rattle.source_tree.specs.declared.declaration.VariableDeclaration.{VariableDeclaration}
+use Rattle.source_tree.specs.declared.declaration.DeclarationPart.{DeclarationPart}
+use Rattle.source_tree.specs.declared.declaration.DeclarationPart.TheVariants as part_of
+use Rattle.expression_tree.specs.Trees.{Tree, view_simple}
+use Rattle.scopes.specs.declared.entries.Entry.TheVariants as entry
+use Rattle.scopes.specs.Environment.{Environment}
+use Rattle.typing_rules.specs.Judgements.{Judgement, makes}
+use Rattle.typing_rules.specs.Laws.{Lawful}
+use Rattle.typing_rules.proofs.JudgementLaws.{lawful_makes, lawful_refuses, lawful_part}
+use Rattle.constant_expressions.specs.Constants.{judged}
+use Rattle.constant_expressions.proofs.ConstantLaws as constants
+use Rattle.type_denoters.specs.Trees.{view_denoter}
+use Rattle.type_denoters.specs.Additions.{entered}
+use Rattle.type_denoters.specs.Denoters as types
+use Rattle.type_denoters.specs.Denoters.{ground}
+use Rattle.type_denoters.proofs.DenoterLaws.{lawful_entered}
+use Rattle.type_denoters.proofs.DenoterLaws as denoters
+use Rattle.type_parts.specs.Parts.{type_part}
+use Rattle.type_parts.proofs.PartLaws.{lawful_part_of}
+use Rattle.declarations.specs.declared.homes.Home.{Home}
+use Rattle.declarations.specs.Progress.{Progress, knowing, with_variable}
+use Rattle.declarations.specs.Constants.{plain_constant, constant_declared, constants_declared}
+use Rattle.declarations.specs.Variables.{variable_entry, variable_declared, names_declared, group_declared, variables_declared}
+use Rattle.declarations.specs.Parts.{naming, part_declared}
+
+-- ---- constants
+
+lawful_plain : (g : Environment) (one : Identifier) (value : Tree) → Lawful (plain_constant g one value)
+lawful_plain g one value =
+    lawful_part (judged g value) (λ c. entered g one.position.place one.name (entry.Const c.ty c.value)) (constants.lawful g value)
+    (λ c. lawful_entered g one.position.place one.name (entry.Const c.ty c.value))
+
+lawful_constant : (g : Environment) (one : ConstantDeclaration) → Lawful (constant_declared g one)
+lawful_constant g (c.Plain one value) = lawful_plain g one (view_simple value)
+lawful_constant g (c.Typed one denoter first) = lawful_refuses _
+
+lawful_constants : (g : Environment) (all : List ConstantDeclaration) → Lawful (constants_declared g all)
+lawful_constants g [] = lawful_makes g
+lawful_constants g (one ∷ rest) =
+    lawful_part (constant_declared g one) (λ h. constants_declared h rest) (lawful_constant g one) (λ h. lawful_constants h rest)
+
+-- ---- variables
+
+module _ (home : Home) (ty : TypeId) where
+  lawful_variable : (p : Progress) (one : Identifier) → Lawful (variable_declared home ty p one)
+  lawful_variable p one =
+      lawful_part (entered p.scope one.position.place one.name (variable_entry home ty p)) (λ g. makes (with_variable home ty (knowing p g)))
+      (lawful_entered p.scope one.position.place one.name (variable_entry home ty p)) (λ g. lawful_makes (with_variable home ty (knowing p g)))
+
+  lawful_names : (p : Progress) (all : List Identifier) → Lawful (names_declared home ty p all)
+  lawful_names p [] = lawful_makes p
+  lawful_names p (one ∷ rest) =
+      lawful_part (variable_declared home ty p one) (λ q. names_declared home ty q rest) (lawful_variable p one) (λ q. lawful_names q rest)
+
+module _ (unit : List ℕ) (home : Home) where
+  lawful_group : (p : Progress) (one : VariableDeclaration) → Lawful (group_declared unit home p one)
+  lawful_group p one =
+      lawful_part (types.judged (ground unit []) p.scope (view_denoter one.denoter)) (λ made. names_declared home made.ty (knowing p made.scope) one.names.items)
+      (denoters.lawful (ground unit []) p.scope (view_denoter one.denoter)) (λ made. lawful_names home made.ty (knowing p made.scope) one.names.items)
+
+  lawful_variables : (p : Progress) (all : List VariableDeclaration) → Lawful (variables_declared unit home p all)
+  lawful_variables p [] = lawful_makes p
+  lawful_variables p (one ∷ rest) =
+      lawful_part (group_declared unit home p one) (λ q. variables_declared unit home q rest) (lawful_group p one) (λ q. lawful_variables q rest)
+
+-- ---- parts
+
+lawful_naming : (p : Progress) (j : Judgement Environment) → Lawful j → Lawful (naming p j)
+lawful_naming p j l = lawful_part j (λ g. makes (knowing p g)) l (λ g. lawful_makes (knowing p g))
+
+pub lawful_declared : (unit : List ℕ) (home : Home) (next : Option ℕ) (p : Progress) (one : DeclarationPart) → Lawful (part_declared unit home next p one)
+unfolding part_declared
+lawful_declared unit home next p (part_of.Constants here all) = lawful_naming p (constants_declared p.scope all.items) (lawful_constants p.scope all.items)
+lawful_declared unit home next p (part_of.Types here all) = lawful_naming p (type_part unit next p.scope all.items) (lawful_part_of unit next p.scope all.items)
+lawful_declared unit home next p (part_of.Variables here all) = lawful_variables unit home p all.items
