@@ -1,5 +1,5 @@
 -- Parts of declarations are judged lawfully.
-use Rattle.std.proofs.Common.{ℕ, List, [], ◌∷◌, Option}
+use Rattle.std.proofs.Common.{ℕ, List, [], ◌∷◌, ◌++◌, Option}
 use Rattle.type_layout.specs.declared.definitions.TypeId.{TypeId}
 use Rattle.syntax_tree.specs.declared.identifier.Identifier.{Identifier}
 use Rattle.source_tree.specs.declared.declaration.ConstantDeclaration.{ConstantDeclaration}
@@ -10,24 +10,27 @@ use Rattle.source_tree.specs.declared.declaration.DeclarationPart.TheVariants as
 use Rattle.expression_tree.specs.Trees.{Tree, view_simple}
 use Rattle.scopes.specs.declared.entries.Entry.TheVariants as entry
 use Rattle.scopes.specs.Environment.{Environment}
-use Rattle.typing_rules.specs.Judgements.{Judgement, makes}
+use Rattle.typing_rules.specs.Judgements.{Judgement, makes, part}
 use Rattle.typing_rules.specs.Laws.{Lawful}
-use Rattle.typing_rules.proofs.JudgementLaws.{lawful_makes, lawful_refuses, lawful_part}
+use Rattle.typing_rules.proofs.JudgementLaws.{lawful_makes, lawful_part}
 use Rattle.constant_expressions.specs.Constants.{judged}
 use Rattle.constant_expressions.proofs.ConstantLaws as constants
-use Rattle.type_denoters.specs.Trees.{view_denoter}
+use Rattle.type_denoters.specs.Trees.{Denoter, view_denoter}
 use Rattle.type_denoters.specs.Additions.{entered}
 use Rattle.type_denoters.specs.Denoters as types
 use Rattle.type_denoters.specs.Denoters.{ground}
 use Rattle.type_denoters.proofs.DenoterLaws.{lawful_entered}
 use Rattle.type_denoters.proofs.DenoterLaws as denoters
+use Rattle.typed_constants.specs.Trees.{Initial, view_initializer}
+use Rattle.typed_constants.specs.FirstValues.{first_value}
+use Rattle.typed_constants.proofs.FirstValueLaws as first_values
 use Rattle.type_parts.specs.Parts.{type_part}
 use Rattle.type_parts.proofs.PartLaws.{lawful_part_of}
 use Rattle.declarations.specs.declared.homes.Home.{Home}
-use Rattle.declarations.specs.Progress.{Progress, knowing, with_variable}
-use Rattle.declarations.specs.Constants.{plain_constant, constant_declared, constants_declared}
+use Rattle.declarations.specs.Progress.{Progress, progress, knowing, beginning, with_variable}
+use Rattle.declarations.specs.Constants.{plain_constant, static_entry, static_declared, typed_constant, naming, constant_declared, constants_declared}
 use Rattle.declarations.specs.Variables.{variable_entry, variable_declared, names_declared, group_declared, variables_declared}
-use Rattle.declarations.specs.Parts.{naming, part_declared}
+use Rattle.declarations.specs.Parts.{part_declared}
 
 -- ---- constants
 
@@ -36,14 +39,30 @@ lawful_plain g one value =
     lawful_part (judged g value) (λ c. entered g one.position.place one.name (entry.Const c.ty c.value)) (constants.lawful g value)
     (λ c. lawful_entered g one.position.place one.name (entry.Const c.ty c.value))
 
-lawful_constant : (g : Environment) (one : ConstantDeclaration) → Lawful (constant_declared g one)
-lawful_constant g (c.Plain one value) = lawful_plain g one (view_simple value)
-lawful_constant g (c.Typed one denoter first) = lawful_refuses _
+lawful_naming : (p : Progress) (j : Judgement Environment) → Lawful j → Lawful (naming p j)
+lawful_naming p j l = lawful_part j (λ g. makes (knowing p g)) l (λ g. lawful_makes (knowing p g))
 
-lawful_constants : (g : Environment) (all : List ConstantDeclaration) → Lawful (constants_declared g all)
-lawful_constants g [] = lawful_makes g
-lawful_constants g (one ∷ rest) =
-    lawful_part (constant_declared g one) (λ h. constants_declared h rest) (lawful_constant g one) (λ h. lawful_constants h rest)
+lawful_static : (p : Progress) (ty : TypeId) (one : Identifier) (bytes : List ℕ) → Lawful (static_declared p ty one bytes)
+lawful_static p ty one bytes =
+    lawful_part (entered p.scope one.position.place one.name (static_entry ty p)) (λ g. makes (progress g (p.globals ++ beginning ty bytes ∷ []) p.locals))
+    (lawful_entered p.scope one.position.place one.name (static_entry ty p)) (λ g. lawful_makes (progress g (p.globals ++ beginning ty bytes ∷ []) p.locals))
+
+lawful_typed : (unit : List ℕ) (p : Progress) (one : Identifier) (denoter : Denoter) (first : Initial) → Lawful (typed_constant unit p one denoter first)
+lawful_typed unit p one denoter first =
+    lawful_part (types.judged (ground unit []) p.scope denoter)
+    (λ made. part (first_value made.scope one.position.place made.ty first) (λ bytes. static_declared (knowing p made.scope) made.ty one bytes))
+    (denoters.lawful (ground unit []) p.scope denoter)
+    (λ made. lawful_part (first_value made.scope one.position.place made.ty first) (λ bytes. static_declared (knowing p made.scope) made.ty one bytes)
+    (first_values.lawful made.scope one.position.place made.ty first) (λ bytes. lawful_static (knowing p made.scope) made.ty one bytes))
+
+lawful_constant : (unit : List ℕ) (p : Progress) (one : ConstantDeclaration) → Lawful (constant_declared unit p one)
+lawful_constant unit p (c.Plain one value) = lawful_naming p (plain_constant p.scope one (view_simple value)) (lawful_plain p.scope one (view_simple value))
+lawful_constant unit p (c.Typed one denoter first) = lawful_typed unit p one (view_denoter denoter) (view_initializer first)
+
+lawful_constants : (unit : List ℕ) (p : Progress) (all : List ConstantDeclaration) → Lawful (constants_declared unit p all)
+lawful_constants unit p [] = lawful_makes p
+lawful_constants unit p (one ∷ rest) =
+    lawful_part (constant_declared unit p one) (λ q. constants_declared unit q rest) (lawful_constant unit p one) (λ q. lawful_constants unit q rest)
 
 -- ---- variables
 
@@ -71,11 +90,8 @@ module _ (unit : List ℕ) (home : Home) where
 
 -- ---- parts
 
-lawful_naming : (p : Progress) (j : Judgement Environment) → Lawful j → Lawful (naming p j)
-lawful_naming p j l = lawful_part j (λ g. makes (knowing p g)) l (λ g. lawful_makes (knowing p g))
-
 pub lawful_declared : (unit : List ℕ) (home : Home) (next : Option ℕ) (p : Progress) (one : DeclarationPart) → Lawful (part_declared unit home next p one)
 unfolding part_declared
-lawful_declared unit home next p (part_of.Constants here all) = lawful_naming p (constants_declared p.scope all.items) (lawful_constants p.scope all.items)
+lawful_declared unit home next p (part_of.Constants here all) = lawful_constants unit p all.items
 lawful_declared unit home next p (part_of.Types here all) = lawful_naming p (type_part unit next p.scope all.items) (lawful_part_of unit next p.scope all.items)
 lawful_declared unit home next p (part_of.Variables here all) = lawful_variables unit home p all.items

@@ -1,5 +1,5 @@
 -- How far the declarations of a unit are read, and where variables go.
-use Rattle.std.specs.Prelude.{ℕ, ◌+◌, List, [], ◌∷◌, ◌++◌, None, length}
+use Rattle.std.specs.Prelude.{ℕ, ◌+◌, List, [], ◌∷◌, ◌++◌, Some, None, length}
 use Rattle.type_layout.specs.declared.definitions.TypeId.{TypeId}
 use Rattle.typed_tree.specs.declared.units.Global.{Global}
 use Rattle.scopes.specs.Members.{narrow}
@@ -33,6 +33,10 @@ number_behind (home.Routine level first) globals locals = narrow (first + length
 -- a variable of this type that begins with no value
 abbrev pub unset : TypeId → Global
 unset ty = record { ty = ty; first = None }
+
+-- one that begins with these bytes
+abbrev pub beginning : TypeId → List ℕ → Global
+beginning ty bytes = record { ty = ty; first = Some bytes }
 
 abbrev pub with_variable : Home → TypeId → Progress → Progress
 with_variable home.Unit ty p = progress p.scope (p.globals ++ unset ty ∷ []) p.locals

@@ -33,7 +33,8 @@ pub fn part_declared(
 {
     match one {
         DeclarationPart::Constants { constants, .. } => {
-            constants_declared(alloc, constants.as_slice(), scope)
+            let all = constants.as_slice();
+            constants_declared(alloc, all, scope, globals, locals, unit)
         }
         DeclarationPart::Types { types, .. } => {
             type_part(alloc, types.as_slice(), scope, unit, next)
