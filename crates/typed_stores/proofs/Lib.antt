@@ -5,3 +5,4 @@ pub mod Cells
 pub mod Assigned
 pub mod Kept
 pub mod Steps
+pub mod Places

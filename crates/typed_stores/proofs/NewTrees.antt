@@ -44,13 +44,13 @@ below_class n false = tt
 
 -- ---- the parts and the new tree of a type, over the types before it
 
-parts_round : (types : List TypeDef) (ty : TypeId) (one : TypeDef) (r : Round types ty.0 one) → parts_at types ty ≡ parts_by r.front (parts_of r.front) one
+pub parts_round : (types : List TypeDef) (ty : TypeId) (one : TypeDef) (r : Round types ty.0 one) → parts_at types ty ≡ parts_by r.front (parts_of r.front) one
 parts_round types ty one r = rw (r.is, ← r.at) (get_or-given_by-middle parts_by r.front one r.back [])
 
 tree_round : (types : List TypeDef) (ty : TypeId) (one : TypeDef) (r : Round types ty.0 one) → new_tree types ty ≡ tree_by r.front (trees_of r.front) one
 tree_round types ty one r = rw (r.is, ← r.at) (get_or-given_by-middle tree_by r.front one r.back Tip)
 
-parts_front : (types : List TypeDef) (k : ℕ) (one : TypeDef) (r : Round types k one) (ty : TypeId) → ty.0 < k → parts_in (parts_of r.front) (Some ty) ≡ parts_at types ty
+pub parts_front : (types : List TypeDef) (k : ℕ) (one : TypeDef) (r : Round types k one) (ty : TypeId) → ty.0 < k → parts_in (parts_of r.front) (Some ty) ≡ parts_at types ty
 parts_front types k one r ty h = rw r.is (sym (get_or-given_by-front parts_by r.front (one ∷ r.back) ty.0 [] (omega (arith, h, r.at))))
 
 tree_front : (types : List TypeDef) (k : ℕ) (one : TypeDef) (r : Round types k one) (ty : TypeId) → ty.0 < k → get_or (trees_of r.front) ty.0 Tip ≡ new_tree types ty
@@ -67,17 +67,17 @@ bounds_front types k one r index is =
 
 -- ---- a number that the table doesn't have
 
-past_of_none : (types : List TypeDef) (k : ℕ) → slice_get types k ≡ None → length types ≤ k
+pub past_of_none : (types : List TypeDef) (k : ℕ) → slice_get types k ≡ None → length types ≤ k
 past_of_none [] k e = omega arith
 past_of_none (one ∷ types) zero e = absurd cc
 past_of_none (one ∷ types) (suc k) e = omega (arith, past_of_none types k e)
 
-length_given : {A : Type 0} (rule : List TypeDef → List A → TypeDef → A) (types : List TypeDef) → length (given_by rule [] [] types) ≡ length types
+pub length_given : {A : Type 0} (rule : List TypeDef → List A → TypeDef → A) (types : List TypeDef) → length (given_by rule [] [] types) ≡ length types
 length_given {A} rule types =
     let none : List A = [] in
     length-given_by rule [] none types ∙ zero-add (length types)
 
-no_parts : (types : List TypeDef) (ty : TypeId) → slice_get types ty.0 ≡ None → parts_at types ty ≡ []
+pub no_parts : (types : List TypeDef) (ty : TypeId) → slice_get types ty.0 ≡ None → parts_at types ty ≡ []
 no_parts types ty e = get_or_past (parts_of types) ty.0 [] (omega (arith, length_given parts_by types, past_of_none types ty.0 e))
 
 no_tree : (types : List TypeDef) (ty : TypeId) → slice_get types ty.0 ≡ None → new_tree types ty ≡ Tip

@@ -3,13 +3,15 @@ use Rattle.std.specs.Prelude.{◌≡◌, ℕ, ◌<◌, List, [], ◌∷◌, All,
 use Rattle.type_layout.specs.declared.definitions.TypeId.{TypeId}
 use Rattle.type_layout.specs.declared.definitions.TypeDef.{TypeDef}
 use Rattle.type_layout.specs.declared.definitions.TypeDef.TheVariants as type
-use Rattle.type_layout.specs.Table.{Table}
-use Rattle.well_formed.specs.Fits.{IsStructured}
+use Rattle.type_layout.specs.Layouts.{bounds_at}
+use Rattle.type_layout.specs.Storage.{count_between}
+use Rattle.type_layout.specs.Table.{Table, AllDefined}
+use Rattle.well_formed.specs.Fits.{IsStructured, field_type}
 use Rattle.meaning.specs.Trees.{Spot, Value}
-use Rattle.meaning.specs.Shapes.{new_tree}
-use Rattle.meaning.specs.Programs.{Sort, definition}
+use Rattle.meaning.specs.Shapes.{parts_at, field_place, new_tree}
+use Rattle.meaning.specs.Programs.{Sort, definition, beside}
 use Rattle.meaning.specs.Store.{Object, Store, next_serial, tree_at, value_at, text_at, followed, with_new, without, disposed}
-use Rattle.meaning.specs.Activations.{Reached, whole, assigned, copied}
+use Rattle.meaning.specs.Activations.{Reached, whole, inside, assigned, copied}
 use Rattle.meaning.specs.Standard.{made}
 use Rattle.typed_stores.specs.Forms.{Made, Own, World, LeadsTo, IsHeld, Cell, form_at, IsTreeOf}
 use Rattle.typed_stores.specs.Paths.{IsPlaceOf}
@@ -41,3 +43,10 @@ pub record GrowingLaws (w : World) : Type 0 where
   pub variable : (sort : Sort) → IsLawful sort.table → IsTreeOf w sort (new_tree sort.table.types sort.ty)
   pub place : (more : List Made) (spot : Spot) (sort : Sort) → IsPlaceOf w spot sort → IsPlaceOf (grown w more) spot sort
   pub held : (more : List Made) (table : Table) (one : TypeDef) (v : Value) → IsHeld w table one v → IsHeld (grown w more) table one v
+
+-- parts of places: a field of a record or an object, and an element of an array that lies within its bounds
+pub record PartLaws (w : World) : Type 0 where
+  pub field : (spot : Spot) (sort : Sort) (number : ℕ) (ty : TypeId) → AllDefined [] sort.table.types → IsPlaceOf w spot sort → field_type sort.table.types sort.ty number ≡ Some ty
+      → IsPlaceOf w (inside spot (field_place (parts_at sort.table.types sort.ty) number)) (beside sort ty)
+  pub element : (spot : Spot) (sort : Sort) (index of : TypeId) (n : ℕ) → IsPlaceOf w spot sort → definition sort ≡ Some (type.ArrayOf index of)
+      → n < count_between (bounds_at sort.table.types index).0 (bounds_at sort.table.types index).1 → IsPlaceOf w (inside spot n) (beside sort of)

@@ -2,6 +2,7 @@ use Rattle.typed_stores.proofs.Grown.{held_grown, place_grown}
 use Rattle.typed_stores.proofs.NewTrees.{new_is}
 use Rattle.typed_stores.proofs.Kept.{with_new_keeps, without_keeps, disposed_keeps}
 use Rattle.typed_stores.proofs.Steps.{tree_found, value_found, text_found, pointer_found, assigned_keeps, copied_keeps, made_keeps, target_made}
+use Rattle.typed_stores.proofs.Places.{field_place_of, element_place_of}
 use Rattle.typed_stores.proofs.typed_store_laws.Goals as goal
 
 pub returns : goal.returns
@@ -25,5 +26,9 @@ returns c = record {
     variable = λ sort lawful. new_is w sort.table lawful.defined sort.ty;
     place = place_grown w;
     held = held_grown w;
+  };
+  parts = λ w. record {
+    field = field_place_of w;
+    element = element_place_of w;
   };
 }
