@@ -7,4 +7,5 @@ pub mod Inputs
 pub mod Writes
 pub mod Ends
 pub mod Routines
+pub mod Getting
 pub mod Reading

@@ -88,7 +88,7 @@ module _ (w : World) (live : Live) (s : State) (r : ResidentState) (a : Represen
 
   module _ (site : Site) (fits : Fits w site live) (chained : IsTrue w.framed → IsChained w live) where
     -- a call through a stub is framed, where that is asked for
-    framed_call : (back : Back) (to : Segment) (jp : ℕ) (end : ResidentState) → CallsTo true back to jp pushed end → 64 ≤ end.registers.sp → IsTrue w.framed → IsFramed w.machine true end
+    pub framed_call : (back : Back) (to : Segment) (jp : ℕ) (end : ResidentState) → CallsTo true back to jp pushed end → 64 ≤ end.registers.sp → IsTrue w.framed → IsFramed w.machine true end
     framed_call back to jp end c room e =
         let sp0 = a.sp in
         let sp1 = b.sp in

@@ -104,7 +104,8 @@ module _ (p : Program) (framed : Bool) (t : ResidentState) (h : HasRoom p t 68) 
   abbrev pub entered_state : ℕ → Segment → ℕ → ResidentState
   entered_state ip to entry = called t (at_offset g ip) (paired_cells t.cells g.ss g.sp) to entry
 
-  call_goes : (ip : ℕ) (target : Target) → far_call p t (at_offset g ip) t.cells target ≡ called_to p t (at_offset g ip) (paired_cells t.cells g.ss g.sp) target
+  -- both words of the pair are free
+  pub call_goes : (ip : ℕ) (target : Target) → far_call p t (at_offset g ip) t.cells target ≡ called_to p t (at_offset g ip) (paired_cells t.cells g.ss g.sp) target
   call_goes ip target =
       ap (λ o. paired_then t.cells g.ss o (λ half. paired_then half g.ss (((g.sp + 65534) % 65536 + 65534) % 65536) (λ whole. called_to p t (at_offset g ip) whole target))) low_sp
       ∙ ap (λ o. paired_then t.cells g.ss (g.sp - 2) (λ half. paired_then half g.ss o (λ whole. called_to p t (at_offset g ip) whole target))) lower_sp

@@ -27,13 +27,13 @@ use Rattle.code_calls.proofs.Far.{entered_state, far_state, far_calls}
 use Rattle.code_calls.proofs.Near.{near_calls}
 use Rattle.code_calls.proofs.Own.{own_calls}
 
-far_tree : (g : Registers) (to : Place) → act g (instr.CallFar to.offset to.segment) ≡ FarCall g to.segment to.offset
+pub far_tree : (g : Registers) (to : Place) → act g (instr.CallFar to.offset to.segment) ≡ FarCall g to.segment to.offset
 unfolding act
 far_tree g to = refl
 
 module _ (w : World) (site : Site) (live : Live) (fits : Fits w site live) (s : State) (r : ResidentState) (a : Represents w live s r) (n k : ℕ) (vs : List ℕ) (b : Pushes w.machine w.framed site.segment n (site.at k) r vs) where
   -- what the flag's byte holds behind the arguments
-  set_there : (to : Segment) → AsksFlag to s.flag → IsSet to (b.cells w.machine.installed)
+  pub set_there : (to : Segment) → AsksFlag to s.flag → IsSet to (b.cells w.machine.installed)
   set_there (Image number) asked = tt
   set_there (Overlay number) asked =
       let kept = b.bytes w.machine.installed (flag_kept w.machine.installed w.choice live.frame s.cells r.registers r.cells a.active) in

@@ -28,7 +28,7 @@ linked_no choice m (suc levels) at e =
     let q : Place = record { segment = choice.stack_segment; offset = at } in
     bind_no (word_at m q) (λ up. linked choice m levels up) (word_no_division m q) (λ up h. linked_no choice m levels up h) e
 
-place_no_division : (choice : Choice) (f : Frame) (m : Cells) (a : Address) → place_of choice f m a ≡ Err ByZero → ⊥
+pub place_no_division : (choice : Choice) (f : Frame) (m : Cells) (a : Address) → place_of choice f m a ≡ Err ByZero → ⊥
 place_no_division choice f m (Global unit number plus) e =
     bind_no ((if_placed (named f.unit f.names unit) >>= λ name. Ok (record { unit = name; number = number })) >>= λ key. if_placed (choice.datum key) >>= λ offset. Ok (record { segment = choice.data_segment; offset = offset })) (λ p. Ok (place_after p plus))
     (λ h. bind_no (if_placed (named f.unit f.names unit) >>= λ name. Ok (record { unit = name; number = number })) (λ key. if_placed (choice.datum key) >>= λ offset. Ok (record { segment = choice.data_segment; offset = offset }))

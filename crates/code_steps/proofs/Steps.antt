@@ -34,7 +34,7 @@ use Rattle.code_steps.proofs.Divisions.{bind_no, placed_no}
 use Rattle.code_steps.proofs.Entering.{and_not, called_flows}
 
 -- as many values as arguments
-values_length : (choice : Choice) (f : Frame) (m : flat_memory.Cells) (es : List Expr) (vs : List ℕ) → values_of choice f m es ≡ Ok vs → length vs ≡ length es
+pub values_length : (choice : Choice) (f : Frame) (m : flat_memory.Cells) (es : List Expr) (vs : List ℕ) → values_of choice f m es ≡ Ok vs → length vs ≡ length es
 values_length choice f m [] vs e = ap count (sym e)
   where
     count : Found (List ℕ) → ℕ
@@ -58,7 +58,7 @@ module _ (w : World) (site : Site) (live : Live) (fits : Fits w site live) (ends
   abbrev Goal : Outcome → Type 0
   Goal o = Flows w site live around (site.at (k + length lines + length (taken site.context result))) s r o
 
-  key_flows : (left : ℕ) → s.turns ≡ suc left → left < bound → (vs : List ℕ) (b : Pushes w.machine w.framed site.segment n (site.at k) r vs) → 68 ≤ b.registers.sp → (key : Key) → Callable w site live key lines bound most → Goal (called w.program w.choice (run w.program w.choice) vs result live.frame (record s { turns = left; work = s.work + m }) key)
+  pub key_flows : (left : ℕ) → s.turns ≡ suc left → left < bound → (vs : List ℕ) (b : Pushes w.machine w.framed site.segment n (site.at k) r vs) → 68 ≤ b.registers.sp → (key : Key) → Callable w site live key lines bound most → Goal (called w.program w.choice (run w.program w.choice) vs result live.frame (record s { turns = left; work = s.work + m }) key)
   key_flows left turns fewer vs b room key c = by (w.program.overlaid key.unit && not s.flag) refl
     where
       by : (x : Bool) → (w.program.overlaid key.unit && not s.flag) ≡ x → Goal (called w.program w.choice (run w.program w.choice) vs result live.frame (record s { turns = left; work = s.work + m }) key)

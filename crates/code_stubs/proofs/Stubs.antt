@@ -40,7 +40,7 @@ module _ (w : World) (site : Site) (live : Live) (fits : Fits w site live) (key 
         let y : Reaches w live true (record { segment = site.segment; offset = site.at (k + 1) }) (Overlay number) (n + 2) (callee.at 0) vs t = record { count = x.count; few = omega (arith, few); end = x.end; leads = x.leads; here = x.here; entered = x.entered } in
         subst (λ z. Reaches w live z (record { segment = site.segment; offset = site.at (k + 1) }) callee.segment (n + 2) (callee.at 0) vs t) (sym far)
         (subst (λ to. Reaches w live true (record { segment = site.segment; offset = site.at (k + 1) }) to (n + 2) (callee.at 0) vs t) (sym in_overlay) y);
-    refused = λ around s t n k m left ip vs a turns b room stands some paid e. stub_refuses w site live fits s t a n k vs b place number (callee.at 0) enters room chained (not_set (w.program.overlaid key.unit) s.flag e) stands named around m left ip turns refusals some paid;
+    refused = λ around s t n k m left ip vs a turns b room stands some paid e. stub_refuses w site live fits s t a n k vs b place number (callee.at 0) enters room chained (not_set (w.program.overlaid key.unit) s.flag e) named stands around m left ip turns refusals some paid;
     body = body;
     short = short;
   }

@@ -1,9 +1,12 @@
 -- Constants are judged lawfully.
-use Rattle.std.proofs.Common.{◌||◌, ℕ, ℤ, List, Option, Some, None}
+use Rattle.std.proofs.Common.{◌≡◌, ◌==◌, ℕ, ℤ, Bool, true, List, [], ◌∷◌, ◌++◌, Option, Some, None, Decides, refl}
+use Rattle.std.proofs.lemmas.Bool.Decides.{Decides-and}
+use Rattle.type_layout.specs.declared.definitions.TypeId.{TypeId}
+use Rattle.type_layout.specs.declared.definitions.Host.TheVariants as host
 use Rattle.type_layout.specs.declared.definitions.TypeDef.{TypeDef}
 use Rattle.type_layout.specs.declared.texts.Place.{Place}
+use Rattle.type_layout.specs.Storage.{holds}
 use Rattle.syntax_tree.specs.declared.expression.PlacedSign.{PlacedSign}
-use Rattle.typed_tree.specs.declared.expressions.Value.{Value}
 use Rattle.typed_tree.specs.declared.expressions.UnaryOp.{UnaryOp}
 use Rattle.typed_tree.specs.declared.expressions.BinaryOp.{BinaryOp}
 use Rattle.scopes.specs.declared.entries.Entry.{Entry}
@@ -12,50 +15,61 @@ use Rattle.scopes.specs.Environment.{Environment, Meaning, named, member, find}
 use Rattle.tp_lexer.specs.declared.token.Feature.{Feature}
 use Rattle.left_out_names.specs.Names.{feature_of}
 use Rattle.typing_rules.specs.declared.faults.Rule.TheVariants as rules
+use Rattle.typing_rules.specs.declared.sorts.SetBase.{SetBase}
 use Rattle.typing_rules.specs.declared.sorts.Sort.{Sort}
 use Rattle.typing_rules.specs.Faults.{broken, not_yet}
 use Rattle.typing_rules.specs.Judgements.{refuses, makes, rule, either}
 use Rattle.typing_rules.specs.Selectors.{asking}
-use Rattle.typing_rules.specs.Sorts.{sort_of_type}
+use Rattle.typing_rules.specs.Sorts.{sort_of_type, sort_of_constant}
 use Rattle.typing_rules.specs.Operators.{sign_value}
 use Rattle.typing_rules.specs.Plans.{operation_of, Asks, AsksNot, IsInteger, is_integer, is_text, allows, allows_not, rule_of}
+use Rattle.set_rules.specs.Bases.{set_over}
 use Rattle.typing_rules.specs.Laws.{Lawful}
 use Rattle.typing_rules.proofs.JudgementLaws.{lawful_makes, lawful_refuses, lawful_rule, lawful_either, lawful_part, lawful_parts}
-use Rattle.typing_rules.proofs.PlanLaws.{tells_integer, tells_allowed, tells_not}
+use Rattle.typing_rules.proofs.PlanLaws.{no, tells_integer, tells_allowed, tells_not, tells_one_host}
+use Rattle.standard_rules.specs.declared.signatures.Signature.{Signature}
+use Rattle.standard_rules.specs.Signatures.{signature_of}
+use Rattle.standard_rules.proofs.StandardLaws.{tells_accepted}
 use Rattle.values.specs.Strings.{joined}
-use Rattle.expression_tree.specs.Trees.{Tree, number, text, control, nil, set, call, signed, negated, combined, name, field, index, followed, of_sign}
+use Rattle.expression_tree.specs.Trees.{Tree, Listed, Elements, single, span, no_elements, and_element, Operand, Operands, plain, wide, no_operands, and_operand, number, text, control, nil, set, call, signed, negated, combined, name, field, index, followed, of_sign}
 use Rattle.constant_expressions.specs.declared.constants.Constant.{Constant}
 use Rattle.constant_expressions.specs.Values as values
-use Rattle.constant_expressions.specs.Values.{bytes_of, number_of, computed, compares, is_set, integer, turned, numbered, combined_values, combined_by}
-use Rattle.constant_expressions.specs.Constants.{of_entry, of_meaning, of_name, marked, judged}
+use Rattle.constant_expressions.specs.Values.{bytes_of, number_of, computed, compares, base_in, integer, turned, sets_combined, numbered, combined_values, combined_by}
+use Rattle.constant_expressions.specs.declared.functions.Function.{Function}
+use Rattle.constant_expressions.specs.declared.functions.StandardFunction.{StandardFunction}
+use Rattle.constant_expressions.specs.Functions.{function_of, applied, chosen, function_entry, function_meant, function_at, function_named, IsTaken, is_taken, called_with}
+use Rattle.constant_expressions.specs.declared.constructors.Ordinal.{Ordinal}
+use Rattle.constant_expressions.specs.declared.constructors.Span.{Span}
+use Rattle.constant_expressions.specs.Constructors.{IsElement, is_element, IsSpan, is_span, AreSpans, are_spans, first_sort, typed_set, set_by, set_of}
+use Rattle.constant_expressions.specs.Constants.{of_entry, of_meaning, of_name, marked, judged, spans_judged, span_judged, operands_judged, operand_judged}
 
 module _ (types : List TypeDef) (place : Place) where
   lawful_numbered : (s : Sort) (n : Option ℤ) → Lawful (numbered place s n)
   lawful_numbered s None = lawful_refuses _
   lawful_numbered s (Some n) = lawful_makes _
 
-  lawful_values : (one : BinaryOp) (s : Sort) (a b : Value) → Lawful (combined_values place one s a b)
-  lawful_values one s a b =
-      lawful_either (is_text s) (makes (values.text (joined (bytes_of a) (bytes_of b)))) (numbered place s (computed one (number_of a) (number_of b)))
-      (lawful_makes _) (lawful_numbered s (computed one (number_of a) (number_of b)))
+  lawful_values : (one : BinaryOp) (s : Sort) (base : Option SetBase) (a b : Constant) → Lawful (combined_values place one s base a b)
+  lawful_values one s (Some base) a b = lawful_makes _
+  lawful_values one s None a b =
+      lawful_either (is_text s) (makes (values.text (joined (bytes_of a.value) (bytes_of b.value)))) (numbered place s (computed one (number_of a.value) (number_of b.value)))
+      (lawful_makes _) (lawful_numbered s (computed one (number_of a.value) (number_of b.value)))
 
-  lawful_allowed : (one : BinaryOp) (s t : Sort) (a b : Value)
-      → Lawful (asking (rule (broken place (rule_of (operation_of one) s t)) (allows (operation_of one) s t) (Asks (operation_of one) s t) tt) (combined_values place one s a b))
+  lawful_allowed : (one : BinaryOp) (s t : Sort) (a b : Constant)
+      → Lawful (asking (rule (broken place (rule_of (operation_of one) s t)) (allows (operation_of one) s t) (Asks (operation_of one) s t) tt) (combined_values place one s (base_in s) a b))
   lawful_allowed one s t a b =
-      lawful_part (rule (broken place (rule_of (operation_of one) s t)) (allows (operation_of one) s t) (Asks (operation_of one) s t) tt) (λ u. combined_values place one s a b)
+      lawful_part (rule (broken place (rule_of (operation_of one) s t)) (allows (operation_of one) s t) (Asks (operation_of one) s t) tt) (λ u. combined_values place one s (base_in s) a b)
       (lawful_rule (broken place (rule_of (operation_of one) s t)) (allows (operation_of one) s t) (Asks (operation_of one) s t) tt (tells_allowed (operation_of one) s t))
-      (λ u. lawful_values one s a b)
+      (λ u. lawful_values one s (base_in s) a b)
 
-  lawful_by : (one : BinaryOp) (s t : Sort) (a b : Value) → Lawful (combined_by place one s t a b)
+  lawful_by : (one : BinaryOp) (s t : Sort) (a b : Constant) → Lawful (combined_by place one s t a b)
   lawful_by one s t a b =
-      let allowed = asking (rule (broken place (rule_of (operation_of one) s t)) (allows (operation_of one) s t) (Asks (operation_of one) s t) tt) (combined_values place one s a b) in
-      lawful_either (compares (operation_of one)) (refuses (broken place rules.Constant)) (either (is_set s || is_set t) (refuses (not_yet place)) allowed)
-      (lawful_refuses _)
-      (lawful_either (is_set s || is_set t) (refuses (not_yet place)) allowed (lawful_refuses _) (lawful_allowed one s t a b))
+      lawful_either (compares (operation_of one)) (refuses (broken place rules.Constant))
+      (asking (rule (broken place (rule_of (operation_of one) s t)) (allows (operation_of one) s t) (Asks (operation_of one) s t) tt) (combined_values place one s (base_in s) a b))
+      (lawful_refuses _) (lawful_allowed one s t a b)
 
   lawful_combined : (one : BinaryOp) (a b : Constant) → Lawful (values.combined types place one a b)
   unfolding values.combined
-  lawful_combined one a b = lawful_by one (sort_of_type types a.ty) (sort_of_type types b.ty) a.value b.value
+  lawful_combined one a b = lawful_by one (sort_of_constant types a.ty a.value) (sort_of_constant types b.ty b.value) a b
 
   lawful_signed : (one : UnaryOp) (a : Constant) → Lawful (values.signed types place one a)
   unfolding values.signed
@@ -85,17 +99,117 @@ lawful_marked : (types : List TypeDef) (mark : Option PlacedSign) (x : Constant)
 lawful_marked types None x = lawful_makes x
 lawful_marked types (Some mark) x = lawful_signed types mark.position.place (of_sign mark.sign) x
 
-pub lawful : (g : Environment) (tree : Tree) → Lawful (judged g tree)
-lawful g (number place n) = lawful_makes _
-lawful g (text place bytes) = lawful_makes _
-lawful g (control place letter) = lawful_makes _
-lawful g (nil place) = lawful_refuses _
-lawful g (set here listed) = lawful_refuses _
-lawful g (call here callee given) = lawful_refuses _
-lawful g (signed mark a) = lawful_part (judged g a) _ (lawful g a) (λ x. lawful_marked g.types.types mark x)
-lawful g (negated place a) = lawful_part (judged g a) _ (lawful g a) (λ x. lawful_negated g.types.types place x)
-lawful g (combined here op a b) = lawful_parts (judged g a) (judged g b) _ (lawful g a) (lawful g b) (λ x y. lawful_combined g.types.types here.place op x y)
-lawful g (name here one) = lawful_name g here.place one
-lawful g (field here a one) = lawful_part (judged g a) _ (lawful g a) (λ x. lawful_refuses _)
-lawful g (index here a i) = lawful_part (judged g a) _ (lawful g a) (λ x. lawful_refuses _)
-lawful g (followed place a) = lawful_part (judged g a) _ (lawful g a) (λ x. lawful_refuses _)
+-- ---- functions
+
+lawful_chosen : (place : Place) (n : ℕ) (one : Option Function) → Lawful (chosen place n one)
+lawful_chosen place n None = lawful_refuses _
+lawful_chosen place n (Some one) = lawful_makes _
+
+lawful_function_entry : (place : Place) (one : Entry) → Lawful (function_entry place one)
+lawful_function_entry place (entry.Const ty v) = lawful_refuses _
+lawful_function_entry place (entry.Ty ty) = lawful_refuses _
+lawful_function_entry place (entry.Var unit level n ty) = lawful_refuses _
+lawful_function_entry place (entry.Code routine level header) = lawful_refuses _
+lawful_function_entry place (entry.Std n) = lawful_either (n == 12) (refuses (not_yet place)) (chosen place n (function_of n)) (lawful_refuses _) (lawful_chosen place n (function_of n))
+
+lawful_function_meant : (place : Place) (feature : Option Feature) (one : Option Meaning) → Lawful (function_meant place feature one)
+lawful_function_meant place feature None = lawful_refuses _
+lawful_function_meant place feature (Some (named n one)) = lawful_function_entry place one
+lawful_function_meant place feature (Some (member n one)) = lawful_refuses _
+
+lawful_function_at : (g : Environment) (place : Place) (word : List ℕ) → Lawful (function_at g place word)
+unfolding function_at
+lawful_function_at g place word = lawful_function_meant place (feature_of word) (find g word)
+
+lawful_function : (g : Environment) (place : Place) (callee : Tree) → Lawful (function_named g place callee)
+lawful_function g place (name here word) = lawful_function_at g here.place word
+lawful_function g place (number at n) = lawful_refuses _
+lawful_function g place (text at bytes) = lawful_refuses _
+lawful_function g place (control at letter) = lawful_refuses _
+lawful_function g place (nil at) = lawful_refuses _
+lawful_function g place (set at listed) = lawful_refuses _
+lawful_function g place (call at callee given) = lawful_refuses _
+lawful_function g place (signed mark a) = lawful_refuses _
+lawful_function g place (negated at a) = lawful_refuses _
+lawful_function g place (combined at op a b) = lawful_refuses _
+lawful_function g place (field at a one) = lawful_refuses _
+lawful_function g place (index at a i) = lawful_refuses _
+lawful_function g place (followed at a) = lawful_refuses _
+
+tells_taken : (one : Option Signature) (s : Sort) → Decides (is_taken one s) (IsTaken one s)
+tells_taken None s = no
+tells_taken (Some one) s = tells_accepted one.shape (s ∷ [])
+
+lawful_called : (types : List TypeDef) (place : Place) (f : StandardFunction) (xs : List Constant) → Lawful (called_with types place f xs)
+lawful_called types place f [] = lawful_refuses _
+lawful_called types place f (x ∷ []) =
+    let s = sort_of_constant types x.ty x.value in
+    lawful_rule (broken place rules.Called) (is_taken (signature_of f.number) s) (IsTaken (signature_of f.number) s)
+    (applied f.function x.ty (sort_of_type types x.ty) x.value) (tells_taken (signature_of f.number) s)
+lawful_called types place f (x ∷ y ∷ rest) = lawful_refuses _
+
+-- ---- set constructors
+
+-- a test tells itself
+itself : (b : Bool) → Decides b (b ≡ true)
+itself b = (λ e. e, λ e. e)
+
+tells_element : (s : Sort) (one : Ordinal) → Decides (is_element s one) (IsElement s one)
+tells_element s one = Decides-and _ _ (tells_one_host s one.sort) (itself (holds host.Byte one.number one.number))
+
+tells_span : (s : Sort) (one : Span) → Decides (is_span s one) (IsSpan s one)
+tells_span s one = Decides-and _ _ (tells_element s one.low) (tells_element s one.high)
+
+tells_spans : (s : Sort) (spans : List Span) → Decides (are_spans s spans) (AreSpans s spans)
+tells_spans s [] = (λ e. tt, λ h. refl)
+tells_spans s (one ∷ rest) = Decides-and _ _ (tells_span s one) (tells_spans s rest)
+
+lawful_typed : (place : Place) (ty : Option TypeId) (spans : List Span) → Lawful (typed_set place ty spans)
+lawful_typed place None spans = lawful_refuses _
+lawful_typed place (Some ty) spans = lawful_makes _
+
+lawful_set_by : (types : List TypeDef) (place : Place) (s : Option Sort) (spans : List Span) → Lawful (set_by types place s spans)
+lawful_set_by types place None spans = lawful_makes _
+lawful_set_by types place (Some s) spans =
+    lawful_part (rule (broken place rules.Listed) (are_spans s spans) (AreSpans s spans) tt) (λ u. typed_set place (set_over types s) spans)
+    (lawful_rule (broken place rules.Listed) (are_spans s spans) (AreSpans s spans) tt (tells_spans s spans))
+    (λ u. lawful_typed place (set_over types s) spans)
+
+lawful_set : (types : List TypeDef) (place : Place) (spans : List Span) → Lawful (set_of types place spans)
+unfolding set_of
+lawful_set types place spans = lawful_set_by types place (first_sort spans) spans
+
+-- ---- expressions
+
+mutual
+  pub lawful : (g : Environment) (tree : Tree) → Lawful (judged g tree)
+  lawful g (number place n) = lawful_makes _
+  lawful g (text place bytes) = lawful_makes _
+  lawful g (control place letter) = lawful_makes _
+  lawful g (nil place) = lawful_refuses _
+  lawful g (set here elements) = lawful_part (spans_judged g [] elements) _ (lawful_spans g [] elements) (λ spans. lawful_set g.types.types here.place spans)
+  lawful g (call here callee given) = lawful_parts (function_named g here.place callee) (operands_judged g here.place [] given) _ (lawful_function g here.place callee) (lawful_operands g here.place [] given) (λ f xs. lawful_called g.types.types here.place f xs)
+  lawful g (signed mark a) = lawful_part (judged g a) _ (lawful g a) (λ x. lawful_marked g.types.types mark x)
+  lawful g (negated place a) = lawful_part (judged g a) _ (lawful g a) (λ x. lawful_negated g.types.types place x)
+  lawful g (combined here op a b) = lawful_parts (judged g a) (judged g b) _ (lawful g a) (lawful g b) (λ x y. lawful_combined g.types.types here.place op x y)
+  lawful g (name here one) = lawful_name g here.place one
+  lawful g (field here a one) = lawful_part (judged g a) _ (lawful g a) (λ x. lawful_refuses _)
+  lawful g (index here a i) = lawful_part (judged g a) _ (lawful g a) (λ x. lawful_refuses _)
+  lawful g (followed place a) = lawful_part (judged g a) _ (lawful g a) (λ x. lawful_refuses _)
+
+  lawful_spans : (g : Environment) (before : List Span) (all : Elements) → Lawful (spans_judged g before all)
+  lawful_spans g before no_elements = lawful_makes _
+  lawful_spans g before (and_element one rest) = lawful_part (span_judged g one) _ (lawful_span g one) (λ x. lawful_spans g (before ++ x ∷ []) rest)
+
+  lawful_span : (g : Environment) (one : Listed) → Lawful (span_judged g one)
+  lawful_span g (single a) = lawful_part (judged g a) _ (lawful g a) (λ c. lawful_makes _)
+  lawful_span g (span a b) = lawful_parts (judged g a) (judged g b) _ (lawful g a) (lawful g b) (λ c d. lawful_makes _)
+
+  lawful_operands : (g : Environment) (place : Place) (before : List Constant) (all : Operands) → Lawful (operands_judged g place before all)
+  lawful_operands g place before no_operands = lawful_makes _
+  lawful_operands g place before (and_operand one rest) =
+      lawful_part (operand_judged g place one) _ (lawful_operand g place one) (λ x. lawful_operands g place (before ++ x ∷ []) rest)
+
+  lawful_operand : (g : Environment) (place : Place) (one : Operand) → Lawful (operand_judged g place one)
+  lawful_operand g place (plain a) = lawful g a
+  lawful_operand g place (wide a width) = lawful_refuses _

@@ -1,1 +1,3 @@
+mod CallSteps
 pub mod ConstantLaws
+mod SetLaws

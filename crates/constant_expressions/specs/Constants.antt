@@ -1,5 +1,5 @@
 -- When an expression is a constant, its value and type, and when a fault is in it.
-use Rattle.std.specs.Prelude.{ℕ, pos, bit_xor, List, [], ◌∷◌, Option, Some, None}
+use Rattle.std.specs.Prelude.{ℕ, bit_xor, List, [], ◌∷◌, ◌++◌, Option, Some, None}
 use Rattle.type_layout.specs.declared.definitions.TypeId.{TypeId}
 use Rattle.type_layout.specs.declared.definitions.TypeDef.{TypeDef}
 use Rattle.type_layout.specs.declared.texts.Place.{Place}
@@ -13,19 +13,20 @@ use Rattle.scopes.specs.declared.entries.Entry.TheVariants as entry
 use Rattle.scopes.specs.Environment.{Environment, Meaning, named, member, find}
 use Rattle.typing_rules.specs.declared.faults.Fault.{Fault}
 use Rattle.typing_rules.specs.declared.faults.Rule.TheVariants as rules
-use Rattle.typing_rules.specs.Faults.{broken, not_yet, undeclared}
+use Rattle.typing_rules.specs.Faults.{broken, undeclared}
 use Rattle.typing_rules.specs.Judgements.{Judgement, makes, refuses, part, parts}
-use Rattle.typing_rules.specs.Sorts.{char, sort_of_type}
+use Rattle.typing_rules.specs.Sorts.{sort_of_type}
 use Rattle.typing_rules.specs.Wanted.{constant_type}
-use Rattle.expression_tree.specs.Trees.{Tree, number, text, control, nil, set, call, signed, negated, combined, name, field, index, followed, of_sign}
+use Rattle.expression_tree.specs.Trees.{Tree, Listed, Elements, single, span, no_elements, and_element, Operand, Operands, plain, wide, no_operands, and_operand, number, text, control, nil, set, call, signed, negated, combined, name, field, index, followed, of_sign}
 use Rattle.constant_expressions.specs.declared.constants.Constant.{Constant}
 use Rattle.constant_expressions.specs.Values as values
-use Rattle.constant_expressions.specs.Values.{integer}
+use Rattle.constant_expressions.specs.Values.{integer, character}
+use Rattle.constant_expressions.specs.declared.functions.StandardFunction.{StandardFunction}
+use Rattle.constant_expressions.specs.Functions.{function_named, called_with}
+use Rattle.constant_expressions.specs.declared.constructors.Span.{Span}
+use Rattle.constant_expressions.specs.Constructors.{ordinal_of, span_of, set_of}
 
 -- ---- literals
-
-abbrev pub character : ℕ → Constant
-character byte = record { ty = char; value = value.Number (pos byte) }
 
 -- a text of one byte is a Char
 abbrev pub of_text : List ℕ → Constant
@@ -67,22 +68,40 @@ marked types None a = makes a
 marked types (Some mark) a = values.signed types mark.position.place (of_sign mark.sign) a
 
 -- What a checker answers for a constant expression, what its value is, and which faults are in it: from the judgements of its
--- parts. A constant is no record, array or pointer, so that nothing is selected from it. Calls of standard functions and set
--- constructors are not built yet.
-abbrev pub judged : Environment → Tree → Judgement Constant
-judged g (number place n) = makes (integer n)
-judged g (text place bytes) = makes (of_text bytes)
-judged g (control place letter) = makes (of_control letter)
-judged g (nil place) = refuses (broken place rules.Constant)
-judged g (set here listed) = refuses (not_yet here.place)
-judged g (call here callee given) = refuses (not_yet here.place)
-judged g (signed mark a) = part (judged g a) (λ x. marked g.types.types mark x)
-judged g (negated place a) = part (judged g a) (λ x. values.negated g.types.types place x)
-judged g (combined here op a b) = parts (judged g a) (judged g b) (λ x y. values.combined g.types.types here.place op x y)
-judged g (name here one) = of_name g here.place one
-judged g (field here a one) = part (judged g a) (λ x. refuses (broken here.place rules.Selected))
-judged g (index here a i) = part (judged g a) (λ x. refuses (broken here.place rules.Indexed))
-judged g (followed place a) = part (judged g a) (λ x. refuses (broken place rules.Dereferenced))
+-- parts. A constant is no record, array or pointer, so that nothing is selected from it.
+abbrev mutual
+  pub judged : Environment → Tree → Judgement Constant
+  judged g (number place n) = makes (integer n)
+  judged g (text place bytes) = makes (of_text bytes)
+  judged g (control place letter) = makes (of_control letter)
+  judged g (nil place) = refuses (broken place rules.Constant)
+  judged g (set here elements) = part (spans_judged g [] elements) (λ spans. set_of g.types.types here.place spans)
+  judged g (call here callee given) = parts (function_named g here.place callee) (operands_judged g here.place [] given) (λ f xs. called_with g.types.types here.place f xs)
+  judged g (signed mark a) = part (judged g a) (λ x. marked g.types.types mark x)
+  judged g (negated place a) = part (judged g a) (λ x. values.negated g.types.types place x)
+  judged g (combined here op a b) = parts (judged g a) (judged g b) (λ x y. values.combined g.types.types here.place op x y)
+  judged g (name here one) = of_name g here.place one
+  judged g (field here a one) = part (judged g a) (λ x. refuses (broken here.place rules.Selected))
+  judged g (index here a i) = part (judged g a) (λ x. refuses (broken here.place rules.Indexed))
+  judged g (followed place a) = part (judged g a) (λ x. refuses (broken place rules.Dereferenced))
+
+  -- what a set constructor lists, behind spans before it
+  pub spans_judged : Environment → List Span → Elements → Judgement (List Span)
+  spans_judged g before no_elements = makes before
+  spans_judged g before (and_element one rest) = part (span_judged g one) (λ x. spans_judged g (before ++ x ∷ []) rest)
+
+  pub span_judged : Environment → Listed → Judgement Span
+  span_judged g (single a) = part (judged g a) (λ c. makes (span_of (ordinal_of g.types.types c) (ordinal_of g.types.types c)))
+  span_judged g (span a b) = parts (judged g a) (judged g b) (λ c d. makes (span_of (ordinal_of g.types.types c) (ordinal_of g.types.types d)))
+
+  -- arguments of a call at a place, behind those before them; none has a width
+  pub operands_judged : Environment → Place → List Constant → Operands → Judgement (List Constant)
+  operands_judged g place before no_operands = makes before
+  operands_judged g place before (and_operand one rest) = part (operand_judged g place one) (λ x. operands_judged g place (before ++ x ∷ []) rest)
+
+  pub operand_judged : Environment → Place → Operand → Judgement Constant
+  operand_judged g place (plain a) = judged g a
+  operand_judged g place (wide a width) = refuses (broken place rules.Called)
 
 -- the expression is this constant: every rule holds in it
 abbrev pub IsConstant : Environment → Tree → Constant → Type 0

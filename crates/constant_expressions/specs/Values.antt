@@ -1,6 +1,7 @@
 -- Operators on constants. Integers are computed on 32 bits and wrap there.
-use Rattle.std.specs.Prelude.{ℕ, ℤ, pos, ◌+ℤ◌, ◌-ℤ◌, ◌*ℤ◌, unsigned_abs, Bool, true, false, ◌||◌, cond, List, [], ◌∷◌, Option, Some, None}
+use Rattle.std.specs.Prelude.{ℕ, ℤ, pos, ◌+ℤ◌, ◌-ℤ◌, ◌*ℤ◌, unsigned_abs, Bool, true, false, cond, List, [], ◌∷◌, Option, Some, None}
 use Rattle.std.specs.Ordering.{int_eq}
+use Rattle.type_layout.specs.declared.definitions.TypeId.{TypeId}
 use Rattle.type_layout.specs.declared.definitions.TypeDef.{TypeDef}
 use Rattle.type_layout.specs.declared.definitions.Host.TheVariants as host
 use Rattle.type_layout.specs.declared.texts.Place.{Place}
@@ -14,17 +15,19 @@ use Rattle.values.specs.declared.ordinals.IntegerType.TheVariants.{LongInt}
 use Rattle.values.specs.Ordinals.{kept, quotient, remainder, left_shift, right_shift}
 use Rattle.values.specs.Bits.{conjunction, disjunction, exclusive_disjunction, complement}
 use Rattle.values.specs.Strings.{joined}
+use Rattle.values.specs.Sets.{ordinals_between, union, difference, intersection}
 use Rattle.typing_rules.specs.declared.faults.Rule.TheVariants as rules
 use Rattle.typing_rules.specs.declared.plans.Operation.{Operation}
 use Rattle.typing_rules.specs.declared.plans.Operation.TheVariants as operation
+use Rattle.typing_rules.specs.declared.sorts.SetBase.{SetBase}
 use Rattle.typing_rules.specs.declared.sorts.Sort.{Sort}
 use Rattle.typing_rules.specs.declared.sorts.Sort.TheVariants as sort
-use Rattle.typing_rules.specs.Faults.{broken, not_yet}
+use Rattle.typing_rules.specs.Faults.{broken}
 use Rattle.typing_rules.specs.Judgements.{Judgement, makes, refuses, rule, either}
 use Rattle.typing_rules.specs.Selectors.{asking}
-use Rattle.typing_rules.specs.Sorts.{boolean, string, number_type, sort_of_type}
+use Rattle.typing_rules.specs.Sorts.{boolean, char, string, number_type, sort_of_type, sort_of_constant}
 use Rattle.typing_rules.specs.Operators.{sign_value}
-use Rattle.typing_rules.specs.Plans.{operation_of, Asks, AsksNot, IsInteger, is_integer, is_text, allows, allows_not, rule_of}
+use Rattle.typing_rules.specs.Plans.{operation_of, Asks, AsksNot, IsInteger, is_integer, is_text, allows, allows_not, rule_of, set_type}
 use Rattle.constant_expressions.specs.declared.constants.Constant.{Constant}
 
 -- a constant as it stands, for `Gives`
@@ -38,8 +41,19 @@ integer n = record { ty = number_type n; value = value.Number n }
 abbrev pub truth : ℤ → Constant
 truth n = record { ty = boolean; value = value.Number n }
 
+abbrev pub character : ℕ → Constant
+character byte = record { ty = char; value = value.Number (pos byte) }
+
 abbrev pub text : List ℕ → Constant
 text bytes = record { ty = string; value = value.Chars bytes }
+
+-- all from 0 to 255 in their order
+unfoldable pub every_byte : List ℕ
+every_byte = ordinals_between 0 255
+
+-- a set lists its elements in their order
+abbrev pub set_constant : TypeId → List ℕ → Constant
+set_constant ty elements = record { ty = ty; value = value.Elements (intersection every_byte elements) }
 
 -- the number of an ordinal
 abbrev pub number_of : Value → ℤ
@@ -51,6 +65,10 @@ abbrev pub bytes_of : Value → List ℕ
 bytes_of (value.Number n) = cond (holds host.Char n n) (unsigned_abs n ∷ []) []
 bytes_of (value.Chars bytes) = bytes
 bytes_of _ = []
+
+abbrev pub elements_of : Value → List ℕ
+elements_of (value.Elements elements) = elements
+elements_of _ = []
 
 -- ---- numbers
 
@@ -80,6 +98,22 @@ compares operation.Order = true
 compares operation.Membership = true
 compares _ = false
 
+-- ---- sets
+
+-- what the elements of a set are
+abbrev pub base_in : Sort → Option SetBase
+base_in (sort.Set base) = Some base
+base_in _ = None
+
+abbrev pub elements_combined : BinaryOp → List ℕ → List ℕ → List ℕ
+elements_combined op.Add a b = union a b
+elements_combined op.Subtract a b = difference a b
+elements_combined _ a b = intersection a b
+
+-- two sets under an operator, of the type that they have together
+abbrev pub sets_combined : BinaryOp → SetBase → Constant → Constant → Constant
+sets_combined one base a b = set_constant (set_type base (Some a.ty) (Some b.ty)) (elements_combined one (elements_of a.value) (elements_of b.value))
+
 -- ---- judgements
 
 abbrev pub of_sort : Sort → ℤ → Constant
@@ -89,26 +123,21 @@ abbrev pub numbered : Place → Sort → Option ℤ → Judgement Constant
 numbered place s None = refuses (broken place rules.Constant)
 numbered place s (Some n) = makes (of_sort s n)
 
--- numbers under an operator, or texts that are joined
-abbrev pub combined_values : Place → BinaryOp → Sort → Value → Value → Judgement Constant
-combined_values place one s a b =
-    either (is_text s) (makes (text (joined (bytes_of a) (bytes_of b)))) (numbered place s (computed one (number_of a) (number_of b)))
+-- sets, or texts that are joined, or numbers under an operator, by what the left one is
+abbrev pub combined_values : Place → BinaryOp → Sort → Option SetBase → Constant → Constant → Judgement Constant
+combined_values place one s (Some base) a b = makes (sets_combined one base a b)
+combined_values place one s None a b =
+    either (is_text s) (makes (text (joined (bytes_of a.value) (bytes_of b.value)))) (numbered place s (computed one (number_of a.value) (number_of b.value)))
 
-abbrev pub is_set : Sort → Bool
-is_set (sort.Set base) = true
-is_set _ = false
-
--- operators on sets are not built yet
-abbrev pub combined_by : Place → BinaryOp → Sort → Sort → Value → Value → Judgement Constant
+abbrev pub combined_by : Place → BinaryOp → Sort → Sort → Constant → Constant → Judgement Constant
 combined_by place one s t a b =
     either (compares (operation_of one)) (refuses (broken place rules.Constant))
-    (either (is_set s || is_set t) (refuses (not_yet place))
     (asking (rule (broken place (rule_of (operation_of one) s t)) (allows (operation_of one) s t) (Asks (operation_of one) s t) tt)
-    (combined_values place one s a b)))
+    (combined_values place one s (base_in s) a b))
 
 -- An operator at a place: its rule on types holds, it is none that compares, and no divisor is 0.
 unfoldable pub combined : List TypeDef → Place → BinaryOp → Constant → Constant → Judgement Constant
-combined types place one a b = combined_by place one (sort_of_type types a.ty) (sort_of_type types b.ty) a.value b.value
+combined types place one a b = combined_by place one (sort_of_constant types a.ty a.value) (sort_of_constant types b.ty b.value) a b
 
 -- a sign
 unfoldable pub signed : List TypeDef → Place → UnaryOp → Constant → Judgement Constant

@@ -5,7 +5,7 @@ ghost use Rattle.typing_rules.specs.Faults.{Tells, answer_of, IsAnswered};
 ghost use Rattle.expression_tree.specs.Trees.{view_simple};
 ghost use Rattle.constant_expressions.specs.Values.{itself};
 ghost use Rattle.constant_expressions.specs.Constants.{IsConstant, FailsAt};
-ghost use Rattle.constant_expressions.specs.Laws.{AreExact};
+ghost use Rattle.constant_expressions.specs.Laws.{AreExact, AreSetsOf};
 
 use crate::constants::Constant;
 use crate::expressions::constant_of;
@@ -40,7 +40,9 @@ pub fn check_constant(
     answered(constant_of(alloc, tree, scope))
 }
 
-/// An expression is a constant exactly where no rule on constants fails in it, and then it is one alone.
+/// An expression is a constant exactly where no rule on constants fails in it, and then it is one alone; a constant set has the
+/// elements that it is made of.
 pub fn constant_laws()
-    ensures { AreExact }
+    ensures exact { AreExact }
+    ensures sets { AreSetsOf }
 {}

@@ -2,14 +2,15 @@
 
 ghost use Rattle.std.specs.Prelude.{◌≡◌, IfOk, Ok};
 ghost use Rattle.typing_rules.specs.Judgements.{Gives};
-ghost use Rattle.constant_expressions.specs.Values.{itself, integer, truth, number_of, bytes_of};
-ghost use Rattle.constant_expressions.specs.Constants.{character, of_text, of_control};
+ghost use Rattle.constant_expressions.specs.Values.{itself, integer, truth, character, every_byte, set_constant, number_of, bytes_of, elements_of};
+ghost use Rattle.constant_expressions.specs.Constants.{of_text, of_control};
 
 use scopes::{BOOLEAN, CHAR, STRING};
 use std::alloc::{AllocError, Global};
 use type_layout::{Bytes, Host, TypeId};
 use typed_tree::Value;
 use typing_rules::{Refusal, number_type};
+use values::sets::{intersection, ordinals_between};
 
 /// The value of a constant expression, and its type.
 #[derive(Debug, Drop)]
@@ -39,7 +40,7 @@ pub(crate) fn truth(number: i32) -> Constant
 }
 
 /// The number of an ordinal.
-pub(crate) fn number_of(value: &Value) -> i32
+pub fn number_of(value: &Value) -> i32
     ensures { result ≡ number_of value.now }
 {
     match value {
@@ -49,7 +50,7 @@ pub(crate) fn number_of(value: &Value) -> i32
 }
 
 /// The bytes of a string, or of a Char that stands as one.
-pub(crate) fn bytes_of(alloc: Global, value: &Value) -> Result<Bytes, AllocError>
+pub fn bytes_of(alloc: Global, value: &Value) -> Result<Bytes, AllocError>
     ensures { IfOk result (λ bytes. bytes ≡ bytes_of value.now) }
 {
     match value {
@@ -61,7 +62,7 @@ pub(crate) fn bytes_of(alloc: Global, value: &Value) -> Result<Bytes, AllocError
     }
 }
 
-fn character(byte: u8) -> Constant
+pub(crate) fn character(byte: u8) -> Constant
     ensures { result ≡ character byte }
 {
     Constant {
@@ -93,5 +94,34 @@ pub(crate) fn of_control(alloc: Global, name: &[u8]) -> Result<Constant, Refusal
             ty: STRING,
             value: Value::Chars(Bytes::from_slice(alloc, name)?),
         }),
+    }
+}
+
+#[tactic(auto, unfolding(crate::specs::Values::every_byte))]
+fn every_byte(alloc: Global) -> Result<Vec<u8>, AllocError>
+    ensures { IfOk result (λ all. all.items ≡ every_byte) }
+{
+    ordinals_between(alloc, 0, 255)
+}
+
+/// The set of some elements, which it lists in their order.
+pub(crate) fn set_constant(alloc: Global, ty: TypeId, elements: &[u8]) -> Result<Constant, Refusal>
+    ensures { Gives itself result (Ok (set_constant ty elements.now)) }
+{
+    let all = every_byte(alloc)?;
+    let rising = intersection(alloc, all.as_slice(), elements)?;
+    Ok(Constant {
+        ty,
+        value: Value::Elements(Bytes::from_vec(rising)),
+    })
+}
+
+/// The elements of a set.
+pub fn elements_of(value: &Value) -> &[u8]
+    ensures { result.now ≡ elements_of value.now }
+{
+    match value {
+        Value::Elements(elements) => elements.as_slice(),
+        Value::Number(_) | Value::Chars(_) | Value::Nil => &[],
     }
 }

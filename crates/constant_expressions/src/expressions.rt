@@ -1,20 +1,25 @@
 //! Constant expressions, part by part.
 
-ghost use Rattle.std.specs.Prelude.{◌≡◌};
+ghost use Rattle.std.specs.Prelude.{◌≡◌, []};
 ghost use Rattle.typing_rules.specs.Judgements.{Gives};
-ghost use Rattle.expression_tree.specs.Trees.{view_expression, view_simple, view_term, view_factor, view_designator};
+ghost use Rattle.expression_tree.specs.Trees.{set, call, begins, view_argument, view_arguments, view_element, view_elements, view_expression, view_simple, view_term, view_factor, view_designator};
 ghost use Rattle.constant_expressions.specs.Values.{itself};
-ghost use Rattle.constant_expressions.specs.Constants.{marked, judged};
+ghost use Rattle.constant_expressions.specs.Constants.{marked, judged, operands_judged, operand_judged, spans_judged, span_judged};
 
 use crate::constants::{Constant, integer, of_control, of_text};
+use crate::constructors::{Span, ordinal_of, set_of};
+use crate::functions::{called_with, function_named};
 use crate::names::of_name;
 use crate::operations::{combined, negated, signed};
 use expression_tree::{begins, of_adder, of_multiplier, of_relator, of_sign};
+use pascal_grammar::Position;
 use scopes::Scope;
 use std::alloc::Global;
-use syntax_tree::{Designator, Expression, Factor, PlacedSign, SimpleExpression, Term};
-use type_layout::Types;
-use typing_rules::{Refusal, Rule, broken, not_yet};
+use syntax_tree::{
+    Argument, Designator, Element, Expression, Factor, PlacedSign, SimpleExpression, Term,
+};
+use type_layout::{Place, Types};
+use typing_rules::{Refusal, Rule, broken};
 
 fn marked(types: &Types, sign: Option<PlacedSign>, operand: Constant) -> Result<Constant, Refusal>
     ensures { Gives itself result (marked types.now.types sign operand).run }
@@ -109,14 +114,111 @@ fn of_factor(alloc: Global, tree: &Factor, scope: &Scope) -> Result<Constant, Re
         Factor::Nil { position } => {
             Err(Refusal::Because(broken(position.place, Rule::Constant)))
         }
-        Factor::Set { position, .. } => Err(Refusal::Because(not_yet(position.place))),
+        Factor::Set { position, elements } => of_set(alloc, elements.as_slice(), *position, scope),
         Factor::Negation { position, operand } => {
             let operand = of_factor(alloc, operand, scope)?;
             negated(scope.types(), position.place, operand)
         }
         Factor::Group { inner, .. } => of_expression(alloc, inner, scope),
         Factor::Designator(one) => of_designator(alloc, one, scope),
-        Factor::Call { callee, .. } => Err(Refusal::Because(not_yet(begins(callee).place))),
+        Factor::Call { callee, arguments } => of_call(alloc, arguments.as_slice(), callee, scope),
+    }
+}
+
+// A function before its arguments.
+#[cycle(parts)]
+fn of_call(
+    alloc: Global,
+    arguments: &[Argument],
+    callee: &Designator,
+    scope: &Scope,
+) -> Result<Constant, Refusal>
+    ensures { Gives itself result (judged scope.now (call (begins callee.now) (view_designator callee.now) (view_arguments arguments.now))).run }
+{
+    let place = begins(callee).place;
+    let function = function_named(scope, place, callee)?;
+    let operands = operands_of(alloc, arguments, place, scope)?;
+    called_with(scope.types(), place, function, operands.as_slice())
+}
+
+#[cycle(parts)]
+fn operands_of(
+    alloc: Global,
+    arguments: &[Argument],
+    place: Place,
+    scope: &Scope,
+) -> Result<Vec<Constant>, Refusal>
+    ensures { Gives (λ all. all.items) result (operands_judged scope.now place [] (view_arguments arguments.now)).run }
+{
+    let mut operands = Vec::new(alloc);
+    for argument in arguments {
+        let operand = operand_of(alloc, argument, place, scope)?;
+        operands.push(operand)?;
+    }
+    Ok(operands)
+}
+
+#[cycle(parts)]
+fn operand_of(
+    alloc: Global,
+    argument: &Argument,
+    place: Place,
+    scope: &Scope,
+) -> Result<Constant, Refusal>
+    ensures { Gives itself result (operand_judged scope.now place (view_argument argument.now)).run }
+{
+    match argument {
+        Argument::Plain(one) => of_expression(alloc, one, scope),
+        Argument::Wide(..) => Err(Refusal::Because(broken(place, Rule::Called))),
+    }
+}
+
+// What stands in brackets.
+#[cycle(parts)]
+fn of_set(
+    alloc: Global,
+    elements: &[Element],
+    here: Position,
+    scope: &Scope,
+) -> Result<Constant, Refusal>
+    ensures { Gives itself result (judged scope.now (set here (view_elements elements.now))).run }
+{
+    let spans = spans_of(alloc, elements, scope)?;
+    set_of(alloc, scope.types(), here.place, spans.as_slice())
+}
+
+#[cycle(parts)]
+fn spans_of(alloc: Global, elements: &[Element], scope: &Scope) -> Result<Vec<Span>, Refusal>
+    ensures { Gives (λ all. all.items) result (spans_judged scope.now [] (view_elements elements.now)).run }
+{
+    let mut spans = Vec::new(alloc);
+    for element in elements {
+        let span = span_of(alloc, element, scope)?;
+        spans.push(span)?;
+    }
+    Ok(spans)
+}
+
+#[cycle(parts)]
+fn span_of(alloc: Global, element: &Element, scope: &Scope) -> Result<Span, Refusal>
+    ensures { Gives (λ one. one) result (span_judged scope.now (view_element element.now)).run }
+{
+    match element {
+        Element::Single(one) => {
+            let one = ordinal_of(scope.types(), &of_expression(alloc, one, scope)?);
+            Ok(Span {
+                low: one,
+                high: one,
+            })
+        }
+        Element::Range(low, high) => {
+            let low = of_expression(alloc, low, scope)?;
+            let high = of_expression(alloc, high, scope)?;
+            Ok(Span {
+                low: ordinal_of(scope.types(), &low),
+                high: ordinal_of(scope.types(), &high),
+            })
+        }
     }
 }
 

@@ -3,10 +3,12 @@
 
 mod check;
 mod constants;
+mod constructors;
 mod expressions;
+mod functions;
 mod names;
 mod operations;
 
 pub use check::{check_constant, constant_laws};
-pub use constants::Constant;
+pub use constants::{Constant, bytes_of, elements_of, number_of};
 pub use expressions::constant_of;

@@ -1,21 +1,23 @@
 //! Operators on constants.
 
-ghost use Rattle.std.specs.Prelude.{◌≡◌, Ok};
+ghost use Rattle.std.specs.Prelude.{◌≡◌, Ok, Some, IfOk};
 ghost use Rattle.typing_rules.specs.Judgements.{Gives};
-ghost use Rattle.constant_expressions.specs.Values.{itself, text, bytes_of, computed, compares, is_set, of_sort, numbered, combined_values, combined, signed, turned, negated};
+ghost use Rattle.constant_expressions.specs.Values.{itself, text, bytes_of, computed, compares, elements_of, base_in, elements_combined, sets_combined, of_sort, numbered, combined_values, combined, signed, turned, negated};
+ghost use Rattle.typing_rules.specs.Plans.{set_type};
 ghost use Rattle.values.specs.Strings.{joined};
 
-use crate::constants::{Constant, bytes_of, integer, number_of, truth};
+use crate::constants::{Constant, bytes_of, elements_of, integer, number_of, set_constant, truth};
 use scopes::STRING;
-use std::alloc::Global;
-use type_layout::{Bytes, Place, Types};
+use std::alloc::{AllocError, Global};
+use type_layout::{Bytes, Place, TypeId, Types};
 use typed_tree::{BinaryOp, UnaryOp, Value};
 use typing_rules::{
-    Operation, Refusal, Rule, Sort, allows, allows_not, broken, is_integer, is_text, not_yet,
-    operation_of, rule_of, sign_value, sort_of_type,
+    Operation, Refusal, Rule, SetBase, Sort, allows, allows_not, broken, is_integer, is_text,
+    operation_of, rule_of, sign_value, sort_of_constant, sort_of_type,
 };
 use values::bits::{bitwise_and, bitwise_not, bitwise_or, bitwise_xor};
 use values::ordinals::{IntegerType, kept, left_shift, quotient, remainder, right_shift};
+use values::sets::{difference, intersection, union};
 use values::strings::joined;
 
 const WIDE: IntegerType = IntegerType::LongInt;
@@ -48,10 +50,59 @@ fn compares(operation: Operation) -> bool
     )
 }
 
-fn is_set(sort: Sort) -> bool
-    ensures { result ≡ is_set sort }
+// What the elements of a set are.
+fn base_in(sort: Sort) -> Option<SetBase>
+    ensures { result ≡ base_in sort }
 {
-    matches!(sort, Sort::Set(_))
+    match sort {
+        Sort::Set(base) => Some(base),
+        _ => None,
+    }
+}
+
+// The type of two sets together.
+fn set_type(base: SetBase, left: TypeId, right: TypeId) -> TypeId
+    ensures { result ≡ set_type base (Some left) (Some right) }
+{
+    match base {
+        SetBase::Any => right,
+        _ => left,
+    }
+}
+
+fn elements_combined(
+    alloc: Global,
+    op: BinaryOp,
+    left: &[u8],
+    right: &[u8],
+) -> Result<Vec<u8>, AllocError>
+    ensures { IfOk result (λ all. all.items ≡ elements_combined op left.now right.now) }
+{
+    match op {
+        BinaryOp::Add => union(alloc, left, right),
+        BinaryOp::Subtract => difference(alloc, left, right),
+        _ => intersection(alloc, left, right),
+    }
+}
+
+// Two sets under an operator.
+fn sets_combined(
+    alloc: Global,
+    op: BinaryOp,
+    base: SetBase,
+    left: &Constant,
+    right: &Constant,
+) -> Result<Constant, Refusal>
+    ensures { Gives itself result (Ok (sets_combined op base left.now right.now)) }
+{
+    let first = elements_of(&left.value);
+    let second = elements_of(&right.value);
+    let elements = elements_combined(alloc, op, first, second)?;
+    set_constant(
+        alloc,
+        set_type(base, left.ty, right.ty),
+        elements.as_slice(),
+    )
 }
 
 fn of_sort(sort: Sort, number: i32) -> Constant
@@ -90,15 +141,18 @@ fn combined_values(
     place: Place,
     op: BinaryOp,
     sort: Sort,
-    left: &Value,
-    right: &Value,
+    left: &Constant,
+    right: &Constant,
 ) -> Result<Constant, Refusal>
-    ensures { Gives itself result (combined_values place op sort left.now right.now).run }
+    ensures { Gives itself result (combined_values place op sort (base_in sort) left.now right.now).run }
 {
-    if is_text(sort) {
-        join(alloc, left, right)
-    } else {
-        numbered(place, sort, computed(op, number_of(left), number_of(right)))
+    match base_in(sort) {
+        Some(base) => sets_combined(alloc, op, base, left, right),
+        None if is_text(sort) => join(alloc, &left.value, &right.value),
+        None => {
+            let number = computed(op, number_of(&left.value), number_of(&right.value));
+            numbered(place, sort, number)
+        }
     }
 }
 
@@ -114,20 +168,17 @@ pub(crate) fn combined(
 ) -> Result<Constant, Refusal>
     ensures { Gives itself result (combined types.now.types place op left right).run }
 {
-    let first = sort_of_type(types, left.ty);
-    let second = sort_of_type(types, right.ty);
+    let first = sort_of_constant(types, left.ty, &left.value);
+    let second = sort_of_constant(types, right.ty, &right.value);
     let operation = operation_of(op);
     if compares(operation) {
         return Err(Refusal::Because(broken(place, Rule::Constant)));
-    }
-    if is_set(first) || is_set(second) {
-        return Err(Refusal::Because(not_yet(place)));
     }
     if !allows(operation, first, second) {
         let rule = rule_of(operation, first, second);
         return Err(Refusal::Because(broken(place, rule)));
     }
-    combined_values(alloc, place, op, first, &left.value, &right.value)
+    combined_values(alloc, place, op, first, &left, &right)
 }
 
 /// A sign at a place.

@@ -1,5 +1,5 @@
 -- Which instruction stands at CS:IP.
-use Rattle.std.proofs.Common.{◌≡◌, ℕ, ◌+◌, ◌*◌, ◌%◌, ◌<◌, ◌≤◌, List, [], ◌∷◌, ◌++◌, length, get_or, refl, ap, ◌∙◌, arith, zero, suc}
+use Rattle.std.proofs.Common.{◌≡◌, ℕ, ◌+◌, ◌*◌, ◌%◌, ◌<◌, ◌≤◌, List, [], ◌∷◌, ◌++◌, length, get_or, refl, sym, ap, ◌∙◌, arith, zero, suc}
 use Rattle.std.specs.Prelude.{slice_index}
 use Rattle.x86_table.specs.declared.instr.Instr.{Instr}
 use Rattle.x86_table.specs.Spelling.{spelling}
@@ -48,12 +48,9 @@ code_byte-linear s k short low =
     let e : address s.cs ((s.registers.ip + k) % 65536) ≡ 16 * s.cs + s.registers.ip + k = omega arith in
     ap (slice_index s.memory) e
 
--- a byte that neither an offset nor an address wraps before
-pub straight_code_byte : (s : State) (k : ℕ) → s.registers.ip + k < 65536 → address s.cs s.registers.ip + k < 1048576 → slice_index s.memory (address s.cs s.registers.ip + k) ≡ code_byte s k
-unfolding load_byte
-straight_code_byte s k short low =
-    let e : address s.cs s.registers.ip + k ≡ address s.cs ((s.registers.ip + k) % 65536) = omega arith in
-    ap (slice_index s.memory) e
+-- so a byte at its linear address is a byte of code
+pub straight_code_byte : (s : State) (k : ℕ) → s.registers.ip + k < 65536 → 16 * s.cs + s.registers.ip + k < 1048576 → slice_index s.memory (16 * s.cs + s.registers.ip + k) ≡ code_byte s k
+straight_code_byte s k short low = sym (code_byte-linear s k short low)
 
 -- so a spelling at the linear address of CS:IP is what stands there
 pub fetched_spells-linear : (s : State) (i : Instr) → s.registers.ip + length (spelling i) ≤ 65536 → 16 * s.cs + s.registers.ip + length (spelling i) ≤ 1048576 → ((k : ℕ) → k < length (spelling i) → slice_index s.memory (16 * s.cs + s.registers.ip + k) ≡ slice_index (spelling i) k) → (rest : List ℕ) × (fetched s ≡ spelling i ++ rest)

@@ -1,5 +1,5 @@
 -- What is read after a write.
-use Rattle.std.proofs.Common.{refl, ap, ◌≡◌, ◌≢◌, ℕ, ◌+◌, ◌/◌, ◌%◌, ◌<◌, List, length, ◌∙◌, arith}
+use Rattle.std.proofs.Common.{refl, ap, ◌≡◌, ◌≢◌, ℕ, ◌+◌, ◌*◌, ◌/◌, ◌%◌, ◌<◌, List, length, ◌∙◌, arith}
 use Rattle.std.specs.Prelude.{slice_index, slice_set}
 use Rattle.std.proofs.lemmas.List.{get_or-set_same, get_or-set_other}
 use Rattle.std.proofs.Math.ListN.{length-set}
@@ -75,15 +75,17 @@ length-on_memory s (PushCodeSegment g) m same = length-store_word m _ _ _ ∙ sa
 length-on_memory s (Interrupt g number) m same = same
 length-on_memory s DivideFault m same = refl
 
--- where neither the offset nor the address is the last, the byte behind lies at the next address
-pub straight_load : (m : List ℕ) (segment offset : ℕ) → offset < 65535 → address segment offset < 1048575 → slice_index m (address segment offset + 1) ≡ load_byte m segment (next_offset offset)
-unfolding load_byte
+-- where nothing wraps inside a word, its bytes lie side by side at its linear address
+pub straight_load : (m : List ℕ) (segment offset : ℕ) → offset < 65535 → 16 * segment + offset < 1048575 → slice_index m (16 * segment + offset) + 256 * slice_index m (16 * segment + offset + 1) ≡ load_word m segment offset
+unfolding load_word load_byte
 straight_load m segment offset short low =
-    let e : address segment offset + 1 ≡ address segment (next_offset offset) = omega arith in
-    ap (slice_index m) e
+    let first : 16 * segment + offset ≡ address segment offset = omega arith in
+    let second : 16 * segment + offset + 1 ≡ address segment (next_offset offset) = omega arith in
+    ap (λ (k : ℕ). slice_index m k + 256 * slice_index m (16 * segment + offset + 1)) first ∙ ap (λ (k : ℕ). slice_index m (address segment offset) + 256 * slice_index m k) second
 
-pub straight_store : (m : List ℕ) (segment offset v : ℕ) → offset < 65535 → address segment offset < 1048575 → slice_set m (address segment offset + 1) v ≡ store_byte m segment (next_offset offset) v
-unfolding store_byte
+pub straight_store : (m : List ℕ) (segment offset v : ℕ) → offset < 65535 → 16 * segment + offset < 1048575 → slice_set (slice_set m (16 * segment + offset) (v % 256)) (16 * segment + offset + 1) (v / 256) ≡ store_word m segment offset v
+unfolding store_word store_byte
 straight_store m segment offset v short low =
-    let e : address segment offset + 1 ≡ address segment (next_offset offset) = omega arith in
-    ap (λ (k : ℕ). slice_set m k v) e
+    let first : 16 * segment + offset ≡ address segment offset = omega arith in
+    let second : 16 * segment + offset + 1 ≡ address segment (next_offset offset) = omega arith in
+    ap (λ (k : ℕ). slice_set (slice_set m k (v % 256)) (16 * segment + offset + 1) (v / 256)) first ∙ ap (λ (k : ℕ). slice_set (slice_set m (address segment offset) (v % 256)) k (v / 256)) second

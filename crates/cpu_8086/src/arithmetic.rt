@@ -23,6 +23,7 @@ pub struct Shifted {
 }
 
 /// How many numbers a width has.
+#[inline(always)]
 pub fn size(width: Width) -> u32
     ensures { result ≡ size width }
 {
@@ -32,6 +33,7 @@ pub fn size(width: Width) -> u32
     }
 }
 
+#[inline(always)]
 fn half(width: Width) -> u16
     ensures { result ≡ half width }
 {
@@ -42,6 +44,7 @@ fn half(width: Width) -> u16
 }
 
 /// The sign bit.
+#[inline(always)]
 pub fn top(width: Width, value: u16) -> bool
     ensures { result ≡ top width value }
 {
@@ -49,6 +52,7 @@ pub fn top(width: Width, value: u16) -> bool
 }
 
 /// The signed number that a value stands for.
+#[inline(always)]
 fn signed(width: Width, value: u16) -> i32
     requires { value < size width }
     ensures value { result ≡ signed width value }
@@ -62,6 +66,7 @@ fn signed(width: Width, value: u16) -> i32
 }
 
 /// Whether a signed number has a value of this width.
+#[inline(always)]
 fn fits(width: Width, number: i32) -> bool
     ensures { result ≡ fits width number }
 {
@@ -72,6 +77,7 @@ fn fits(width: Width, number: i32) -> bool
 }
 
 /// Whether the sum of two signed numbers and a carry is too large or too small.
+#[inline(always)]
 fn sum_overflows(width: Width, x: u16, y: u16, carry: bool) -> bool
     requires x { x < size width }
     requires y { y < size width }
@@ -84,6 +90,7 @@ fn sum_overflows(width: Width, x: u16, y: u16, carry: bool) -> bool
 }
 
 /// The same for the difference of two signed numbers less a borrow.
+#[inline(always)]
 fn difference_overflows(width: Width, x: u16, y: u16, borrow: bool) -> bool
     requires x { x < size width }
     requires y { y < size width }
@@ -97,6 +104,7 @@ fn difference_overflows(width: Width, x: u16, y: u16, borrow: bool) -> bool
 
 /// The sum of two numbers and a carry.
 #[tactic(auto, unfolding(crate::specs::Arithmetic::sum_of))]
+#[inline(always)]
 pub fn add(width: Width, x: u16, y: u16, carry: bool) -> Outcome
     requires x { x < size width }
     requires y { y < size width }
@@ -113,6 +121,7 @@ pub fn add(width: Width, x: u16, y: u16, carry: bool) -> Outcome
 
 /// What is left of a number after another and a borrow are taken off.
 #[tactic(auto, unfolding(crate::specs::Arithmetic::difference_of))]
+#[inline(always)]
 pub fn subtract(width: Width, x: u16, y: u16, borrow: bool) -> Outcome
     requires x { x < size width }
     requires y { y < size width }
@@ -127,6 +136,7 @@ pub fn subtract(width: Width, x: u16, y: u16, borrow: bool) -> Outcome
     }
 }
 
+#[inline(always)]
 fn bitwise(value: u16) -> Outcome
     ensures { result ≡ bitwise value }
 {
@@ -138,6 +148,7 @@ fn bitwise(value: u16) -> Outcome
 }
 
 /// An operator of the arithmetic group, with the carry that was there.
+#[inline(always)]
 pub fn alu(op: AluOp, width: Width, x: u16, y: u16, carry: bool) -> Outcome
     requires x { x < size width }
     requires y { y < size width }

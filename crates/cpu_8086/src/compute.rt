@@ -31,6 +31,7 @@ pub fn alu_op(op: ShortOp) -> AluOp
 }
 
 impl Registers {
+    #[inline(always)]
     fn set_flags(&mut self, width: Width, outcome: Outcome)
         ensures { self.new ≡ with_flags self.old width outcome }
     {
@@ -41,6 +42,7 @@ impl Registers {
     }
 
     /// One more or less, leaving the carry.
+    #[inline(always)]
     pub(crate) fn count(&mut self, register: WordReg, outcome: Outcome)
         ensures { self.new ≡ counted self.old register outcome }
     {
@@ -200,6 +202,7 @@ impl Hardware {
     }
 
     #[tactic(auto, unfolding(crate::specs::Direct::with_result_word))]
+    #[inline(always)]
     fn set_result_word(&mut self, op: AluOp, operand: &WordOperand, value: u16)
         ensures { self.new ≡ with_result_word op self.old operand.now value }
     {
@@ -221,6 +224,7 @@ impl Hardware {
     }
 
     #[tactic(auto, unfolding(crate::specs::Direct::alu_on_word))]
+    #[inline(always)]
     pub(crate) fn alu_word(&mut self, op: AluOp, operand: &WordOperand, number: u16)
         ensures { self.new ≡ alu_on_word self.old op operand.now number }
     {
@@ -232,6 +236,7 @@ impl Hardware {
     }
 
     #[tactic(auto, unfolding(crate::specs::Direct::alu_on_pair))]
+    #[inline(always)]
     pub(crate) fn alu_pair(&mut self, op: AluOp, pair: &Pair)
         ensures { self.new ≡ alu_on_pair self.old op pair.now }
     {
@@ -256,6 +261,7 @@ impl Hardware {
     }
 
     #[tactic(auto, unfolding(crate::specs::Direct::alu_on_immediate))]
+    #[inline(always)]
     pub(crate) fn alu_immediate(&mut self, op: AluOp, immediate: &Immediate)
         ensures { self.new ≡ alu_on_immediate self.old op immediate.now }
     {

@@ -12,6 +12,7 @@ use x86_table::{Instr, Width};
 impl Hardware {
     /// Does what an instruction does. IP is already that of the next one.
     #[tactic(auto, unfolding(crate::specs::Direct::direct))]
+    #[inline(always)]
     pub(crate) fn execute(&mut self, instr: &Instr) -> Event
         ensures state { self.new ≡ (direct self.old instr.now).0 }
         ensures event { result ≡ (direct self.old instr.now).1 }

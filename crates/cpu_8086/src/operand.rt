@@ -121,6 +121,7 @@ impl Registers {
         }
     }
 
+    #[inline(always)]
     fn base_sum(&self, base: Base) -> u32
         ensures value { result ≡ base_sum self.now base }
         ensures bound { result < 131072 }
@@ -137,6 +138,7 @@ impl Registers {
         }
     }
 
+    #[inline(always)]
     fn base_segment(&self, base: Base) -> u16
         ensures { result ≡ base_segment self.now base }
     {
@@ -148,6 +150,7 @@ impl Registers {
 
     /// The effective address.
     #[tactic(auto, unfolding(crate::specs::Operand::offset_of))]
+    #[inline(always)]
     pub(crate) fn offset_of(&self, place: &Place) -> u16
         ensures { result ≡ offset_of self.now place.now }
     {
@@ -165,6 +168,7 @@ impl Registers {
 
     /// The segment that serves where there is no override.
     #[tactic(auto, unfolding(crate::specs::Operand::usual_segment))]
+    #[inline(always)]
     pub(crate) fn usual_segment(&self, place: &Place) -> u16
         ensures { result ≡ usual_segment self.now place.now }
     {
@@ -191,6 +195,7 @@ impl Hardware {
 
     /// The segment of an override, or the one that serves without.
     #[tactic(auto, unfolding(crate::specs::Direct::chosen))]
+    #[inline(always)]
     pub(crate) fn chosen(&self, usual: u16, segment: Option<SegReg>) -> u16
         ensures { result ≡ chosen self.now.registers self.now.cs usual segment }
     {
@@ -200,6 +205,7 @@ impl Hardware {
         }
     }
 
+    #[inline(always)]
     pub(crate) fn segment_of(&self, memory: &Memory) -> u16
         ensures { result ≡ segment_of self.now memory.now }
     {
@@ -222,6 +228,7 @@ impl Hardware {
     }
 
     #[tactic(auto, unfolding(crate::specs::Direct::word_value))]
+    #[inline(always)]
     pub(crate) fn word_value(&self, operand: &WordOperand) -> u16
         ensures { result ≡ word_value self.now operand.now }
     {
@@ -251,6 +258,7 @@ impl Hardware {
     }
 
     #[tactic(auto, unfolding(crate::specs::Direct::with_word))]
+    #[inline(always)]
     pub(crate) fn set_word_value(&mut self, operand: &WordOperand, value: u16)
         ensures { self.new ≡ with_word self.old operand.now value }
     {

@@ -1,16 +1,15 @@
 //! One step.
 
-ghost use Rattle.std.specs.Prelude.{◌≡◌, ◌<◌, ◌+◌, length};
+ghost use Rattle.std.specs.Prelude.{◌≡◌, ◌<◌, ◌+◌, ◌*◌, length};
 ghost use Rattle.std.specs.Int.{w64, to_le_bytes};
 ghost use Rattle.x86_table.specs.Spelling.{spelling};
 ghost use Rattle.cpu_8086.specs.Direct.{direct, settled, with_registers};
-ghost use Rattle.cpu_8086.specs.Memory.{address};
 ghost use Rattle.cpu_8086.specs.Step.{code_byte, fetched, past, Steps};
 
 use crate::decoded::Decoded;
 use crate::hardware::Hardware;
 use crate::machine::{Event, KEPT, Machine};
-use crate::memory::address;
+use crate::memory::straight_address;
 use x86_table::{Instr, decode};
 
 /// Eight bytes as a number whose low byte is the first.
@@ -51,20 +50,21 @@ impl Hardware {
     #[tactic(auto, using(crate::proofs::FetchLaws::straight_code_byte))]
     fn straight_byte(&self, distance: usize) -> u8
         requires offset { self.now.registers.ip + distance < 65536 }
-        requires address { address self.now.cs self.now.registers.ip + distance < 1048576 }
+        requires address { 16 * self.now.cs + self.now.registers.ip + distance < 1048576 }
         ensures { result ≡ code_byte self.now distance }
     {
-        self.byte(address(self.cs, self.registers.ip) as usize + distance)
+        self.byte(straight_address(self.cs, self.registers.ip) + distance)
     }
 
     /// The eight bytes from CS:IP on, as a number whose low byte is the first. Mostly nothing wraps among them, and
     /// they are read as they lie.
     #[tactic(auto, unfolding(crate::specs::Step::fetched))]
+    #[inline(always)]
     fn fetch(&self) -> u64
         ensures { to_le_bytes w64 result ≡ fetched self.now }
     {
         let ip = self.registers.ip;
-        if ip >= 0xfff8 || address(self.cs, ip) >= 0xf_fff8 {
+        if ip >= 0xfff8 || straight_address(self.cs, ip) >= 0xf_fff8 {
             return self.fetch_wrapping();
         }
         number_of([
@@ -80,6 +80,7 @@ impl Hardware {
     }
 
     /// Executes an instruction of so many bytes; after a fault IP is as it was.
+    #[inline(always)]
     fn perform(&mut self, instr: &Instr, count: u16) -> Event
         requires { count ≡ length (spelling instr.now) }
         ensures state { self.new ≡ (settled self.old.registers.ip (direct (with_registers self.old (past instr.now self.old.registers)) instr.now)).0 }
@@ -95,6 +96,7 @@ impl Hardware {
     }
 
     /// Executes the instruction at CS:IP, which was decoded from the bytes that stand there.
+    #[inline(always)]
     fn perform_decoded(&mut self, decoded: &Decoded) -> Event
         requires { to_le_bytes w64 decoded.now.bytes ≡ fetched self.old }
         ensures { Steps self.old self.new result }
@@ -131,11 +133,12 @@ impl Machine {
     }
 
     /// Executes the instruction at CS:IP.
+    #[inline(always)]
     pub fn step(&mut self) -> Event
         ensures { Steps self.old self.new result }
     {
+        let place = straight_address(self.hardware.cs, self.hardware.registers.ip) % KEPT;
         let bytes = self.hardware.fetch();
-        let place = address(self.hardware.cs, self.hardware.registers.ip) as usize % KEPT;
         if place < self.decoded.len() && self.decoded[place].bytes == bytes {
             return self.hardware.perform_decoded(&self.decoded[place]);
         }

@@ -47,6 +47,7 @@ impl Registers {
 
 impl Hardware {
     #[tactic(auto, unfolding(crate::specs::Direct::moved_pair))]
+    #[inline(always)]
     pub(crate) fn move_pair(&mut self, pair: &Pair)
         ensures { self.new ≡ moved_pair self.old pair.now }
     {
@@ -71,6 +72,7 @@ impl Hardware {
     }
 
     #[tactic(auto, unfolding(crate::specs::Direct::moved_immediate))]
+    #[inline(always)]
     pub(crate) fn move_immediate(&mut self, immediate: &Immediate)
         ensures { self.new ≡ moved_immediate self.old immediate.now }
     {
@@ -81,6 +83,7 @@ impl Hardware {
     }
 
     #[tactic(auto, unfolding(crate::specs::Direct::pushed))]
+    #[inline(always)]
     pub(crate) fn push(&mut self, value: u16)
         ensures { self.new ≡ pushed self.old value }
     {
@@ -92,6 +95,7 @@ impl Hardware {
 
     /// SP itself is pushed as it is after the decrement.
     #[tactic(auto, unfolding(crate::specs::Direct::pushed_register, crate::specs::Direct::pushed))]
+    #[inline(always)]
     pub(crate) fn push_register(&mut self, register: WordReg)
         ensures { self.new ≡ pushed_register self.old register }
     {
@@ -103,6 +107,7 @@ impl Hardware {
     }
 
     /// The word at the top of the stack.
+    #[inline(always)]
     fn top_word(&self) -> u16
         ensures { result ≡ top_word self.now }
     {
@@ -110,6 +115,7 @@ impl Hardware {
     }
 
     #[tactic(auto, unfolding(crate::specs::Direct::popped_register))]
+    #[inline(always)]
     pub(crate) fn pop_register(&mut self, register: WordReg)
         ensures { self.new ≡ popped_register self.old register }
     {

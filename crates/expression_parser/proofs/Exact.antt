@@ -11,7 +11,7 @@ use Rattle.pascal_grammar.proofs.Tables.{Follow}
 use Rattle.pascal_grammar.proofs.Reading.{Reads, front_is}
 use Rattle.predictive_grammar.specs.Grammar.{part, Fit, head, Belongs}
 use Rattle.predictive_grammar.specs.Readers.{Fault, Syntax, LeftOut, TooDeep}
-use Rattle.predictive_grammar.proofs.Meeting.{one, Stopped}
+use Rattle.predictive_grammar.proofs.Meeting.{one, Stopped, deep_in_most}
 use Rattle.syntax_tree.specs.Expressions.{Parsed}
 use Rattle.expression_parser.specs.declared.error.ReadError.{ReadError}
 use Rattle.expression_parser.specs.declared.error.ReadError.TheVariants as errors
@@ -53,7 +53,7 @@ module _ (n : Part) (d : ℕ) (ts : List Lexeme) where
       by : (f : Fault Production) → Stopped grammar Follow (one grammar Follow (part n)) d ts p after f → ⊥
       by (Syntax i) s = s.never t u.text rest after fits follow (sym u.parts ∙ s.parts) refl
       by (LeftOut q i) s = s.never t u.text rest after fits follow (sym u.parts ∙ s.parts) refl u.has
-      by (TooDeep i) s = let k : suc d ≤ _ = s.never t u.text rest after fits follow (sym u.parts ∙ s.parts) refl in let m = u.deep in absurd (omega arith)
+      by (TooDeep i) s = let k : suc d ≤ _ = s.never t u.text rest after fits follow (sym u.parts ∙ s.parts) refl in let most = deep_in_most grammar Follow (suc (length p)) t in let m = u.deep in absurd (omega arith)
 
   module _ {X : Type 0} (view : X → Parsed × List Lexeme) where
     pub spelled : (r : Result X ReadError) (read : Result (Parsed × List Lexeme) (Fault Production)) → Reads n d ts read → Gives view r read → IfOk r (λ x. Spelled n d ts (view x).0 (view x).1)

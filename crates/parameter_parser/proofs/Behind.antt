@@ -15,7 +15,7 @@ use Rattle.pascal_grammar.proofs.Reading.{Reads, AllRead, AreRead, front_is, lef
 use Rattle.pascal_grammar.proofs.Somes.{some}
 use Rattle.predictive_grammar.specs.Grammar.{Symbol, token, part, nil, pair, leaf, node, one_if, head, front, Fit, Fits, Belongs, BelongsOr}
 use Rattle.predictive_grammar.specs.Readers.{Fault, Syntax, LeftOut, TooDeep, ◌>>=◌, Reader, through, made, opened, kept_by, token_at}
-use Rattle.predictive_grammar.proofs.Meeting.{one, all, Meets, Joins, AllJoin, IsBelow, MayFollow, Stopped, Denies, GoesOn, Begun-part, front_append, regroup, then, then_within, rest_read, token_found, none_meets, node_meets, wrong}
+use Rattle.predictive_grammar.proofs.Meeting.{one, all, Meets, Joins, AllJoin, IsBelow, MayFollow, Stopped, Denies, Denies-left, GoesOn, Begun-part, front_append, regroup, then, then_within, rest_read, token_found, none_meets, node_meets, wrong}
 use Rattle.syntax_tree.specs.Expressions.{Parsed}
 use Rattle.expression_parser.specs.Gives.{Inside, ask}
 use Rattle.expression_parser.specs.Gives as g
@@ -98,24 +98,19 @@ last_part t F j d ts r m = then grammar Follow (part t) [] F j.0 d ts (r ts) (th
 -- ---- a symbol, and then those behind what it left
 
 module _ (y : Symbol Asked Part) (ys : List (Symbol Asked Part)) (F : Option Kind → Type 0) (j : Joins grammar Follow y ys F) where
-  denies_first : (f : Fault Production) (d : ℕ) (t u : Parsed) → Denies grammar Follow f d t → Denies grammar Follow f d (pair t u)
-  denies_first (Syntax n) d t u h = h
-  denies_first (LeftOut x n) d t u h = λ b. h b.0
-  denies_first (TooDeep n) d t u h = omega arith
-
   goes_on_first : (p rest : List Lexeme) (f : Fault Production) → GoesOn grammar Follow (one grammar Follow y) p rest f → GoesOn grammar Follow (all grammar Follow (y ∷ ys) F) p rest f
   goes_on_first p rest (Syntax n) g = tt
   goes_on_first p rest (LeftOut x n) g = (g.0, g.1, g.2, g.3, g.4, Begun-part grammar Follow y ys F j (BelongsOr grammar x) (λ p. inl) g.2 _ g.5)
   goes_on_first p rest (TooDeep n) g = (g.0, g.1, g.2, g.3, Begun-part grammar Follow y ys F j (Belongs grammar) (λ p h. h) g.2 _ g.4)
 
-  first_never : (d : ℕ) (ts p rest : List Lexeme) (f : Fault Production) → Stopped grammar Follow (one grammar Follow y) d ts p rest f → (u : Parsed) (l r m : List Lexeme) → Fits grammar (y ∷ ys) u l (head grammar r) → F (head grammar r) → l ++ r ≡ p ++ m → head grammar m ≡ head grammar rest → Denies grammar Follow f d u
+  first_never : (d : ℕ) (ts p rest : List Lexeme) (f : Fault Production) → Stopped grammar Follow (one grammar Follow y) d ts p rest f → (u : Parsed) (l r m : List Lexeme) → Fits grammar (y ∷ ys) u l (head grammar r) → F (head grammar r) → l ++ r ≡ p ++ m → head grammar m ≡ head grammar rest → Denies grammar Follow f d (length p) u
   first_never d ts p rest f s nil l r m sp o e h = absurd sp
   first_never d ts p rest f s (leaf w) l r m sp o e h = absurd sp
   first_never d ts p rest f s (node x u) l r m sp o e h = absurd sp
   first_never d ts p rest f s (pair u w) l r m sp o e h =
       let first = subst (λ (z : Option Kind). Fit grammar y u sp.left z) (sym (front_append grammar Follow sp.right r None)) sp.first in
       let follow = subst (λ (z : Option Kind). MayFollow grammar Follow y z) (sym (front_append grammar Follow sp.right r None)) (j.follows w sp.right (head grammar r) sp.second o) in
-      denies_first f d u w (s.never u sp.left (sp.right ++ r) m first follow (regroup grammar Follow l sp.left sp.right r _ sp.joined e) h)
+      Denies-left grammar Follow f d (length p) u w (s.never u sp.left (sp.right ++ r) m first follow (regroup grammar Follow l sp.left sp.right r _ sp.joined e) h)
 
   -- the others are read behind what the first reader left
   pub then_read : (d : ℕ) (ts : List Lexeme) (r : Outcome) (rest : Reader Lexeme Kept Production) → Meets grammar Follow (one grammar Follow y) d ts r → ((x : Parsed × List Lexeme) → r ≡ Ok x → Meets grammar Follow (all grammar Follow ys F) d x.1 (rest x.1)) → Meets grammar Follow (all grammar Follow (y ∷ ys) F) d ts (r >>= λ x. rest x.1 >>= λ u. Ok (pair x.0 u.0, u.1))

@@ -3,3 +3,4 @@ pub mod Predicting
 pub mod Checking
 pub mod Unique
 pub mod Whole
+pub mod Faults

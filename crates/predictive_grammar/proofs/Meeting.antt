@@ -43,11 +43,11 @@ module _ {X K S V N P : Type 0} (G : Grammar X K S V N P) (Follow : N → Option
     pub deep : deep G t ≤ d
     pub only : (u : Tree V P) (l r m : List X) → L.fits u l (head G r) → L.follow (head G r) → l ++ r ≡ text ++ m → head G m ≡ head G rest → (u ≡ t) × (l ≡ text)
 
-  -- what a fault says of each tree that goes on like the lexemes
-  abbrev pub Denies : Fault P → ℕ → Tree V P → Type 0
-  Denies (Syntax n) d u = ⊥
-  Denies (LeftOut q n) d u = Has (Belongs G) u → ⊥
-  Denies (TooDeep n) d u = suc d ≤ deep G u
+  -- what a fault behind k lexemes says of each tree that goes on like them and the one at fault
+  abbrev pub Denies : Fault P → ℕ → ℕ → Tree V P → Type 0
+  Denies (Syntax n) d k u = ⊥
+  Denies (LeftOut q n) d k u = Has (Belongs G) u → ⊥
+  Denies (TooDeep n) d k u = suc d ≤ deep_in G (suc k) u
 
   -- the lexeme at fault can stand there, in the full language or with more constructs
   abbrev pub GoesOn : Lang X K V P → List X → List X → Fault P → Type 0
@@ -60,7 +60,7 @@ module _ {X K S V N P : Type 0} (G : Grammar X K S V N P) (Follow : N → Option
     pub parts : ts ≡ p ++ rest
     pub left : left_of f ≡ length rest
     pub starts : Begun L (Belongs G) d p
-    pub never : (u : Tree V P) (l r m : List X) → L.fits u l (head G r) → L.follow (head G r) → l ++ r ≡ p ++ m → head G m ≡ head G rest → Denies f d u
+    pub never : (u : Tree V P) (l r m : List X) → L.fits u l (head G r) → L.follow (head G r) → l ++ r ≡ p ++ m → head G m ≡ head G rest → Denies f d (length p) u
     pub goes : GoesOn L p rest f
 
   abbrev pub Meets : Lang X K V P → ℕ → List X → Result (Tree V P × List X) (Fault P) → Type 0
@@ -113,15 +113,16 @@ module _ {X K S V N P : Type 0} (G : Grammar X K S V N P) (Follow : N → Option
   Begun-map : (L : Lang X K V P) (A B : P → Type 0) → ((p : P) → A p → B p) → (d : ℕ) (p : List X) → Begun L A d p → Begun L B d p
   Begun-map L A B f d p b = record { tree = b.tree; more = b.more; fits = b.fits; next = b.next; has = Has-map A B f b.tree b.has; size = b.size; deep = b.deep }
 
-  Denies-left : (f : Fault P) (d : ℕ) (t u : Tree V P) → Denies f d t → Denies f d (pair t u)
-  Denies-left (Syntax n) d t u h = h
-  Denies-left (LeftOut q n) d t u h = λ b. h b.0
-  Denies-left (TooDeep n) d t u h = omega arith
+  pub Denies-left : (f : Fault P) (d k : ℕ) (t u : Tree V P) → Denies f d k t → Denies f d k (pair t u)
+  Denies-left (Syntax n) d k t u h = h
+  Denies-left (LeftOut q n) d k t u h = λ b. h b.0
+  Denies-left (TooDeep n) d k t u h = omega arith
 
-  Denies-right : (f : Fault P) (d : ℕ) (t u : Tree V P) → Denies f d u → Denies f d (pair t u)
-  Denies-right (Syntax n) d t u h = h
-  Denies-right (LeftOut q n) d t u h = λ b. h b.1
-  Denies-right (TooDeep n) d t u h = omega arith
+  -- the second part begins behind the lexemes of the first
+  Denies-right : (f : Fault P) (d k i : ℕ) (t u : Tree V P) → k ≡ size t + i → Denies f d i u → Denies f d k (pair t u)
+  Denies-right (Syntax n) d k i t u e h = h
+  Denies-right (LeftOut q n) d k i t u e h = λ b. h b.1
+  Denies-right (TooDeep n) d k i t u e h = let z : suc k - size t ≡ suc i = omega arith in rw z (omega arith)
 
   -- ---- a symbol, and then those after it
 
@@ -181,7 +182,7 @@ module _ {X K S V N P : Type 0} (G : Grammar X K S V N P) (Follow : N → Option
           let b = Begun-rest (Belongs G) (λ p h. h) (d + g.2) (p ++ (x ∷ [])) g.1 k (omega arith) (Begun-more _ _ g.2 (d + g.2) _ (omega arith) g.4) in
           (x, g.1, d + g.2, g.3, subst (λ (z : List X). Begun (all (y ∷ ys) F) (Belongs G) (d + g.2) z) (sym (append_assoc text p (x ∷ []))) b)
 
-      rest_never : (f : Fault P) (q left : List X) → Stopped (all ys F) d rest q left f → (u : Tree V P) (l r m : List X) → (all (y ∷ ys) F).fits u l (head G r) → F (head G r) → l ++ r ≡ (text ++ q) ++ m → head G m ≡ head G left → Denies f d u
+      rest_never : (f : Fault P) (q left : List X) → Stopped (all ys F) d rest q left f → (u : Tree V P) (l r m : List X) → (all (y ∷ ys) F).fits u l (head G r) → F (head G r) → l ++ r ≡ (text ++ q) ++ m → head G m ≡ head G left → Denies f d (length (text ++ q)) u
       rest_never f q left s nil l r m sp o e h = absurd sp
       rest_never f q left s (leaf v) l r m sp o e h = absurd sp
       rest_never f q left s (node p u) l r m sp o e h = absurd sp
@@ -190,7 +191,8 @@ module _ {X K S V N P : Type 0} (G : Grammar X K S V N P) (Follow : N → Option
           let follow = subst (λ (z : Option K). MayFollow y z) (sym (front_append sp.right r None)) (j.follows w sp.right (head G r) sp.second o) in
           let same = same_part u l r q m sp.left sp.right sp.joined first follow e (heads q m left h ∙ ap (head G) (sym s.parts)) in
           let cut = past_part l sp.left sp.right r q m sp.joined same.1 e in
-          Denies-right f d u w (s.never w sp.right r m sp.second o cut h)
+          let sized : size u ≡ length text = ap (λ (z : Tree V P). size z) same.0 ∙ found.size in
+          Denies-right f d (length (text ++ q)) (length q) u w (omega (arith, length-append text q)) (s.never w sp.right r m sp.second o cut h)
 
       rest_only : (v : Tree V P) (q left : List X) → Found (all ys F) d rest v q left → (u : Tree V P) (l r m : List X) → (all (y ∷ ys) F).fits u l (head G r) → F (head G r) → l ++ r ≡ (text ++ q) ++ m → head G m ≡ head G left → (u ≡ pair t v) × (l ≡ text ++ q)
       rest_only v q left s nil l r m sp o e h = absurd sp
@@ -243,14 +245,14 @@ module _ {X K S V N P : Type 0} (G : Grammar X K S V N P) (Follow : N → Option
     GoesOn-part p rest (LeftOut q n) g = (g.0, g.1, g.2, g.3, g.4, Begun-part (BelongsOr G q) (λ p. inl) g.2 _ g.5)
     GoesOn-part p rest (TooDeep n) g = (g.0, g.1, g.2, g.3, Begun-part (Belongs G) (λ p h. h) g.2 _ g.4)
 
-    first_never : (d : ℕ) (ts p rest : List X) (f : Fault P) → Stopped (one y) d ts p rest f → (u : Tree V P) (l r m : List X) → (all (y ∷ ys) F).fits u l (head G r) → F (head G r) → l ++ r ≡ p ++ m → head G m ≡ head G rest → Denies f d u
+    first_never : (d : ℕ) (ts p rest : List X) (f : Fault P) → Stopped (one y) d ts p rest f → (u : Tree V P) (l r m : List X) → (all (y ∷ ys) F).fits u l (head G r) → F (head G r) → l ++ r ≡ p ++ m → head G m ≡ head G rest → Denies f d (length p) u
     first_never d ts p rest f s nil l r m sp o e h = absurd sp
     first_never d ts p rest f s (leaf w) l r m sp o e h = absurd sp
     first_never d ts p rest f s (node q u) l r m sp o e h = absurd sp
     first_never d ts p rest f s (pair u w) l r m sp o e h =
         let first = subst (λ (z : Option K). Fit G y u sp.left z) (sym (front_append sp.right r None)) sp.first in
         let follow = subst (λ (z : Option K). MayFollow y z) (sym (front_append sp.right r None)) (j.follows w sp.right (head G r) sp.second o) in
-        Denies-left f d u w (s.never u sp.left (sp.right ++ r) m first follow (regroup l sp.left sp.right r _ sp.joined e) h)
+        Denies-left f d (length p) u w (s.never u sp.left (sp.right ++ r) m first follow (regroup l sp.left sp.right r _ sp.joined e) h)
 
     -- A symbol is read, and then those after it, of which no more lexemes are left.
     pub then_within : (d : ℕ) (ts : List X) (r : Result (Tree V P × List X) (Fault P)) (rest : Reader X V P) → Meets (one y) d ts r → ((l : List X) → length l ≤ length ts → Meets (all ys F) d l (rest l)) → Meets (all (y ∷ ys) F) d ts (r >>= λ x. rest x.1 >>= λ u. Ok (pair x.0 u.0, u.1))
@@ -409,10 +411,10 @@ module _ {X K S V N P : Type 0} (G : Grammar X K S V N P) (Follow : N → Option
         let both : choose (G.owner p) (front G l (head G r)) ≡ choose (G.owner p) (head G ts) = ap (choose (G.owner p)) same in
         cc
 
-    Denies-node : (f : Fault P) (p : P) (d : ℕ) (t : Tree V P) → Denies f d t → Denies f (one_if (G.counts p) + d) (node p t)
-    Denies-node (Syntax n) p d t h = h
-    Denies-node (LeftOut q n) p d t h = λ b. h b.1
-    Denies-node (TooDeep n) p d t h = omega arith
+    Denies-node : (f : Fault P) (p : P) (d k : ℕ) (t : Tree V P) → Denies f d k t → Denies f (one_if (G.counts p) + d) k (node p t)
+    Denies-node (Syntax n) p d k t h = h
+    Denies-node (LeftOut q n) p d k t h = λ b. h b.1
+    Denies-node (TooDeep n) p d k t h = omega arith
 
     GoesOn-node : (p : P) → ((h : Option K) → G.allows p h ≡ true) → Belongs G p → (q rest : List X) (f : Fault P) → GoesOn (all (G.body p) (Follow (G.owner p))) q rest f → GoesOn (one (part (G.owner p))) q rest f
     GoesOn-node p a i q rest (Syntax n) g = tt
@@ -424,14 +426,14 @@ module _ {X K S V N P : Type 0} (G : Grammar X K S V N P) (Follow : N → Option
       first_is : (q rest l r m : List X) → ts ≡ q ++ rest → l ++ r ≡ q ++ m → head G m ≡ head G rest → head G (l ++ r) ≡ head G ts
       first_is q rest l r m e c h = ap (head G) c ∙ heads q m rest h ∙ ap (head G) (sym e)
 
-      node_never : (d : ℕ) (q rest : List X) (f : Fault P) → Stopped (all (G.body p) (Follow (G.owner p))) d ts q rest f → (u : Tree V P) (l r m : List X) → Fit G (part (G.owner p)) u l (head G r) → Follow (G.owner p) (head G r) → l ++ r ≡ q ++ m → head G m ≡ head G rest → Denies f (one_if (G.counts p) + d) u
+      node_never : (d : ℕ) (q rest : List X) (f : Fault P) → Stopped (all (G.body p) (Follow (G.owner p))) d ts q rest f → (u : Tree V P) (l r m : List X) → Fit G (part (G.owner p)) u l (head G r) → Follow (G.owner p) (head G r) → l ++ r ≡ q ++ m → head G m ≡ head G rest → Denies f (one_if (G.counts p) + d) (length q) u
       node_never d q rest f s nil l r m sp o e h = absurd sp
       node_never d q rest f s (pair t u) l r m sp o e h = absurd sp
       node_never d q rest f s (leaf v) l r m sp o e h = absurd sp
       node_never d q rest f s (node z w) l r m sp o e h =
           let is = same_production p ts chosen z w l r sp o (first_is q rest l r m s.parts e h) in
           let fit = subst (λ (y : P). Fits G (G.body y) w l (head G r)) is sp.2 in
-          subst (λ (y : P). Denies f (one_if (G.counts p) + d) (node y w)) (sym is) (Denies-node f p d w (s.never w l r m fit o e h))
+          subst (λ (y : P). Denies f (one_if (G.counts p) + d) (length q) (node y w)) (sym is) (Denies-node f p d (length q) w (s.never w l r m fit o e h))
 
       node_only : (d : ℕ) (t : Tree V P) (text rest : List X) → Found (all (G.body p) (Follow (G.owner p))) d ts t text rest → (u : Tree V P) (l r m : List X) → Fit G (part (G.owner p)) u l (head G r) → Follow (G.owner p) (head G r) → l ++ r ≡ text ++ m → head G m ≡ head G rest → (u ≡ node p t) × (l ≡ text)
       node_only d t text rest s nil l r m sp o e h = absurd sp
@@ -519,7 +521,7 @@ module _ {X K S V N P : Type 0} (G : Grammar X K S V N P) (Follow : N → Option
       begins_with : (A : P → Type 0) → A p → (d : ℕ) → Begun (all ys (Follow (G.owner p))) A d [] → Begun (one (part (G.owner p))) A (one_if (G.counts p) + d) (x ∷ [])
       begins_with A a d b = node_begun p allowed A a d (x ∷ []) (subst (λ (zs : List (Symbol S N)). Begun (all zs (Follow (G.owner p))) A d (x ∷ [])) (sym body_is) (known_begun s x v keeps ys (Follow (G.owner p)) A d b))
 
-      deep_never : G.counts p ≡ true → (u : Tree V P) (l r : List X) → Fit G (part (G.owner p)) u l (head G r) → Follow (G.owner p) (head G r) → head G (l ++ r) ≡ Some (G.kind x) → 1 ≤ deep G u
+      deep_never : G.counts p ≡ true → (u : Tree V P) (l r : List X) → Fit G (part (G.owner p)) u l (head G r) → Follow (G.owner p) (head G r) → head G (l ++ r) ≡ Some (G.kind x) → 1 ≤ deep_in G 1 u
       deep_never c nil l r sp o h = absurd sp
       deep_never c (pair t u) l r sp o h = absurd sp
       deep_never c (leaf w) l r sp o h = absurd sp

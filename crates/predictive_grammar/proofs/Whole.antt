@@ -28,7 +28,7 @@ module _ {X K S V N P : Type 0} (G : Grammar X K S V N P) (Follow : N → Option
   goes p (x ∷ rest) t g = (p ++ (x ∷ g.more), x ∷ g.more, subst (λ (l : List X). Spells G start t l) (ap (λ (l : List X). l ++ g.more) (front_more p x rest) ∙ append_assoc p (x ∷ []) g.more) g.spells, append-nil _, refl)
 
   module _ (d : ℕ) (p rest : List X) (f : Fault P) (s : Stopped G Follow (one G Follow (part start)) d (p ++ rest) p rest f) where
-    denied : (t : Tree V P) → GoesOn G start (p ++ rest) (length rest) t → Denies G Follow f d t
+    denied : (t : Tree V P) → GoesOn G start (p ++ rest) (length rest) t → Denies G Follow f d (length p) t
     denied t g = let k = goes p rest t g in s.never t k.0 [] k.1 k.2 last k.3 k.4
 
     before : Begins G start (Belongs G) d (take (place (p ++ rest) (length rest)) (p ++ rest))
@@ -47,8 +47,10 @@ module _ {X K S V N P : Type 0} (G : Grammar X K S V N P) (Follow : N → Option
   })
   stopped_here d p rest (LeftOut q n) e s =
       let g = s.goes in
+      let some : length rest ≡ suc (length g.1) = ap length g.3 in
       subst (λ (k : ℕ). IsLeftOut G start d (p ++ rest) q k) (sym e) (record {
         within = omega (arith, length-append p rest);
+        some = omega arith;
         before = before d p rest (LeftOut q n) s;
         there = λ t g. denied d p rest (LeftOut q n) s t g;
         left_out = g.4;
@@ -62,7 +64,7 @@ module _ {X K S V N P : Type 0} (G : Grammar X K S V N P) (Follow : N → Option
         some = omega arith;
         before = before d p rest (TooDeep n) s;
         there = (g.2, with_it d p rest (TooDeep n) s (Belongs G) g.2 g.0 g.1 g.3 g.4);
-        deeper = λ t g. let k : suc d ≤ deep G t = denied d p rest (TooDeep n) s t g in omega arith;
+        deeper = λ t g. let k : suc d ≤ deep_in G (suc (length p)) t = denied d p rest (TooDeep n) s t g in let e : place (p ++ rest) (length rest) ≡ length p = omega (arith, length-append p rest) in rw e (omega arith);
       })
 
   stopped : (d : ℕ) (ts p rest : List X) (f : Fault P) → ts ≡ p ++ rest → Stopped G Follow (one G Follow (part start)) d ts p rest f → IsFault G start d ts f
@@ -112,7 +114,7 @@ module _ {X K S V N P : Type 0} (G : Grammar X K S V N P) (Follow : N → Option
       ap (λ (l : List X). ended G start (u, l)) (sym nothing) ∙ ap (λ (z : Tree V P). Ok z) (sym same.0)
   all_only d ts (Err (Syntax n)) m t s b h = let f = m.2 in absurd (f.never t ts [] m.1 s last (append-nil ts ∙ f.parts) refl)
   all_only d ts (Err (LeftOut q n)) m t s b h = let f = m.2 in absurd (f.never t ts [] m.1 s last (append-nil ts ∙ f.parts) refl b)
-  all_only d ts (Err (TooDeep n)) m t s b h = let f = m.2 in let k : suc d ≤ deep G t = f.never t ts [] m.1 s last (append-nil ts ∙ f.parts) refl in absurd (omega arith)
+  all_only d ts (Err (TooDeep n)) m t s b h = let f = m.2 in let k : suc d ≤ deep_in G (suc (length m.0)) t = f.never t ts [] m.1 s last (append-nil ts ∙ f.parts) refl in let most = deep_in_most G Follow (suc (length m.0)) t in absurd (omega arith)
 
   -- At most one tree is spelled.
   pub at_most_one : (read : ℕ → Reader X V P) → ((d : ℕ) (ts : List X) → Meets G Follow (one G Follow (part start)) d ts (read d ts)) → (ts : List X) (t u : Tree V P) → Spells G start t ts → Has (Belongs G) t → Spells G start u ts → Has (Belongs G) u → t ≡ u

@@ -14,3 +14,4 @@ mod standard;
 mod statements;
 
 pub use check::{check_stmt, statement_laws};
+pub use statements::compound;

@@ -135,8 +135,9 @@ pub(crate) fn stated(alloc: Global, tree: &Statement, scope: &mut Scope) -> Resu
     }
 }
 
+/// The node of the statements between `begin` and `end`.
 #[cycle(parts)]
-fn compound(alloc: Global, statements: &[Statement], scope: &mut Scope) -> Result<Stmt, Refusal>
+pub fn compound(alloc: Global, statements: &[Statement], scope: &mut Scope) -> Result<Stmt, Refusal>
     ensures gives { Gives view_stmt result (blocked (listed scope.old (view_statements statements.now))).run }
     ensures unchanged { scope.new ≡ scope.old }
 {

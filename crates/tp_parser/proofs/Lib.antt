@@ -1,5 +1,6 @@
 pub mod Faults
 pub mod Listing
+pub mod OneFault
 pub mod Shapes
 pub mod Sound
 pub mod Units

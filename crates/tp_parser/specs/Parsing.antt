@@ -63,9 +63,18 @@ placed tokens lexemes (r.TooDeep left) = e.TooDeep (place_at tokens lexemes left
 
 -- The fault is the first one, and stands at its place: the tokens before it begin a source within the limit, and
 -- with the token there, or the end, they begin none. Then they either begin none in the full language; or they do, by what is
--- left out; or they do, but with more constructs open than may be.
+-- left out; or they do, but each has more constructs open by then than may be.
 abbrev pub IsFault : List Token → ParseError → Type 0
 IsFault tokens e.NoMemory = Unit {0}
 IsFault tokens (e.Syntax at) = (left : ℕ) × IsSyntax grammar n.source limit (lexemes_of tokens) left × (at ≡ place_at tokens (lexemes_of tokens) left)
 IsFault tokens (e.NotInProfile at what) = (omission : Omission) × (left : ℕ) × IsLeftOut grammar n.source limit (lexemes_of tokens) (omitted omission) left × (at ≡ place_at tokens (lexemes_of tokens) left) × (what ≡ feature omission)
 IsFault tokens (e.TooDeep at) = (left : ℕ) × IsTooDeep grammar n.source limit (lexemes_of tokens) left × (at ≡ place_at tokens (lexemes_of tokens) left)
+
+-- the same kind of fault at the same place; want of memory is like any
+abbrev pub AreAlike : ParseError → ParseError → Type 0
+AreAlike e.NoMemory y = Unit {0}
+AreAlike x e.NoMemory = Unit {0}
+AreAlike (e.Syntax a) (e.Syntax b) = a ≡ b
+AreAlike (e.NotInProfile a what) (e.NotInProfile b other) = a ≡ b
+AreAlike (e.TooDeep a) (e.TooDeep b) = a ≡ b
+AreAlike x y = ⊥

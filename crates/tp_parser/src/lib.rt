@@ -9,4 +9,4 @@ mod tree;
 
 pub use error::ParseError;
 pub use source_tree::{Tree, interface_uses, uses_of};
-pub use tree::{OPEN_LIMIT, one_tree, parse};
+pub use tree::{OPEN_LIMIT, one_fault, one_tree, parse};

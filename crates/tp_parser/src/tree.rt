@@ -9,7 +9,9 @@ ghost use Rattle.lexeme_list.specs.Lexemes.{lexemes_of};
 ghost use Rattle.syntax_tree.specs.Expressions.{Parsed};
 ghost use Rattle.source_tree.specs.Sources.{of_tree};
 ghost use Rattle.expression_parser.specs.Gives.{Gives};
-ghost use Rattle.tp_parser.specs.Parsing.{IsSource, IsReadAs, IsFault};
+ghost use Rattle.tp_parser.specs.Parsing.{IsSource, IsReadAs, IsFault, AreAlike};
+ghost use Rattle.tp_parser.specs.declared.error.ParseError.{ParseError};
+ghost use Rattle.tp_parser.specs.declared.error.ParseError.TheVariants.{NoMemory};
 ghost use Rattle.tp_parser.specs.Whole.{whole_at};
 
 use crate::error::ParseError;
@@ -57,3 +59,11 @@ pub fn one_tree()
 {
     grammar_laws();
 }
+
+/// Tokens have one fault at most, and none where they spell a source; it does nothing.
+pub fn one_fault()
+    // Two faults are of one kind and at one place, where neither is want of memory.
+    ensures alike { (tokens : List Token) (x y : ParseError) → IsFault tokens x → IsFault tokens y → AreAlike x y }
+    // Where a source is spelled, nothing but want of memory is a fault.
+    ensures none { (tokens : List Token) (t : Parsed) (x : ParseError) → IsSource tokens t → IsFault tokens x → x ≡ NoMemory }
+{}

@@ -91,6 +91,20 @@ fn fix(scope: &mut Scope, name: &[u8], ty: TypeId, number: i32) -> Result<(), Al
     enter(scope, name, Entry::Const { ty, value })
 }
 
+fn fix_set(
+    alloc: Global,
+    scope: &mut Scope,
+    name: &[u8],
+    elements: &[u8],
+) -> Result<(), AllocError> {
+    let value = Value::Elements(Bytes::from_slice(alloc, elements)?);
+    let entry = Entry::Const {
+        ty: SET_OF_BYTE,
+        value,
+    };
+    enter(scope, name, entry)
+}
+
 fn add(scope: &mut Scope, one: TypeDef) -> Result<TypeId, AllocError> {
     let origin = named(b"P")?;
     if !scope.types().takes(&origin, &one) {
@@ -158,6 +172,14 @@ fn declare_others(alloc: Global, scope: &mut Scope) -> Result<(), AllocError> {
         declare(scope, name, 0, ty)?;
     }
     Ok(())
+}
+
+// KA and KB: constant sets of Byte; KE and KF: constants of the types of E and F.
+fn declare_constants(alloc: Global, scope: &mut Scope) -> Result<(), AllocError> {
+    fix_set(alloc, scope, b"KA", &[1, 5])?;
+    fix_set(alloc, scope, b"KB", &[5, 9])?;
+    fix(scope, b"KE", TypeId(15), 1)?;
+    fix(scope, b"KF", TypeId(16), 0)
 }
 
 fn declare_routine(
@@ -268,6 +290,7 @@ pub(crate) fn scope(alloc: Global) -> Result<Scope, AllocError> {
     scope.begin(BlockKind::Part)?;
     declare_ordinals(&mut scope)?;
     declare_others(alloc, &mut scope)?;
+    declare_constants(alloc, &mut scope)?;
     declare_routines(alloc, &mut scope)?;
     declare_sets_and_objects(alloc, &mut scope)?;
     let owner = None;

@@ -1,7 +1,11 @@
 use Rattle.typing_rules.proofs.JudgementLaws.{exact}
 use Rattle.constant_expressions.specs.Constants.{judged}
 use Rattle.constant_expressions.proofs.ConstantLaws.{lawful}
+use Rattle.constant_expressions.proofs.SetLaws.{sets}
 use Rattle.constant_expressions.proofs.check.constant_laws.Goals as goal
 
-pub returns : goal.returns
-returns c = λ g. exact (judged g) (lawful g)
+pub returns-clause-exact : goal.returns-clause-exact
+returns-clause-exact c = λ g. exact (judged g) (lawful g)
+
+pub returns-clause-sets : goal.returns-clause-sets
+returns-clause-sets c = sets

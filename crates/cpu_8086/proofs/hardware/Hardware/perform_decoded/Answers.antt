@@ -1,4 +1,4 @@
-use Rattle.std.proofs.Common.{◌≡◌, sym, ap, ◌∙◌, inl, drop}
+use Rattle.std.proofs.Common.{sym, ap, ◌∙◌, inl, drop}
 use Rattle.std.specs.Int.{w64, to_le_bytes}
 use Rattle.cpu_8086.specs.State.{State}
 use Rattle.cpu_8086.specs.declared.machine.Event.{Event}

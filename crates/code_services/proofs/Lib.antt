@@ -1,0 +1,4 @@
+pub mod Returning
+pub mod Services
+pub mod Clearing
+pub mod Setting

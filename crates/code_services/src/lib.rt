@@ -1,0 +1,6 @@
+//! The two acts of the machine that are routines: overlays are cleared, and the installed flag is set.
+#![tactic(auto)]
+
+mod laws;
+
+pub use laws::service_law;

@@ -1,0 +1,3 @@
+pub mod Pointers
+pub mod FarCalls
+pub mod Through

@@ -1,0 +1,81 @@
+-- Set constructors of constants.
+use Rattle.std.specs.Prelude.{◌≡◌, ℤ, unsigned_abs, ◌%◌, Bool, true, ◌&&◌, List, [], ◌∷◌, ℕ, Option, Some, None}
+use Rattle.type_layout.specs.declared.definitions.Host.TheVariants as host
+use Rattle.type_layout.specs.declared.definitions.TypeId.{TypeId}
+use Rattle.type_layout.specs.declared.definitions.TypeDef.{TypeDef}
+use Rattle.type_layout.specs.declared.texts.Place.{Place}
+use Rattle.type_layout.specs.Storage.{holds}
+use Rattle.values.specs.Sets.{with_range}
+use Rattle.typing_rules.specs.declared.faults.Rule.TheVariants as rules
+use Rattle.typing_rules.specs.declared.sorts.Sort.{Sort}
+use Rattle.typing_rules.specs.Faults.{broken, not_yet}
+use Rattle.typing_rules.specs.Judgements.{Judgement, makes, refuses, rule}
+use Rattle.typing_rules.specs.Selectors.{asking}
+use Rattle.typing_rules.specs.Sorts.{sort_of_type}
+use Rattle.typing_rules.specs.Plans.{AreOfOneHost, are_of_one_host}
+use Rattle.set_rules.specs.Bases.{set_of_byte, set_over}
+use Rattle.constant_expressions.specs.declared.constants.Constant.{Constant}
+use Rattle.constant_expressions.specs.declared.constructors.Ordinal.{Ordinal}
+use Rattle.constant_expressions.specs.declared.constructors.Span.{Span}
+use Rattle.constant_expressions.specs.Values.{set_constant, number_of}
+
+-- ---- what a constructor lists
+
+abbrev pub ordinal_of : List TypeDef → Constant → Ordinal
+ordinal_of types c = record { sort = sort_of_type types c.ty; number = number_of c.value }
+
+-- one element is a span of its own
+abbrev pub span_of : Ordinal → Ordinal → Span
+span_of low high = record { low = low; high = high }
+
+-- ---- what is asked
+
+-- an ordinal of a host that lies in 0..255
+abbrev pub IsElement : Sort → Ordinal → Type 0
+IsElement s one = AreOfOneHost s one.sort × (holds host.Byte one.number one.number ≡ true)
+
+abbrev pub is_element : Sort → Ordinal → Bool
+is_element s one = are_of_one_host s one.sort && holds host.Byte one.number one.number
+
+abbrev pub IsSpan : Sort → Span → Type 0
+IsSpan s one = IsElement s one.low × IsElement s one.high
+
+abbrev pub is_span : Sort → Span → Bool
+is_span s one = is_element s one.low && is_element s one.high
+
+abbrev pub AreSpans : Sort → List Span → Type 0
+AreSpans s [] = Unit {0}
+AreSpans s (one ∷ rest) = IsSpan s one × AreSpans s rest
+
+abbrev pub are_spans : Sort → List Span → Bool
+are_spans s [] = true
+are_spans s (one ∷ rest) = is_span s one && are_spans s rest
+
+-- ---- the set
+
+-- what the first one is, by which the others go
+abbrev pub first_sort : List Span → Option Sort
+first_sort [] = None
+first_sort (one ∷ rest) = Some one.low.sort
+
+-- the byte of an ordinal in 0..255
+abbrev pub byte_of : ℤ → ℕ
+byte_of n = unsigned_abs n % 256
+
+-- The elements of spans with those that are there. Nothing lies between two bounds of which the first is above the last.
+abbrev pub elements_with : List ℕ → List Span → List ℕ
+elements_with before [] = before
+elements_with before (one ∷ rest) = elements_with (with_range before (byte_of one.low.number) (byte_of one.high.number)) rest
+
+-- a declaration of an enumeration adds the set over it, so that a type without one is not built yet
+abbrev pub typed_set : Place → Option TypeId → List Span → Judgement Constant
+typed_set place None spans = refuses (not_yet place)
+typed_set place (Some ty) spans = makes (set_constant ty (elements_with [] spans))
+
+abbrev pub set_by : List TypeDef → Place → Option Sort → List Span → Judgement Constant
+set_by types place None spans = makes (set_constant set_of_byte [])
+set_by types place (Some s) spans = asking (rule (broken place rules.Listed) (are_spans s spans) (AreSpans s spans) tt) (typed_set place (set_over types s) spans)
+
+-- A set constructor at a place: ordinals of one host in 0..255, and the set over all of that host.
+unfoldable pub set_of : List TypeDef → Place → List Span → Judgement Constant
+set_of types place spans = set_by types place (first_sort spans) spans

@@ -1,0 +1,117 @@
+-- Standard functions of constants.
+use Rattle.std.specs.Prelude.{ℕ, ℤ, pos, ◌+ℤ◌, ◌-ℤ◌, ◌==◌, min, Bool, false, cond, List, [], ◌∷◌, length, Option, Some, None}
+use Rattle.type_layout.specs.declared.definitions.TypeId.{TypeId}
+use Rattle.type_layout.specs.declared.definitions.TypeDef.{TypeDef}
+use Rattle.type_layout.specs.declared.definitions.Host.TheVariants as host
+use Rattle.type_layout.specs.declared.texts.Place.{Place}
+use Rattle.type_layout.specs.Storage.{holds}
+use Rattle.tp_lexer.specs.declared.token.Feature.{Feature}
+use Rattle.left_out_names.specs.Names.{feature_of}
+use Rattle.typed_tree.specs.declared.expressions.Value.{Value}
+use Rattle.typed_tree.specs.declared.expressions.Value.TheVariants as value
+use Rattle.scopes.specs.declared.entries.Entry.{Entry}
+use Rattle.scopes.specs.declared.entries.Entry.TheVariants as entry
+use Rattle.scopes.specs.Environment.{Environment, Meaning, named, member, find}
+use Rattle.values.specs.declared.ordinals.IntegerType.{IntegerType}
+use Rattle.values.specs.declared.ordinals.IntegerType.TheVariants.{Byte, Integer, Word, LongInt}
+use Rattle.values.specs.Ordinals.{kept}
+use Rattle.values.specs.Bits.{conjunction, hi, lo, swapped, absolute}
+use Rattle.values.specs.Strings.{upper}
+use Rattle.typing_rules.specs.declared.faults.Rule.TheVariants as rules
+use Rattle.typing_rules.specs.declared.sorts.Sort.{Sort}
+use Rattle.typing_rules.specs.Faults.{broken, not_yet, undeclared}
+use Rattle.typing_rules.specs.Judgements.{Judgement, makes, refuses, rule, either}
+use Rattle.typing_rules.specs.Sorts.{sort_of_type, sort_of_constant}
+use Rattle.typing_rules.specs.Plans.{is_integer}
+use Rattle.standard_rules.specs.declared.signatures.Signature.{Signature}
+use Rattle.standard_rules.specs.Signatures.{signature_of}
+use Rattle.standard_rules.specs.Standard.{Accepts, accepts}
+use Rattle.expression_tree.specs.Trees.{Tree, name}
+use Rattle.constant_expressions.specs.declared.constants.Constant.{Constant}
+use Rattle.constant_expressions.specs.declared.functions.Function.{Function}
+use Rattle.constant_expressions.specs.declared.functions.Function.TheVariants.{Abs, Odd, Ord, Chr, Succ, Pred, Hi, Lo, Swap, UpCase, Length}
+use Rattle.constant_expressions.specs.declared.functions.StandardFunction.{StandardFunction}
+use Rattle.constant_expressions.specs.Values.{integer, truth, character, number_of, bytes_of}
+
+-- the functions that a constant may have, by their numbers among the standard routines
+unfoldable pub functions : List (ℕ × Function)
+functions =
+    (0, Abs) ∷ (2, Odd) ∷ (3, Ord) ∷ (4, Chr) ∷ (5, Succ) ∷ (6, Pred) ∷ (9, Hi) ∷ (10, Lo) ∷ (11, Swap) ∷ (13, UpCase) ∷
+    (14, Length) ∷ []
+
+-- the function of the first row with a number
+abbrev pub function_in : List (ℕ × Function) → ℕ → Option Function
+function_in [] number = None
+function_in (row ∷ rows) number = cond (row.0 == number) (Some row.1) (function_in rows number)
+
+abbrev pub function_of : ℕ → Option Function
+function_of number = function_in functions number
+
+-- ---- what they give
+
+-- an integer wraps on 32 bits, any other ordinal in its byte
+abbrev pub stepped : TypeId → Sort → ℤ → Constant
+stepped ty s n = cond (is_integer s) (integer (kept LongInt n)) (record { ty = ty; value = value.Number (kept Byte n) })
+
+-- the type of 16 bits that holds a number
+abbrev pub short_type : ℤ → IntegerType
+short_type n = cond (holds host.Integer n n) Integer Word
+
+-- a string has at most 255 bytes
+abbrev pub applied : Function → TypeId → Sort → Value → Constant
+applied Abs ty s v = integer (absolute LongInt (number_of v))
+applied Odd ty s v = truth (conjunction LongInt (number_of v) (pos 1))
+applied Ord ty s v = integer (number_of v)
+applied Chr ty s v = character (lo (number_of v))
+applied Succ ty s v = stepped ty s (number_of v +ℤ pos 1)
+applied Pred ty s v = stepped ty s (number_of v -ℤ pos 1)
+applied Hi ty s v = integer (pos (hi (number_of v)))
+applied Lo ty s v = integer (pos (lo (number_of v)))
+applied Swap ty s v = integer (swapped (short_type (number_of v)) (number_of v))
+applied UpCase ty s v = character (upper (lo (number_of v)))
+applied Length ty s v = integer (pos (min (length (bytes_of v)) 255))
+
+-- ---- which of them is called
+
+-- a function as it stands, for `Gives`
+abbrev pub same_one : StandardFunction → StandardFunction
+same_one f = f
+
+abbrev pub chosen : Place → ℕ → Option Function → Judgement StandardFunction
+chosen place number None = refuses (broken place rules.Constant)
+chosen place number (Some function) = makes (record { function = function; number = number })
+
+-- SizeOf, which is number 12, takes types and is not built yet; a conversion or a call of another routine is no constant
+abbrev pub function_entry : Place → Entry → Judgement StandardFunction
+function_entry place (entry.Std number) = either (number == 12) (refuses (not_yet place)) (chosen place number (function_of number))
+function_entry place _ = refuses (broken place rules.Constant)
+
+abbrev pub function_meant : Place → Option Feature → Option Meaning → Judgement StandardFunction
+function_meant place feature None = refuses (undeclared place feature)
+function_meant place feature (Some (named number one)) = function_entry place one
+function_meant place feature (Some (member number one)) = refuses (broken place rules.Constant)
+
+unfoldable pub function_at : Environment → Place → List ℕ → Judgement StandardFunction
+function_at g place word = function_meant place (feature_of word) (find g word)
+
+abbrev pub function_named : Environment → Place → Tree → Judgement StandardFunction
+function_named g place (name here word) = function_at g here.place word
+function_named g place _ = refuses (broken place rules.Constant)
+
+-- ---- calls
+
+-- what is asked of the argument, as where a function is called in an expression
+abbrev pub IsTaken : Option Signature → Sort → Type 0
+IsTaken None s = ⊥
+IsTaken (Some one) s = Accepts one.shape (s ∷ [])
+
+abbrev pub is_taken : Option Signature → Sort → Bool
+is_taken None s = false
+is_taken (Some one) s = accepts one.shape (s ∷ [])
+
+-- the call of a function at a place; it has one argument
+abbrev pub called_with : List TypeDef → Place → StandardFunction → List Constant → Judgement Constant
+called_with types place f (x ∷ []) =
+    rule (broken place rules.Called) (is_taken (signature_of f.number) (sort_of_constant types x.ty x.value)) (IsTaken (signature_of f.number) (sort_of_constant types x.ty x.value))
+    (applied f.function x.ty (sort_of_type types x.ty) x.value)
+called_with types place f _ = refuses (broken place rules.Called)

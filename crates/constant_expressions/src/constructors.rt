@@ -1,0 +1,129 @@
+//! Set constructors of constants.
+
+ghost use Rattle.std.specs.Prelude.{◌≡◌, IfOk, [], Some};
+ghost use Rattle.typing_rules.specs.Judgements.{Gives};
+ghost use Rattle.constant_expressions.specs.Values.{itself};
+ghost use Rattle.constant_expressions.specs.Constructors.{ordinal_of, is_element, is_span, are_spans, first_sort, byte_of, elements_with, set_by, set_of};
+
+use crate::constants::{Constant, number_of, set_constant};
+use scopes::SET_OF_BYTE;
+use set_rules::set_over;
+use std::alloc::{AllocError, Global};
+use type_layout::{Host, Place, Types};
+use typing_rules::{Refusal, Rule, Sort, are_of_one_host, broken, not_yet, sort_of_type};
+use values::sets::with_range;
+
+/// A constant in a set constructor: what it is, and its number if it is an ordinal.
+#[derive(Clone, Copy, Debug, PartialEq, Eq)]
+pub struct Ordinal {
+    pub sort: Sort,
+    pub number: i32,
+}
+
+/// The ordinals from one to another.
+#[derive(Clone, Copy, Debug, PartialEq, Eq)]
+pub struct Span {
+    pub low: Ordinal,
+    pub high: Ordinal,
+}
+
+/// A constant as a set constructor lists it.
+pub(crate) fn ordinal_of(types: &Types, constant: &Constant) -> Ordinal
+    ensures { result ≡ ordinal_of types.now.types constant.now }
+{
+    Ordinal {
+        sort: sort_of_type(types, constant.ty),
+        number: number_of(&constant.value),
+    }
+}
+
+fn is_element(sort: Sort, one: Ordinal) -> bool
+    ensures { result ≡ is_element sort one }
+{
+    are_of_one_host(sort, one.sort) && Host::Byte.holds(one.number, one.number)
+}
+
+fn is_span(sort: Sort, one: Span) -> bool
+    ensures { result ≡ is_span sort one }
+{
+    is_element(sort, one.low) && is_element(sort, one.high)
+}
+
+// Whether all are ordinals of a host in 0..255.
+fn are_spans(sort: Sort, spans: &[Span]) -> bool
+    ensures { result ≡ are_spans sort spans.now }
+{
+    for one in spans {
+        if !is_span(sort, *one) {
+            return false;
+        }
+    }
+    true
+}
+
+fn first_sort(spans: &[Span]) -> Option<Sort>
+    ensures { result ≡ first_sort spans.now }
+{
+    match spans {
+        [] => None,
+        [one, ..] => Some(one.low.sort),
+    }
+}
+
+// The byte of an ordinal in 0..255.
+fn byte_of(number: i32) -> u8
+    ensures { result ≡ byte_of number }
+{
+    (number.unsigned_abs() % 256) as u8
+}
+
+// The elements of spans in 0..255.
+fn elements_of(alloc: Global, spans: &[Span]) -> Result<Vec<u8>, AllocError>
+    ensures { IfOk result (λ elements. elements.items ≡ elements_with [] spans.now) }
+{
+    let mut elements = Vec::new(alloc);
+    for one in spans {
+        let low = byte_of(one.low.number);
+        let high = byte_of(one.high.number);
+        elements = with_range(alloc, elements.as_slice(), low, high)?;
+    }
+    Ok(elements)
+}
+
+// The set of spans that begin with an ordinal of a sort.
+fn set_by(
+    alloc: Global,
+    types: &Types,
+    place: Place,
+    sort: Sort,
+    spans: &[Span],
+) -> Result<Constant, Refusal>
+    ensures { Gives itself result (set_by types.now.types place (Some sort) spans.now).run }
+{
+    if !are_spans(sort, spans) {
+        return Err(Refusal::Because(broken(place, Rule::Listed)));
+    }
+    match set_over(types, sort) {
+        None => Err(Refusal::Because(not_yet(place))),
+        Some(ty) => {
+            let elements = elements_of(alloc, spans)?;
+            set_constant(alloc, ty, elements.as_slice())
+        }
+    }
+}
+
+/// The set of what a constructor at a place lists.
+#[tactic(auto, unfolding(crate::specs::Constructors::set_of))]
+pub(crate) fn set_of(
+    alloc: Global,
+    types: &Types,
+    place: Place,
+    spans: &[Span],
+) -> Result<Constant, Refusal>
+    ensures { Gives itself result (set_of types.now.types place spans.now).run }
+{
+    match first_sort(spans) {
+        None => set_constant(alloc, SET_OF_BYTE, &[]),
+        Some(sort) => set_by(alloc, types, place, sort, spans),
+    }
+}
