@@ -36,7 +36,8 @@ fn displaced(base: Base, distance: u16) -> Place
     }
 }
 
-fn frame_memory(distance: u16) -> Memory
+/// Bytes of the routine's own frame, so far from BP.
+pub fn frame_memory(distance: u16) -> Memory
     ensures { result ≡ frame_memory distance }
 {
     Memory {
