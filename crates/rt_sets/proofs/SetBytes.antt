@@ -11,7 +11,7 @@ pub byte-small : (set : List ℕ) (k : ℕ) → set_byte set k < 256
 byte-small set k = byte_laws.small set k
 
 -- a bit of a byte tells of an element
-bit-is : (set : List ℕ) (k i : ℕ) → i < 8 → bit_at (set_byte set k) i ≡ cond (contains set (8 * k + i)) 1 0
+pub bit-is : (set : List ℕ) (k i : ℕ) → i < 8 → bit_at (set_byte set k) i ≡ cond (contains set (8 * k + i)) 1 0
 bit-is set k i h =
     let e1 : byte_of (8 * k + i) ≡ k = omega (arith, h) in
     let e2 : bit_of (8 * k + i) ≡ i = omega (arith, h) in
