@@ -1,0 +1,4 @@
+pub mod LineLaws
+pub mod SlotSteps
+pub mod Nodes
+pub mod MethodLaws

@@ -1,0 +1,4 @@
+pub mod Slots
+pub mod Methods
+pub mod Calls
+pub mod Laws

@@ -1,0 +1,157 @@
+//! Methods by their names.
+
+ghost use Rattle.std.specs.Prelude.{◌≡◌, option_copied};
+ghost use Rattle.typed_tree.specs.Expressions.{Load, view_expr, view_place};
+ghost use Rattle.typing_rules.specs.Judgements.{Gives};
+ghost use Rattle.method_rules.specs.Methods.{view_bound, callee_itself, method_by, method_in, callee_of, bound_by, bound, inherited_by, inherited};
+
+use crate::slots::{methods_of, slot_of};
+use scopes::{Member, member_of};
+use std::alloc::Global;
+use type_layout::{Header, Method, Name, Place, RoutineId, TypeId, Types};
+use typed_tree::{Expr, PlaceExpr};
+use typing_rules::{Refusal, Rule, broken, definition, is_line, not_yet};
+
+/// What a call runs: a routine, or the one in a slot of the object's class.
+#[derive(Clone, Copy, Debug, PartialEq, Eq)]
+pub enum Callee {
+    Routine(RoutineId),
+    Slot(u32),
+}
+
+/// A method with the object that it is called on.
+#[derive(Debug, Drop)]
+pub struct BoundMethod<'a> {
+    pub header: &'a Header,
+    pub callee: Callee,
+    pub own: PlaceExpr,
+}
+
+fn method_by(types: &Types, member: Option<Member>) -> Option<&Method>
+    ensures { option_copied result ≡ method_by types.now.types member }
+{
+    match member {
+        Some(one) if one.method => methods_of(definition(types, one.class)).get(
+            one.number as usize,
+        ),
+        _ => None,
+    }
+}
+
+/// The method that has this name in the line of a class: the nearest type's.
+#[tactic(auto, unfolding(crate::specs::Methods::method_in))]
+pub fn method_in<'a>(types: &'a Types, class: TypeId, name: &Name) -> Option<&'a Method>
+    ensures { option_copied result ≡ method_in types.now.types class name.now }
+{
+    method_by(types, member_of(types, Some(class), name))
+}
+
+/// What is called where a method of a class is selected by its name.
+pub fn callee_of(
+    alloc: Global,
+    types: &Types,
+    place: Place,
+    class: TypeId,
+    name: &Name,
+    method: &Method,
+) -> Result<Callee, Refusal>
+    ensures { Gives callee_itself result (callee_of types.now.types place class name.now method.now).run }
+{
+    if !method.is_virtual {
+        return Ok(Callee::Routine(method.routine));
+    }
+    let slot = slot_of(alloc, types, class, name)?;
+    match slot {
+        Some(slot) => Ok(Callee::Slot(slot)),
+        None => Err(Refusal::Because(not_yet(place))),
+    }
+}
+
+fn bound_by<'a>(
+    alloc: Global,
+    types: &Types,
+    place: Place,
+    class: TypeId,
+    at: PlaceExpr,
+    name: &Name,
+    method: Option<&'a Method>,
+) -> Result<BoundMethod<'a>, Refusal>
+    ensures { Gives view_bound result (bound_by types.now.types place class (view_place at) name.now (option_copied method.entry)).run }
+{
+    match method {
+        None => Err(Refusal::Because(broken(place, Rule::Selected))),
+        Some(method) => {
+            let callee = callee_of(alloc, types, place, class, name, method)?;
+            Ok(BoundMethod {
+                header: &method.header,
+                callee,
+                own: at,
+            })
+        }
+    }
+}
+
+/// The method of this name that is selected of an object at a place.
+#[tactic(auto, unfolding(crate::specs::Methods::bound))]
+pub fn bound<'a>(
+    alloc: Global,
+    types: &'a Types,
+    place: Place,
+    object: Expr,
+    name: &Name,
+) -> Result<BoundMethod<'a>, Refusal>
+    ensures { Gives view_bound result (bound types.now.types place (view_expr object) name.now).run }
+{
+    match object {
+        Expr::Load { ty, place: at } => {
+            let at = Box::into_inner(at);
+            bound_by(
+                alloc,
+                types,
+                place,
+                ty,
+                at,
+                name,
+                method_in(types, ty, name),
+            )
+        }
+        _ => Err(Refusal::Because(broken(place, Rule::Selected))),
+    }
+}
+
+fn inherited_by<'a>(
+    place: Place,
+    at: PlaceExpr,
+    method: Option<&'a Method>,
+) -> Result<BoundMethod<'a>, Refusal>
+    ensures { Gives view_bound result (inherited_by place (view_place at) (option_copied method.entry)).run }
+{
+    match method {
+        None => Err(Refusal::Because(broken(place, Rule::Selected))),
+        Some(method) => Ok(BoundMethod {
+            header: &method.header,
+            callee: Callee::Routine(method.routine),
+            own: at,
+        }),
+    }
+}
+
+/// The method of this name that is selected of the name of a type, which stands `here`, inside a method of a class, on Self.
+#[tactic(auto, unfolding(crate::specs::Methods::inherited))]
+pub fn inherited<'a>(
+    types: &'a Types,
+    here: Place,
+    place: Place,
+    class: TypeId,
+    own: PlaceExpr,
+    ancestor: TypeId,
+    name: &Name,
+) -> Result<BoundMethod<'a>, Refusal>
+    ensures { Gives view_bound result (inherited types.now.types here place class (view_place own) ancestor name.now).run }
+{
+    if is_line(types, class, ancestor) {
+        inherited_by(place, own, method_in(types, ancestor, name))
+    } else {
+        Err(Refusal::Because(broken(here, Rule::Stands)))
+    }
+}
