@@ -1,0 +1,4 @@
+pub mod HeaderTests
+pub mod RoutineLaws
+pub mod Views
+pub mod Steps

@@ -1,0 +1,167 @@
+-- Routines and declarations are judged lawfully.
+use Rattle.std.proofs.Common.{◌≡◌, ℕ, ◌+◌, ◌≤◌, ◌==◌, nat_le, Bool, true, false, List, [], ◌∷◌, Option, Some, None, Decides}
+use Rattle.std.proofs.lemmas.Bool.{leb-true, le-leb}
+use Rattle.type_layout.specs.declared.definitions.Param.{Param}
+use Rattle.type_layout.specs.declared.definitions.Kind.{Kind}
+use Rattle.type_layout.specs.declared.definitions.Kind.TheVariants as kind
+use Rattle.type_layout.specs.declared.definitions.Header.{Header}
+use Rattle.type_layout.specs.declared.texts.Place.{Place}
+use Rattle.object_vmt.specs.Rules.{same_header}
+use Rattle.syntax_tree.specs.declared.statement.CompoundStatement.{CompoundStatement}
+use Rattle.source_tree.specs.declared.declaration.DeclarationPart.{DeclarationPart}
+use Rattle.source_tree.specs.declared.declaration.DeclarationPart.TheVariants as part_of
+use Rattle.source_tree.specs.declared.declaration.RoutineHeader.{RoutineHeader}
+use Rattle.source_tree.specs.declared.declaration.RoutineHeader.TheVariants as h
+use Rattle.source_tree.specs.declared.declaration.TypeDeclaration.{TypeDeclaration}
+use Rattle.statement_tree.specs.Trees.{compound, view_statements}
+use Rattle.scopes.specs.declared.entries.Entry.TheVariants as entry
+use Rattle.scopes.specs.declared.entries.BlockKind.TheVariants.{Routine}
+use Rattle.scopes.specs.Members.{narrow}
+use Rattle.scopes.specs.Environment.{Environment, with_block}
+use Rattle.well_formed.specs.Fits.{AreSameHeaders}
+use Rattle.typing_rules.specs.declared.faults.Rule.TheVariants as rules
+use Rattle.typing_rules.specs.Faults.{broken, too_large, not_yet}
+use Rattle.typing_rules.specs.Judgements.{Judgement, makes, refuses, rule, either, part}
+use Rattle.typing_rules.specs.Selectors.{asking}
+use Rattle.typing_rules.specs.Laws.{Lawful}
+use Rattle.typing_rules.proofs.JudgementLaws.{lawful_makes, lawful_refuses, lawful_rule, lawful_either, lawful_part}
+use Rattle.tp_check_stmt.proofs.StatementLaws as statement
+use Rattle.headers.specs.Headers.{procedure_header, function_header, routine_header}
+use Rattle.headers.proofs.HeaderLaws.{lawful_procedure, lawful_function, lawful_routine}
+use Rattle.type_denoters.specs.Additions.{entered}
+use Rattle.type_denoters.proofs.DenoterLaws.{lawful_entered}
+use Rattle.type_parts.specs.Parts.{method_count}
+use Rattle.declarations.specs.Parts.{part_declared}
+use Rattle.declarations.proofs.PartLaws.{lawful_declared}
+use Rattle.routines.specs.declared.drafts.Site.{Site}
+use Rattle.routines.specs.declared.drafts.Awaited.{Awaited}
+use Rattle.routines.specs.declared.drafts.Begun.{Begun}
+use Rattle.routines.specs.Trees.{Work, Works, forward, plain, method, no_works, and_part, and_work}
+use Rattle.routines.specs.Drafts.{Numbered, Drafted, knowing, next_number, announcing, Stage, stage, progress_of, with_progress, next_for, depth_of}
+use Rattle.routines.specs.Headings.{name_of, begins, announced_by, routine_entry, announced, heading, awaited_of, same_kind, is_bare, kind_repeated, whole_repeated, half_repeated, repeated, begun, with_params, Opened, opened, opened_by, opened_of}
+use Rattle.routines.specs.Insides.{site_in, params_entered, inside, IsMet, is_met, all_met, shallow, statements_of, closed, ended}
+use Rattle.routines.specs.Blocks.{without_methods, taken, part_judged, method_place, judged, all_judged}
+use Rattle.routines.proofs.HeaderTests.{tells_kind, tells_header, tells_met}
+
+-- what is asked, and then something else
+lawful_asking : {C : Type 0} (j : Judgement (Unit {0})) (k : Judgement C) → Lawful j → Lawful k → Lawful (asking j k)
+lawful_asking j k l m = lawful_part j (λ u. k) l (λ u. m)
+
+-- ---- headers
+
+lawful_announced : (far : Bool) (site : Site) (d : Drafted) (one : RoutineHeader) (header : Header) → Lawful (announced far site d one header)
+lawful_announced far site d one header =
+    lawful_part (entered d.scope (name_of one).position.place (name_of one).name (routine_entry site (next_number d) header))
+    (λ g. makes (announcing (knowing d g) (announced_by far site one header)))
+    (lawful_entered d.scope (name_of one).position.place (name_of one).name (routine_entry site (next_number d) header))
+    (λ g. lawful_makes (announcing (knowing d g) (announced_by far site one header)))
+
+pub lawful_heading : (far : Bool) (site : Site) (d : Drafted) (one : RoutineHeader) → Lawful (heading far site d one)
+unfolding heading
+lawful_heading far site d one =
+    lawful_part (routine_header d.scope one) (λ header. announced far site d one header) (lawful_routine d.scope one) (λ header. lawful_announced far site d one header)
+
+lawful_kind : (place : Place) (one : Kind) (first : Header) → Lawful (kind_repeated place one first)
+lawful_kind place one first = lawful_rule (broken place rules.Bodies) (same_kind first.kind one) (first.kind ≡ one) first.params (tells_kind first.kind one)
+
+lawful_whole : (place : Place) (first : Header) (j : Judgement Header) → Lawful j → Lawful (whole_repeated place first j)
+lawful_whole place first j l =
+    lawful_part j (λ header. rule (broken place rules.Bodies) (same_header first header) (AreSameHeaders first header) header.params) l
+    (λ header. lawful_rule (broken place rules.Bodies) (same_header first header) (AreSameHeaders first header) header.params (tells_header first header))
+
+lawful_half : (place : Place) (j : Judgement Header) → Lawful j → Lawful (half_repeated place j)
+lawful_half place j l = lawful_part j (λ header. refuses (broken place rules.Bodies)) l (λ header. lawful_refuses (broken place rules.Bodies))
+
+lawful_repeated : (g : Environment) (first : Header) (one : RoutineHeader) → Lawful (repeated g first one)
+lawful_repeated g first (h.Procedure here name groups) =
+    let j = procedure_header g false here.place kind.Procedure groups.items in
+    lawful_either (is_bare groups.items) (kind_repeated here.place kind.Procedure first) (whole_repeated here.place first j)
+    (lawful_kind here.place kind.Procedure first) (lawful_whole here.place first j (lawful_procedure g false here.place kind.Procedure groups.items))
+lawful_repeated g first (h.Function here name groups None) =
+    let j = procedure_header g false here.place kind.Procedure groups.items in
+    lawful_either (is_bare groups.items) (kind_repeated here.place kind.Function first) (half_repeated here.place j)
+    (lawful_kind here.place kind.Function first) (lawful_half here.place j (lawful_procedure g false here.place kind.Procedure groups.items))
+lawful_repeated g first (h.Function here name groups (Some result)) =
+    lawful_whole here.place first (function_header g false here.place groups.items (Some result)) (lawful_function g false here.place groups.items (Some result))
+
+lawful_opened_by : (site : Site) (d : Drafted) (one : RoutineHeader) (found : Option Awaited) → Lawful (opened_by site d one found)
+lawful_opened_by site d one (Some first) =
+    lawful_part (repeated d.scope first.header one) (λ params. makes (opened (begun first.number (with_params first.header params)) d))
+    (lawful_repeated d.scope first.header one) (λ params. lawful_makes (opened (begun first.number (with_params first.header params)) d))
+lawful_opened_by site d one None =
+    lawful_part (routine_header d.scope one) (λ header. part (announced false site d one header) (λ e. makes (opened (begun (next_number d) header) e))) (lawful_routine d.scope one)
+    (λ header. lawful_part (announced false site d one header) (λ e. makes (opened (begun (next_number d) header) e)) (lawful_announced false site d one header)
+    (λ e. lawful_makes (opened (begun (next_number d) header) e)))
+
+lawful_opened : (site : Site) (d : Drafted) (one : RoutineHeader) → Lawful (opened_of site d one)
+unfolding opened_of
+lawful_opened site d one = lawful_opened_by site d one (awaited_of d (name_of one).name)
+
+-- ---- blocks
+
+lawful_params : (level : ℕ) (place : Place) (number : ℕ) (g : Environment) (params : List Param) → Lawful (params_entered level place number g params)
+lawful_params level place number g [] = lawful_makes g
+lawful_params level place number g (one ∷ rest) =
+    lawful_part (entered g place one.name (entry.Var 0 level number one.ty)) (λ h. params_entered level place (narrow (number + 1)) h rest)
+    (lawful_entered g place one.name (entry.Var 0 level number one.ty)) (λ h. lawful_params level place (narrow (number + 1)) h rest)
+
+lawful_met : (outer : Option ℕ) (all : List Numbered) → Lawful (all_met outer all)
+lawful_met outer [] = lawful_makes tt
+lawful_met outer (one ∷ rest) =
+    lawful_asking (rule (broken one.first.place rules.Bodies) (is_met outer one) (IsMet outer one) tt) (all_met outer rest)
+    (lawful_rule (broken one.first.place rules.Bodies) (is_met outer one) (IsMet outer one) tt (tells_met outer one)) (lawful_met outer rest)
+
+lawful_shallow : (place : Place) (depth : ℕ) → Lawful (shallow place depth)
+lawful_shallow place depth = lawful_rule (too_large place depth) (nat_le depth 16) (depth ≤ 16) tt (leb-true depth 16, le-leb depth 16)
+
+lawful_statements : (g : Environment) (body : CompoundStatement) → Lawful (statements_of g body)
+lawful_statements g body = statement.lawful g (compound (view_statements body.statements.items))
+
+lawful_ended : (inner : Site) (number : ℕ) (place : Place) (body : CompoundStatement) (s : Stage) → Lawful (ended inner number place body s)
+lawful_ended inner number place body s =
+    lawful_asking (all_met (Some number) s.draft.routines) (part (statements_of s.draft.scope body) (λ typed. asking (shallow place (depth_of inner)) (makes (closed number place s typed))))
+    (lawful_met (Some number) s.draft.routines)
+    (lawful_part (statements_of s.draft.scope body) (λ typed. asking (shallow place (depth_of inner)) (makes (closed number place s typed))) (lawful_statements s.draft.scope body)
+    (λ typed. lawful_asking (shallow place (depth_of inner)) (makes (closed number place s typed)) (lawful_shallow place (depth_of inner)) (lawful_makes (closed number place s typed))))
+
+-- ---- declarations
+
+lawful_without : (all : List TypeDeclaration) → Lawful (without_methods all)
+lawful_without [] = lawful_makes tt
+lawful_without (one ∷ rest) =
+    lawful_either (method_count one.denoter == 0) (without_methods rest) (refuses (not_yet one.name.position.place)) (lawful_without rest) (lawful_refuses (not_yet one.name.position.place))
+
+lawful_taken : (one : DeclarationPart) → Lawful (taken one)
+lawful_taken (part_of.Constants here all) = lawful_makes tt
+lawful_taken (part_of.Types here all) = lawful_without all.items
+lawful_taken (part_of.Variables here all) = lawful_makes tt
+
+module _ (unit : List ℕ) where
+  pub lawful_part_of : (site : Site) (s : Stage) (one : DeclarationPart) → Lawful (part_judged unit site s one)
+  lawful_part_of site s one =
+      lawful_asking (taken one) (part (part_declared unit site.home (next_for site.home (next_number s.draft)) (progress_of s) one) (λ p. makes (with_progress s p))) (lawful_taken one)
+      (lawful_part (part_declared unit site.home (next_for site.home (next_number s.draft)) (progress_of s) one) (λ p. makes (with_progress s p))
+      (lawful_declared unit site.home (next_for site.home (next_number s.draft)) (progress_of s) one) (λ p. lawful_makes (with_progress s p)))
+
+  mutual
+    pub lawful : (site : Site) (d : Drafted) (work : Work) → Lawful (judged unit site d work)
+    lawful site d (forward one) = lawful_heading false site d one
+    lawful site d (plain one all body) =
+        lawful_part (opened_of site d one)
+        (λ o. part (inside (site_in site o.begun) (begins one).place o.begun o.draft.scope) (λ g.
+        part (all_judged unit (site_in site o.begun) (stage (knowing o.draft g) []) all) (λ s. ended (site_in site o.begun) o.begun.number (begins one).place body s)))
+        (lawful_opened site d one)
+        (λ o. lawful_part (inside (site_in site o.begun) (begins one).place o.begun o.draft.scope)
+        (λ g. part (all_judged unit (site_in site o.begun) (stage (knowing o.draft g) []) all) (λ s. ended (site_in site o.begun) o.begun.number (begins one).place body s))
+        (lawful_params (depth_of (site_in site o.begun)) (begins one).place 0 (with_block o.draft.scope (Routine o.begun.number None)) o.begun.header.params)
+        (λ g. lawful_part (all_judged unit (site_in site o.begun) (stage (knowing o.draft g) []) all) (λ s. ended (site_in site o.begun) o.begun.number (begins one).place body s)
+        (lawful_all (site_in site o.begun) (stage (knowing o.draft g) []) all)
+        (λ s. lawful_ended (site_in site o.begun) o.begun.number (begins one).place body s)))
+    lawful site d (method one owner all body) = lawful_refuses (not_yet (method_place one))
+
+    pub lawful_all : (site : Site) (s : Stage) (all : Works) → Lawful (all_judged unit site s all)
+    lawful_all site s no_works = lawful_makes s
+    lawful_all site s (and_part one rest) =
+        lawful_part (part_judged unit site s one) (λ t. all_judged unit site t rest) (lawful_part_of site s one) (λ t. lawful_all site t rest)
+    lawful_all site s (and_work one rest) =
+        lawful_part (judged unit site s.draft one) (λ d. all_judged unit site (stage d s.locals) rest) (lawful site s.draft one) (λ d. lawful_all site (stage d s.locals) rest)

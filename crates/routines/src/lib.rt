@@ -1,0 +1,14 @@
+//! Routines that a block declares, with what is declared inside them.
+#![tactic(auto)]
+
+mod blocks;
+mod drafts;
+mod headings;
+mod insides;
+mod laws;
+mod repeats;
+
+pub use blocks::all_judged;
+pub use drafts::{Announced, Draft, Made, Site, Slot};
+pub use headings::heading;
+pub use laws::routine_laws;
