@@ -1,0 +1,80 @@
+-- Items that are written, and blocks that are disposed of.
+use Rattle.std.proofs.Common.{◌≡◌, ℕ, List, refl, sym, ap, subst, ◌∙◌}
+use Rattle.std.specs.Prelude.{ℤ, Bool, Result, Ok}
+use Rattle.typed_tree.specs.declared.units.Program.{Program}
+use Rattle.typed_tree.specs.declared.statements.Destructor.{Destructor}
+use Rattle.typed_tree.specs.Expressions.{Expression, Arguments}
+use Rattle.typed_tree.specs.Statements.{Written}
+use Rattle.meaning.specs.Trees.{Value}
+use Rattle.meaning.specs.Programs.{Sort, definition}
+use Rattle.meaning.specs.Outcomes.{State, Outcome, Done, Does, and_then, give, found, looked, printed}
+use Rattle.meaning.specs.Activations.{Reached, Activation, whole}
+use Rattle.meaning.specs.Calls.{Flow}
+use Rattle.meaning.specs.Standard.{field_text, text_of, target}
+use Rattle.meaning.specs.Expressions.{operands, sort_of}
+use Rattle.meaning.specs.Statements.{written, line_written, block_of, freed}
+use Rattle.meaning.specs.Meaning.{run}
+use Rattle.interpreter_steps.specs.declared.state.Over.{Over as OverAs}
+use Rattle.interpreter_steps.specs.Running.{Ends}
+use Rattle.interpreter_steps.specs.StatementParts.{printed_in, block_at}
+use Rattle.interpreter_steps.proofs.Ends.{ends_bind}
+use Rattle.interpreter_steps.proofs.Entered.{bind_assoc, bind_same}
+use Rattle.interpreter_frames.specs.declared.frames.Next.{Next as NextStep}
+use Rattle.interpreter_frames.specs.declared.work.Work.{Work}
+use Rattle.interpreter_frames.specs.Frames.{printed_then, disposed_with, Goes}
+use Rattle.interpreter_frames.proofs.Moves.{goes, two_binds}
+
+printed_is : (p : Program) (f : Activation) (sort : Sort) (v : Value) (rest : List Written) (width : ℤ) (s : State)
+    → printed_then p f sort v rest width s ≡ and_then (printed_in sort v width s) (λ done. written p (run p) f rest)
+printed_is p f sort v rest width s = sym (two_binds (found (text_of (definition sort) v) s) (λ text. printed (field_text width text)) (λ done. written p (run p) f rest))
+
+pub moves_printed : (p : Program) (r : Result NextStep OverAs) (w : Work) (f : Activation) (sort : Sort) (v : Value) (rest : List Written) (width : ℤ) (line : Bool) (k : Flow → Does Value) (s s' t : State)
+    → printed_in sort v width s ≡ Done tt s'
+    → Goes p r w t (and_then (and_then (written p (run p) f rest s') (λ done. line_written line)) k)
+    → Goes p r w t (and_then (and_then (printed_then p f sort v rest width s) (λ done. line_written line)) k)
+moves_printed p r w f sort v rest width line k s s' t e x =
+    let ends : Outcome (Unit {0}) → Outcome Value = λ o. and_then (and_then o (λ done. line_written line)) k in
+    goes p r w t _ _ (ap ends (printed_is p f sort v rest width s ∙ ap (λ (o : Outcome (Unit {0})). and_then o (λ done. written p (run p) f rest)) e)) x
+
+pub ends_printed : (over : OverAs) (p : Program) (f : Activation) (sort : Sort) (v : Value) (rest : List Written) (width : ℤ) (line : Bool) (k : Flow → Does Value) (s t : State)
+    → Ends over t (printed_in sort v width s) → Ends over t (and_then (and_then (printed_then p f sort v rest width s) (λ done. line_written line)) k)
+ends_printed over p f sort v rest width line k s t x =
+    let whole : Outcome (Unit {0}) = printed_then p f sort v rest width s in
+    ends_bind over t (and_then whole (λ done. line_written line)) k (ends_bind over t whole (λ done. line_written line)
+    (subst (Ends over t) (sym (printed_is p f sort v rest width s)) (ends_bind over t (printed_in sort v width s) (λ done. written p (run p) f rest) x)))
+
+-- three parts that give something together, and what follows
+three_parts : {A B C E F : Type 0} (a : Outcome A) (b : A → Does B) (c : A → B → Does C) (e : A → B → C → E) (k : E → Does F)
+    → and_then (and_then a (λ x s. and_then (b x s) (λ y t. and_then (c x y t) (λ z. give (e x y z))))) k
+    ≡ and_then a (λ x s. and_then (b x s) (λ y t. and_then (c x y t) (λ z. k (e x y z))))
+three_parts {A} {B} {C} {E} {F} a b c e k =
+    let last : A → B → C → Does E = λ x y z. give (e x y z) in
+    let three : A → B → Does E = λ x y t. and_then (c x y t) (last x y) in
+    let two : A → Does E = λ x s. and_then (b x s) (three x) in
+    let last' : A → B → C → Does F = λ x y z. k (e x y z) in
+    let three' : A → B → Does F = λ x y t. and_then (c x y t) (last' x y) in
+    bind_assoc a two k ∙ bind_same a (λ x s. and_then (two x s) k) (λ x s. and_then (b x s) (three' x)) (λ x s.
+    bind_assoc (b x s) (three x) k ∙ bind_same (b x s) (λ y t. and_then (three x y t) k) (three' x) (λ y t.
+    bind_assoc (c x y t) (last x y) k))
+
+-- the destructor's arguments behind the block
+abbrev pub with_arguments : Program → Activation → Destructor → Arguments → Reached → Does Flow
+with_arguments p f destructor args at s = and_then (operands p (run p) f args s) (λ xs. freed p (run p) f destructor xs at.spot.object at)
+
+disposed_is : (p : Program) (f : Activation) (pointer : Expression) (destructor : Destructor) (args : Arguments) (v : Value) (s : State)
+    → disposed_with p f pointer destructor args v s ≡ and_then (block_at f pointer v s) (with_arguments p f destructor args)
+disposed_is p f pointer destructor args v s =
+    sym (three_parts (looked (block_of v) s) (λ serial. sort_of f pointer) (λ serial sort. found (target sort)) (λ serial sort to. record { spot = whole serial; sort = to })
+    (with_arguments p f destructor args))
+
+pub moves_disposed : (p : Program) (r : Result NextStep OverAs) (w : Work) (t : State) (f : Activation) (pointer : Expression) (destructor : Destructor) (args : Arguments) (v : Value) (at : Reached) (k : Flow → Does Value) (s : State)
+    → block_at f pointer v s ≡ Done at s → Goes p r w t (and_then (with_arguments p f destructor args at s) k)
+    → Goes p r w t (and_then (disposed_with p f pointer destructor args v s) k)
+moves_disposed p r w t f pointer destructor args v at k s e x =
+    goes p r w t _ _ (ap (λ (o : Outcome Flow). and_then o k) (disposed_is p f pointer destructor args v s ∙ ap (λ (o : Outcome Reached). and_then o (with_arguments p f destructor args)) e)) x
+
+pub ends_disposed : (over : OverAs) (p : Program) (f : Activation) (pointer : Expression) (destructor : Destructor) (args : Arguments) (v : Value) (k : Flow → Does Value) (s : State)
+    → Ends over s (block_at f pointer v s) → Ends over s (and_then (disposed_with p f pointer destructor args v s) k)
+ends_disposed over p f pointer destructor args v k s x =
+    ends_bind over s (disposed_with p f pointer destructor args v s) k
+    (subst (Ends over s) (sym (disposed_is p f pointer destructor args v s)) (ends_bind over s (block_at f pointer v s) (with_arguments p f destructor args) x))

@@ -1,0 +1,6 @@
+use Rattle.interpreter_frames.proofs.Moves.{moves3}
+use Rattle.interpreter.proofs.Binds.{two_binds, three_binds, four_binds}
+use Rattle.interpreter.proofs.loops.test_while.Goals as goal
+
+pub returns : goal.returns
+returns c = λ p s. rw four_binds (c.evaluate.ensures p s)

@@ -1,0 +1,46 @@
+use Rattle.std.proofs.Common.{◌≡◌, true, false, map, Option, List, refl, sym, ap, ◌∙◌, rules, w32, to_z, of_z}
+use Rattle.std.specs.Prelude.{ℤ, Ok, Err}
+use Rattle.std.specs.Option.{option_map, option_copied}
+use Rattle.std.proofs.lemmas.Int.{to_z-of_z}
+use Rattle.std.proofs.lemmas.Result.{err_from_is_err_and}
+use Rattle.typed_tree.specs.Expressions.{view_expr, view_place, view_args}
+use Rattle.typed_tree.specs.Statements.{Statement, view_stmt, view_written}
+use Rattle.meaning.specs.Trees.{Key, Spot, Value}
+use Rattle.meaning.specs.Programs.{Sort}
+use Rattle.meaning.specs.Outcomes.{Does}
+use Rattle.meaning.specs.Activations.{Activation, Reached, Callee}
+use Rattle.meaning.specs.Calls.{Flow, entered}
+use Rattle.meaning.specs.Standard.{Operand, handed}
+use Rattle.meaning.specs.Expressions.{Instance, operands, called}
+use Rattle.meaning.specs.Meaning.{run}
+use Rattle.cell_store.specs.Views.{view_key, view_spot, view_value}
+use Rattle.typed_cells.specs.Sorts.{view_sort, view_reached}
+use Rattle.activations.specs.Views.{view_activation, view_callee}
+use Rattle.standard_effects.specs.Operands.{view_operand}
+use Rattle.interpreter_steps.specs.Running.{view_run, view_flow, view_instance, program_of}
+use Rattle.interpreter_steps.proofs.Ends.{ends_bind}
+use Rattle.interpreter_frames.specs.Frames.{rest_of}
+use Rattle.interpreter_frames.proofs.Moves.{ends_spent, ends_after, ends_two, ends_three, ends_found, ends_spent_two, ends_after_two, expected, moves_found, moves_found2}
+use Rattle.std.specs.Prelude.{None}
+use Rattle.interpreter_steps.specs.declared.instances.Instance.{Instance as InstanceOf}
+use Rattle.interpreter_frames.specs.declared.callable.Callable.TheVariants as callable
+use Rattle.interpreter.proofs.Binds.{three_binds}
+use Rattle.interpreter.proofs.SpentCalls.{goes_called, argued_alone}
+use Rattle.interpreter.proofs.machine.Machine.call.Goals as goal
+
+pub returns-in-None : goal.returns-in-None
+returns-in-None c =
+    let p = program_of c.args.self.now.steps in
+    let s = view_run c.args.run.now in
+    let f = view_activation c.args.work.now.f in
+    let k : Value → Does Value = λ v. (rest_of p c.args.work.now).value v f in
+    let args = view_args c.args.args.now in
+    let none : InstanceOf = record { own = None; class = None } in
+    λ ty. rw c.in-None.is (goes_called p c.argue.result c.argue.new.work (view_run c.argue.new.run) s f ty c.args.routine args k
+    (argued_alone p c.argue.result c.argue.new.work (view_run c.argue.new.run) s (rest_of p c.args.work.now) (callable.Named c.args.routine none) c.new.result.items f (operands p (run p) f args) c.new.ensures.items c.argue.ensures))
+
+pub returns-in-Some : goal.returns-in-Some
+returns-in-Some c =
+    let p = program_of c.args.self.now.steps in
+    let s = view_run c.args.run.now in
+    λ ty. rw c.in-Some.is (rw three_binds (rw c.deref.ensures at (c.locate.ensures p s)))

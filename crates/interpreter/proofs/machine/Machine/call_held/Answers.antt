@@ -1,0 +1,48 @@
+use Rattle.std.proofs.Common.{◌≡◌, true, false, map, Option, List, refl, sym, ap, ◌∙◌, rules, w32, to_z, of_z}
+use Rattle.std.specs.Prelude.{ℤ, Ok, Err}
+use Rattle.std.specs.Option.{option_map, option_copied}
+use Rattle.std.proofs.lemmas.Int.{to_z-of_z}
+use Rattle.std.proofs.lemmas.Result.{err_from_is_err_and}
+use Rattle.typed_tree.specs.Expressions.{view_expr, view_place, view_args}
+use Rattle.typed_tree.specs.Statements.{Statement, view_stmt, view_written}
+use Rattle.meaning.specs.Trees.{Key, Spot, Value}
+use Rattle.meaning.specs.Programs.{Sort}
+use Rattle.meaning.specs.Outcomes.{Does}
+use Rattle.meaning.specs.Activations.{Activation, Reached, Callee}
+use Rattle.meaning.specs.Calls.{Flow, entered}
+use Rattle.meaning.specs.Standard.{Operand, handed}
+use Rattle.meaning.specs.Expressions.{Instance, operands, called}
+use Rattle.meaning.specs.Meaning.{run}
+use Rattle.cell_store.specs.Views.{view_key, view_spot, view_value}
+use Rattle.typed_cells.specs.Sorts.{view_sort, view_reached}
+use Rattle.activations.specs.Views.{view_activation, view_callee}
+use Rattle.standard_effects.specs.Operands.{view_operand}
+use Rattle.interpreter_steps.specs.Running.{view_run, view_flow, view_instance, program_of}
+use Rattle.interpreter_steps.proofs.Ends.{ends_bind}
+use Rattle.interpreter_frames.specs.Frames.{rest_of}
+use Rattle.interpreter_frames.proofs.Moves.{ends_spent, ends_after, ends_two, ends_three, ends_found, ends_spent_two, ends_after_two, expected, moves_found, moves_found2}
+use Rattle.std.specs.Prelude.{Some, None}
+use Rattle.interpreter.proofs.SpentCalls.{entered_as, goes_through}
+use Rattle.interpreter.proofs.machine.Machine.call_held.Goals as goal
+
+pub returns-in_err-spend : goal.returns-in_err-spend
+returns-in_err-spend c =
+    let q = err_from_is_err_and c.from_residual.result c.from_residual.ensures.1 in
+    rw (q.1, q.2) (ends_spent c.in_err-spend.field-0.0 (view_run c.args.run.now) (view_run c.spend.new.self) _ _ c.in_err-spend.ensures)
+
+pub returns-in_err-key : goal.returns-in_err-key
+returns-in_err-key c =
+    let t = view_run c.spend.new.self in
+    let q = err_from_is_err_and c.from_residual-in_err-key.result c.from_residual-in_err-key.ensures.1 in
+    let over = c.in_err-key.field-0.0 in
+    rw (q.1, q.2) (ends_after over (view_run c.args.run.now) t _ _ c.in_ok-spend.ensures (ends_two over t _ _ _ c.in_err-key.ensures))
+
+pub returns : goal.returns
+returns c =
+    let p = program_of c.args.self.now.steps in
+    let s = view_run c.args.run.now in
+    let f = view_activation c.args.work.now.f in
+    let k : Value → Does Value = λ v. (rest_of p c.args.work.now).value v f in
+    let e : map view_value c.as_slice.result.now ≡ map handed (map view_operand c.args.args.items) = ap (map view_value) c.as_slice.ensures.value ∙ c.in_ok-values.ensures in
+    goes_through p c.enter.result c.enter.new.work (view_run c.enter.new.run) s (view_run c.spend.new.self) f (view_reached c.args.at.now) (map view_operand c.args.args.items) (view_key c.in_ok-key.key) k c.in_ok-spend.ensures c.in_ok-key.ensures
+    (entered_as p c.enter.result c.enter.new.work (view_run c.enter.new.run) (view_run c.spend.new.self) f (view_key c.in_ok-key.key) None None None (map view_value c.as_slice.result.now) (map handed (map view_operand c.args.args.items)) k refl e c.enter.ensures)

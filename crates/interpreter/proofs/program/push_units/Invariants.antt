@@ -1,0 +1,10 @@
+-- The globals of the units so far are made.
+use Rattle.std.proofs.Common.{◌≡◌, take}
+use Rattle.std.specs.List.{flat_map}
+use Rattle.meaning.specs.Store.{with_new}
+use Rattle.meaning.specs.Meaning.{unit_objects}
+use Rattle.cell_store.specs.Views.{view_store}
+use Rattle.interpreter.proofs.program.push_units.Given as goal
+
+abbrev pub invariant-units : goal.invariant-units
+invariant-units l = view_store l.store ≡ with_new (view_store l.fn.store) (flat_map unit_objects (take l.unit-index l.units))

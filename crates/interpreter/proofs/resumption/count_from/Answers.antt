@@ -1,0 +1,19 @@
+use Rattle.std.proofs.Common.{◌≡◌, true, false, refl, sym, ap, ◌∙◌}
+use Rattle.std.proofs.lemmas.Result.{err_from_is_err_and}
+use Rattle.meaning.specs.Operators.{is_true}
+use Rattle.interpreter_steps.specs.Running.{view_run, program_of}
+use Rattle.interpreter_steps.proofs.Ends.{ends_bind}
+use Rattle.interpreter_frames.proofs.Moves.{moves1, moves2, moves3, moves_found, moves_again, moves_spent, ends_two, ends_three, ends_spent, ends_found}
+use Rattle.std.proofs.Common.{rules, w32, to_z, of_z}
+use Rattle.std.proofs.lemmas.Int.{to_z-of_z}
+use Rattle.interpreter.proofs.Binds.{two_binds, three_binds, four_binds}
+use Rattle.interpreter.proofs.resumption.count_from.Goals as goal
+
+pub returns-in_err-first : goal.returns-in_err-first
+returns-in_err-first c =
+    let q = err_from_is_err_and c.from_residual.result c.from_residual.ensures.1 in
+    rw (q.1, q.2) (λ p s. ends_two c.in_err-first.field-0.0 s _ _ _ (c.in_err-first.ensures s))
+
+pub returns : goal.returns
+returns c =
+    λ p s. moves_found p _ _ s _ _ _ _ (c.in_ok-first.ensures s) (let first : to_z w32 (of_z w32 c.in_ok-first.first) ≡ c.in_ok-first.first = search rules in rw three_binds (rw first at (c.evaluate.ensures p s)))

@@ -1,0 +1,25 @@
+use Rattle.interpreter.proofs.Binds.{again_at}
+use Rattle.std.proofs.Common.{◌≡◌, true, false, refl, sym, ap, ◌∙◌, append-nil}
+use Rattle.std.proofs.lemmas.Result.{err_from_is_err_and}
+use Rattle.meaning.specs.Operators.{is_true}
+use Rattle.interpreter_steps.specs.Running.{view_run, view_flow, program_of}
+use Rattle.interpreter_steps.proofs.Ends.{ends_bind}
+use Rattle.interpreter_frames.proofs.Lists.{nil_of, cons_of}
+use Rattle.interpreter_frames.proofs.Moves.{goes, moves1, moves2, moves3, moves_found, moves_found2, moves_again, moves_spent, ends_two, ends_three, ends_spent, ends_found}
+use Rattle.std.proofs.Common.{rules, w32, to_z, of_z}
+use Rattle.std.proofs.lemmas.Int.{to_z-of_z}
+use Rattle.std.specs.Prelude.{ℤ}
+use Rattle.std.proofs.Common.{subst}
+use Rattle.meaning.specs.Meaning.{run}
+use Rattle.activations.specs.Views.{view_activation}
+use Rattle.interpreter.proofs.resumption.select.Goals as goal
+
+pub returns-in_err-z : goal.returns-in_err-z
+returns-in_err-z c =
+    let q = err_from_is_err_and c.from_residual.result c.from_residual.ensures.1 in
+    rw (q.1, q.2) (λ p work s. ends_two c.in_err-z.field-0.0 s _ _ _ (c.in_err-z.ensures s))
+
+pub returns : goal.returns
+returns c =
+    let w : to_z w32 (of_z w32 c.in_ok-z.z) ≡ c.in_ok-z.z = search rules in
+    λ p work s. let found = c.in_ok-z.ensures s in rw found (rw (rw w at (c.branch_for.ensures p (run p) (view_activation work.f))) refl)

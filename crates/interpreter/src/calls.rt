@@ -1,0 +1,142 @@
+//! Calls, once their arguments are known.
+
+ghost use Rattle.std.specs.Prelude.{map};
+ghost use Rattle.meaning.specs.Expressions.{called_by_class, called_through};
+ghost use Rattle.meaning.specs.Statements.{freed};
+ghost use Rattle.meaning.specs.Meaning.{run as runs};
+ghost use Rattle.typed_cells.specs.Sorts.{view_sort, view_reached};
+ghost use Rattle.activations.specs.Views.{view_activation};
+ghost use Rattle.standard_effects.specs.Operands.{view_operand};
+ghost use Rattle.interpreter_steps.specs.Running.{view_run, view_instance, program_of};
+ghost use Rattle.interpreter_frames.specs.Frames.{rest_of, then_value, then_flow, called_named, constructed, on_operands, Goes};
+
+use crate::machine::Machine;
+use interpreter_frames::{Callable, Next, OnValue, Work, gave_value};
+use interpreter_steps::{Instance, Over, Run, all_handed, held_routine, named, new_instance};
+use standard_effects::Operand;
+use type_layout::{RoutineId, TypeId};
+use typed_cells::{Reached, Sort};
+use typed_tree::Destructor;
+
+impl<'a> Machine<'a> {
+    // Calls a routine by its name.
+    fn call_named(
+        &self,
+        run: &mut Run,
+        work: &mut Work<'a>,
+        routine: RoutineId,
+        instance: Instance,
+        args: Vec<Operand>,
+    ) -> Result<Next<'a>, Over>
+        ensures { let p = program_of self.now.steps in Goes p result work.new (view_run run.new) (then_value p work.old (λ f. called_named p f routine (view_instance instance) (map view_operand args.entry.items)) (view_run run.old)) }
+    {
+        let key = named(&work.f, routine)?;
+        self.called(run, work, &key, instance, args)
+    }
+
+    // Calls the method that the class of an instance has.
+    fn call_of_class(
+        &self,
+        run: &mut Run,
+        work: &mut Work<'a>,
+        at: &Reached,
+        slot: u32,
+        checked: bool,
+        args: Vec<Operand>,
+    ) -> Result<Next<'a>, Over>
+        ensures { let p = program_of self.now.steps in Goes p result work.new (view_run run.new) (then_value p work.old (λ f. called_by_class p (runs p) f (view_reached at.now) slot checked (map view_operand args.entry.items)) (view_run run.old)) }
+    {
+        run.spend()?;
+        let key = self.steps.method_of(run, at, slot, checked)?;
+        let values = all_handed(self.steps.alloc, args)?;
+        self.enter(run, work, &key, Some(&at.spot), None, values.as_slice())
+    }
+
+    // Calls the routine that a variable holds.
+    fn call_held(
+        &self,
+        run: &mut Run,
+        work: &mut Work<'a>,
+        at: &Reached,
+        args: Vec<Operand>,
+    ) -> Result<Next<'a>, Over>
+        ensures { let p = program_of self.now.steps in Goes p result work.new (view_run run.new) (then_value p work.old (λ f. called_through p (runs p) f (view_reached at.now) (map view_operand args.entry.items)) (view_run run.old)) }
+    {
+        run.spend()?;
+        let key = held_routine(run, at)?;
+        let values = all_handed(self.steps.alloc, args)?;
+        self.enter(run, work, &key, None, None, values.as_slice())
+    }
+
+    // Calls the constructor of a new block, to which a pointer is then given.
+    fn construct(
+        &self,
+        run: &mut Run,
+        work: &mut Work<'a>,
+        routine: RoutineId,
+        serial: usize,
+        sort: &Sort,
+        args: Vec<Operand>,
+    ) -> Result<Next<'a>, Over>
+        ensures { let p = program_of self.now.steps in Goes p result work.new (view_run run.new) (then_value p work.old (λ f. constructed p f routine serial (view_sort sort.now) (map view_operand args.entry.items)) (view_run run.old)) }
+    {
+        let key = named(&work.f, routine)?;
+        let instance = new_instance(self.steps.alloc, serial, sort)?;
+        work.expect(OnValue::Made { serial })?;
+        self.called(run, work, &key, instance, args)
+    }
+
+    // Calls the destructor of a block, which is then freed.
+    fn destroy(
+        &self,
+        run: &mut Run,
+        work: &mut Work<'a>,
+        at: Reached<'a>,
+        destructor: Destructor,
+        args: Vec<Operand>,
+    ) -> Result<Next<'a>, Over>
+        ensures { let p = program_of self.now.steps in let of = view_reached at.entry in Goes p result work.new (view_run run.new) (then_flow p work.old (λ f. freed p (runs p) f destructor (map view_operand args.entry.items) of.spot.object of) (view_run run.old)) }
+    {
+        run.spend()?;
+        let key = self.steps.destructor_of(run, &work.f, &at, destructor)?;
+        let values = all_handed(self.steps.alloc, args)?;
+        let own = at.spot.copied(self.steps.alloc)?;
+        work.expect(OnValue::Freed { at })?;
+        self.enter(run, work, &key, Some(&own), None, values.as_slice())
+    }
+
+    /// Calls what is called, with its arguments.
+    pub fn apply(
+        &self,
+        run: &mut Run,
+        work: &mut Work<'a>,
+        call: Callable<'a>,
+        args: Vec<Operand<'a>>,
+    ) -> Result<Next<'a>, Over>
+        ensures { let p = program_of self.now.steps in Goes p result work.new (view_run run.new) (on_operands p (rest_of p work.old) call.entry (map view_operand args.entry.items) (view_activation work.old.f) (view_run run.old)) }
+    {
+        match call {
+            Callable::Named { routine, instance } => {
+                self.call_named(run, work, routine, instance, args)
+            }
+            Callable::OfClass { at, slot, checked } => {
+                self.call_of_class(run, work, &at, slot, checked, args)
+            }
+            Callable::Held { at } => self.call_held(run, work, &at, args),
+            Callable::Standard { ty, number } => {
+                gave_value(
+                    self.steps
+                        .standard_value(run, &work.f, ty, number, args.as_slice()),
+                )
+            }
+            Callable::Constructor {
+                routine,
+                serial,
+                sort,
+            } => self.construct(run, work, routine, serial, &sort, args),
+            Callable::Destructor { at, destructor } => {
+                self.destroy(run, work, at, destructor, args)
+            }
+        }
+    }
+}

@@ -1,0 +1,232 @@
+//! Expressions and places begin.
+
+ghost use Rattle.type_layout.specs.declared.definitions.TypeId.{TypeId as TypeOf};
+ghost use Rattle.std.specs.Prelude.{Option};
+ghost use Rattle.typed_tree.specs.declared.units.Program.{Program};
+ghost use Rattle.typed_tree.specs.Expressions.{Call, Make, view_expr, view_place, view_receiver, view_element, view_elements, view_args};
+ghost use Rattle.meaning.specs.Outcomes.{State};
+ghost use Rattle.meaning.specs.Expressions.{value, place, elements};
+ghost use Rattle.meaning.specs.Meaning.{run as runs};
+ghost use Rattle.cell_store.specs.Views.{view_value};
+ghost use Rattle.interpreter_steps.specs.Running.{view_run, program_of};
+ghost use Rattle.interpreter_frames.specs.Frames.{then_value, then_place, operated, Goes};
+
+use crate::machine::Machine;
+use cell_store::Value;
+use interpreter_frames::{Callable, Next, OnPlace, OnValue, Work, gave_place, gave_value};
+use interpreter_steps::{Instance, Over, Run, constant_value, routine_value};
+use std::alloc::Global;
+use type_layout::{Bytes, RoutineId, TypeId};
+use typed_tree::{Arg, BinaryOp, Expr, PlaceExpr, SetElement};
+use value_operators::decided;
+
+// An element or a span comes next, and then the others that are listed.
+fn list_element<'a>(
+    work: &mut Work<'a>,
+    first: &'a SetElement,
+    rest: &'a [SetElement],
+    set: Vec<u8>,
+) -> Result<Next<'a>, Over>
+    ensures { (p : Program) (s : State) → Goes p result work.new s (then_value p work.old (λ f. elements p (runs p) f (view_element first.now (view_elements rest.now)) set.items) s) }
+{
+    match first {
+        SetElement::One(one) => work.evaluate(one, OnValue::Element { rest, set }),
+        SetElement::Span(low, high) => work.evaluate(
+            low,
+            OnValue::First {
+                last: high,
+                rest,
+                set,
+            },
+        ),
+    }
+}
+
+/// The set that holds the elements before, and those that are listed.
+pub fn list_elements<'a>(
+    work: &mut Work<'a>,
+    listed: &'a [SetElement],
+    set: Vec<u8>,
+) -> Result<Next<'a>, Over>
+    ensures { (p : Program) (s : State) → Goes p result work.new s (then_value p work.old (λ f. elements p (runs p) f (view_elements listed.now) set.items) s) }
+{
+    match listed {
+        [] => Ok(Next::Value(Value::Elements(Bytes::from_vec(set)))),
+        [first, rest @ ..] => list_element(work, first, rest, set),
+    }
+}
+
+/// The right side comes next, unless the left one decides.
+pub fn operate<'a>(
+    work: &mut Work<'a>,
+    ty: TypeId,
+    op: BinaryOp,
+    left: Value,
+    right: &'a Expr,
+    early: bool,
+) -> Result<Next<'a>, Over>
+    ensures { (p : Program) (s : State) → Goes p result work.new s (then_value p work.old (λ f. operated p f ty op (view_value left) (view_expr right.now) early) s) }
+{
+    match decided(op, early, &left) {
+        Some(value) => Ok(Next::Value(value)),
+        None => work.evaluate(right, OnValue::Right { ty, op, left }),
+    }
+}
+
+impl<'a> Machine<'a> {
+    fn call(
+        &self,
+        run: &mut Run,
+        work: &mut Work<'a>,
+        routine: RoutineId,
+        own: &'a Option<Box<PlaceExpr>>,
+        args: &'a [Arg],
+    ) -> Result<Next<'a>, Over>
+        ensures { (ty : Option TypeOf) → let p = program_of self.now.steps in Goes p result work.new (view_run run.new) (then_value p work.old (λ f. value p (runs p) f (Call ty routine (view_receiver own.now) (view_args args.now))) (view_run run.old)) }
+    {
+        match own {
+            None => {
+                let instance = Instance {
+                    own: None,
+                    class: None,
+                };
+                let call = Callable::Named { routine, instance };
+                self.argue(run, work, args, Vec::new(self.steps.alloc), call)
+            }
+            Some(own) => work.locate(own, OnPlace::Own { routine, own, args }),
+        }
+    }
+
+    fn make(
+        &self,
+        run: &mut Run,
+        work: &mut Work<'a>,
+        ty: TypeId,
+        routine: RoutineId,
+        args: &'a [Arg],
+    ) -> Result<Next<'a>, Over>
+        ensures { let p = program_of self.now.steps in Goes p result work.new (view_run run.new) (then_value p work.old (λ f. value p (runs p) f (Make ty routine (view_args args.now))) (view_run run.old)) }
+    {
+        let (serial, sort) = self.steps.block_for(run, &work.f, ty)?;
+        let call = Callable::Constructor {
+            routine,
+            serial,
+            sort,
+        };
+        self.argue(run, work, args, Vec::new(self.steps.alloc), call)
+    }
+
+    /// An expression begins.
+    pub fn evaluate(
+        &self,
+        run: &mut Run,
+        work: &mut Work<'a>,
+        e: &'a Expr,
+    ) -> Result<Next<'a>, Over>
+        ensures { let p = program_of self.now.steps in Goes p result work.new (view_run run.new) (then_value p work.old (λ f. value p (runs p) f (view_expr e.now)) (view_run run.old)) }
+    {
+        let alloc = self.steps.alloc;
+        match e {
+            Expr::Const { value, .. } => Ok(Next::Value(constant_value(alloc, value)?)),
+            Expr::RoutineValue { routine, .. } => gave_value(routine_value(&work.f, *routine)),
+            Expr::Load { place, .. } => work.locate(place, OnPlace::Load),
+            Expr::Unary { ty, op, operand } => {
+                work.evaluate(operand, OnValue::Unary { ty: *ty, op: *op })
+            }
+            Expr::Binary {
+                ty,
+                op,
+                left,
+                right,
+                early,
+            } => work.evaluate(
+                left,
+                OnValue::Left {
+                    ty: *ty,
+                    op: *op,
+                    right,
+                    early: *early,
+                },
+            ),
+            Expr::Convert { ty, operand } => work.evaluate(operand, OnValue::Convert { ty: *ty }),
+            Expr::Range {
+                operand,
+                low,
+                high,
+                ..
+            } => work.evaluate(
+                operand,
+                OnValue::Range {
+                    low: *low,
+                    high: *high,
+                },
+            ),
+            Expr::SetOf { elements, .. } => {
+                list_elements(work, elements.as_slice(), Vec::new(alloc))
+            }
+            Expr::Call {
+                routine,
+                own,
+                args,
+                ..
+            } => self.call(run, work, *routine, own, args.as_slice()),
+            Expr::CallVirtual {
+                own,
+                slot,
+                checked,
+                args,
+                ..
+            } => work.locate(
+                own,
+                OnPlace::OfClass {
+                    slot: *slot,
+                    checked: *checked,
+                    args: args.as_slice(),
+                },
+            ),
+            Expr::CallThrough { place, args, .. } => work.locate(
+                place,
+                OnPlace::Through {
+                    args: args.as_slice(),
+                },
+            ),
+            Expr::Std { ty, number, args } => self.argue(
+                run,
+                work,
+                args.as_slice(),
+                Vec::new(alloc),
+                Callable::Standard {
+                    ty: *ty,
+                    number: *number,
+                },
+            ),
+            Expr::Make { ty, routine, args } => {
+                self.make(run, work, *ty, *routine, args.as_slice())
+            }
+        }
+    }
+
+    /// A place begins.
+    pub fn locate(&self, run: &Run, work: &mut Work<'a>, e: &'a PlaceExpr) -> Result<Next<'a>, Over>
+        ensures { let p = program_of self.now.steps in Goes p result work.new (view_run run.now) (then_place p work.old (λ f. place p (runs p) f (view_place e.now)) (view_run run.now)) }
+    {
+        match e {
+            PlaceExpr::Var(variable) => gave_place(self.steps.variable(run, &work.f, *variable)),
+            PlaceExpr::Deref { pointer } => work.evaluate(pointer, OnValue::Deref { pointer }),
+            PlaceExpr::Index {
+                place,
+                index,
+                checked,
+            } => work.locate(
+                place,
+                OnPlace::Indexed {
+                    index,
+                    checked: *checked,
+                },
+            ),
+            PlaceExpr::FieldOf { place, number } => {
+                work.locate(place, OnPlace::Field { number: *number })
+            }
+        }
+    }
+}
