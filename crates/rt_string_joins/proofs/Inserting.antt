@@ -219,7 +219,7 @@ module _ (program : FlatProgram) (choice : Choice) (own : Frame) (sp : ℕ) (is_
   }
 
   module _ (part to : ℕ) (m : Cells) (t text : List ℕ) (low_word : low < 65536) (high_word : high < 65536) (small : size < 256) (fits : length text ≤ size) (has : HasString m (place ps part) t) (also : HasString m (place ts to) text) (reached : IsReached m (place ts to) (1 + size))
-      (apart : (i j : ℕ) → i < 256 → j < 256 → address_of (place ps part) i ≡ address_of (place ts to) j → ⊥) where
+      (apart : (i j : ℕ) → i < 1 + length t → j < 1 + size → address_of (place ps part) i ≡ address_of (place ts to) j → ⊥) where
     abbrev q : ℕ
     q = bytes_before (long_value low high)
 
@@ -309,6 +309,7 @@ module _ (program : FlatProgram) (choice : Choice) (own : Frame) (sp : ℕ) (is_
     all-does =
         let h = sizes in
         let w = h.whole in
+        let y = h.part_size in
         let z = h.tail_size in
         let n = length put_in in
         let r = length tail in
@@ -323,7 +324,7 @@ module _ (program : FlatProgram) (choice : Choice) (own : Frame) (sp : ℕ) (is_
         let s6 = at (Holds len) (Holds b) (Holds n) (Holds n) (Holds ts) (Holds (wrapping_add w16 last 0)) (Holds room) part base m2 in
         let moved = forward-does program choice own sp 20 is_placed (pos 12) (pos 16) (negsuc 7) ts ps (λ x f left c. at (Holds len) (Holds b) (Holds n) (Holds left) (Holds ts) (Holds (wrapping_add w16 last 0)) (Holds room) f x c) (moving-on len b n (wrapping_add w16 last 0) room) put_in base part m2 (omega (arith, w, small)) part-stands
         (λ i g out. reached-then (b + i) (omega (arith, g, w)) (ap m2 (sym (base-address i)) ∙ out))
-        (λ i j p g e. apart j (b + i) (omega (arith, g, w, small)) (omega (arith, p, g, w, small)) (sym e ∙ base-address i)) in
+        (λ i j p g e. apart j (b + i) (omega (arith, g, y)) (omega (arith, p, g, w)) (sym e ∙ base-address i)) in
         let s7 = at (Holds len) (Holds b) (Holds n) (Holds 0) (Holds ts) (Holds (wrapping_add w16 last 0)) (Holds room) moved.from moved.to m3 in
         let d1 = place-does part to len m low_word high_word also.short also.size in
         let lengths = lengths-does part to len b (length t) m small fits h.inside has.short has.size in

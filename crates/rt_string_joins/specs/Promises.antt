@@ -44,7 +44,7 @@ pub record CanInsert (choice : Choice) (sp : ℕ) (s : State) (part to : Place) 
   pub target : IsReached s.cells to (1 + size)
   pub target_off : IsOffStack choice sp to (1 + size)
   pub part_off : IsOffStack choice sp part (1 + length t)
-  pub apart : (i j : ℕ) → i < 256 → j < 256 → address_of part i ≡ address_of to j → ⊥
+  pub apart : (i j : ℕ) → i < 1 + length t → j < 1 + size → address_of part i ≡ address_of to j → ⊥
 
 -- The string gets the part before the place, and is cut to its size.
 abbrev pub Inserts : FlatProgram → Choice → Type 0
