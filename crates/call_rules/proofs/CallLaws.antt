@@ -16,11 +16,11 @@ use Rattle.well_formed.specs.Fits.{definition}
 use Rattle.typing_rules.specs.declared.faults.Rule.TheVariants as rules
 use Rattle.typing_rules.specs.declared.sorts.Sort.{Sort}
 use Rattle.typing_rules.specs.declared.sorts.Sort.TheVariants as sort
-use Rattle.typing_rules.specs.Faults.{broken, left_out, not_yet}
+use Rattle.typing_rules.specs.Faults.{broken, left_out}
 use Rattle.typing_rules.specs.Judgements.{refuses, rule}
 use Rattle.typing_rules.specs.Sorts.{sort_of_type, sort_of}
 use Rattle.typing_rules.specs.Wanted.{stored_of, predefined}
-use Rattle.typing_rules.specs.Assignments.{IsAssignable, is_assignable, is_procedural, assigned_by}
+use Rattle.typing_rules.specs.Assignments.{IsAssignable, is_assignable, assigned_by}
 use Rattle.typing_rules.specs.Laws.{Lawful}
 use Rattle.typing_rules.proofs.JudgementLaws.{lawful_makes, lawful_refuses, lawful_rule, lawful_either, lawful_part, lawful_parts}
 use Rattle.typing_rules.proofs.PlanLaws.{yes, no}
@@ -71,8 +71,7 @@ module _ (types : List TypeDef) (place : Place) where
         let made = value (assigned_by ty (definition types ty) (stored_of types e) checked e) in
         let test = is_assignable types (sort_of_type types ty) (sort_of types e) ty (type_of e) in
         let Asked = IsAssignable types (sort_of_type types ty) (sort_of types e) ty (type_of e) in
-        lawful_either (is_procedural (definition types ty)) (refuses (not_yet place)) (rule (broken place rules.Called) test Asked made)
-        (lawful_refuses _) (lawful_rule (broken place rules.Called) test Asked made (tells_assignable types (sort_of_type types ty) (sort_of types e) ty (type_of e)))
+        lawful_rule (broken place rules.Called) test Asked made (tells_assignable types (sort_of_type types ty) (sort_of types e) ty (type_of e))
 
     lawful_variable : (ty own : TypeId) (at : tree.Place) → Lawful (by_place types place ty (Load own at))
     lawful_variable ty own at =

@@ -13,12 +13,12 @@ use Rattle.typed_tree.specs.Expressions as tree
 use Rattle.typed_tree.specs.Expressions.{Expression, Arguments, NoArguments, ByValue, ByPlace, Load, Call, NoReceiver, type_of, view_expr, view_place}
 use Rattle.well_formed.specs.Fits.{definition}
 use Rattle.typing_rules.specs.declared.faults.Rule.TheVariants as rules
-use Rattle.typing_rules.specs.Faults.{broken, not_yet}
-use Rattle.typing_rules.specs.Judgements.{Judgement, makes, refuses, rule, either, part, parts}
+use Rattle.typing_rules.specs.Faults.{broken}
+use Rattle.typing_rules.specs.Judgements.{Judgement, makes, refuses, rule, part, parts}
 use Rattle.typing_rules.specs.Sorts.{sort_of_type, sort_of}
 use Rattle.typing_rules.specs.Wanted.{stored_of}
 use Rattle.typing_rules.specs.Joins.{IsLine, is_line}
-use Rattle.typing_rules.specs.Assignments.{IsAssignable, is_assignable, is_procedural, assigned_by}
+use Rattle.typing_rules.specs.Assignments.{IsAssignable, is_assignable, assigned_by}
 
 -- an argument: a value, or the place that a `var` parameter takes
 pub data Handed : Type 0 where
@@ -43,9 +43,8 @@ arguments_of (one ∷ rest) = onto one (arguments_of rest)
 -- a value joins its parameter as one that is assigned joins its target
 abbrev pub by_value : List TypeDef → Place → Bool → TypeId → Expression → Judgement Handed
 by_value types place checked ty e =
-    either (is_procedural (definition types ty)) (refuses (not_yet place))
-    (rule (broken place rules.Called) (is_assignable types (sort_of_type types ty) (sort_of types e) ty (type_of e)) (IsAssignable types (sort_of_type types ty) (sort_of types e) ty (type_of e))
-    (value (assigned_by ty (definition types ty) (stored_of types e) checked e)))
+    rule (broken place rules.Called) (is_assignable types (sort_of_type types ty) (sort_of types e) ty (type_of e)) (IsAssignable types (sort_of_type types ty) (sort_of types e) ty (type_of e))
+    (value (assigned_by ty (definition types ty) (stored_of types e) checked e))
 
 -- a variable of the very type, or of a descendant of an object type
 abbrev pub IsVariableFor : List TypeDef → TypeId → TypeId → Type 0

@@ -9,8 +9,8 @@ use std::alloc::Global;
 use type_layout::{Header, Param, Place, RoutineId, TypeId, Types};
 use typed_tree::{Arg, Expr, PlaceExpr};
 use typing_rules::{
-    Refusal, Rule, assigned_by, broken, definition, is_assignable, is_line, is_procedural, not_yet,
-    sort_of, sort_of_type, stored_of_type, type_of,
+    Refusal, Rule, assigned_by, broken, definition, is_assignable, is_line, sort_of, sort_of_type,
+    stored_of_type, type_of,
 };
 
 // A variable of the very type, or of a descendant of an object type.
@@ -31,10 +31,6 @@ fn by_value(
     ensures { Gives view_handed result (by_value types.now.types place checked ty (view_expr value)).run }
 {
     let own = type_of(&value);
-    let one = definition(types, ty);
-    if is_procedural(one) {
-        return Err(Refusal::Because(not_yet(place)));
-    }
     if !is_assignable(
         types,
         sort_of_type(types, ty),
@@ -45,7 +41,7 @@ fn by_value(
         return Err(Refusal::Because(broken(place, Rule::Called)));
     }
     let stored = stored_of_type(types, own);
-    let value = assigned_by(alloc, ty, one, stored, checked, value)?;
+    let value = assigned_by(alloc, ty, definition(types, ty), stored, checked, value)?;
     Ok(Arg::Value(value))
 }
 

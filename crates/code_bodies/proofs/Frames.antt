@@ -112,13 +112,13 @@ module _ (w : World) (R : Mention → Type 0) (x : Layout) (p : PlacedProgram w 
       (λ none.
       let zero_frame : r.frame ≡ 0 = omega (arith, none) in
       let deep = g.deep zero_frame in
-      let short = (p.shallow.short key r (routine_is w.program key unit r has_unit has_routine) zero_frame).0 in
+      let short = p.shallow.covers key r (routine_is w.program key unit r has_unit has_routine) zero_frame in
       omega (arith, deep, short))
       (λ one. let tall = g.tall (omega (arith, one)) in omega (arith, tall)) (cases_lt r.frame 1)
 
   -- what a routine of the runtime finds
   deep_for : (key : Key) (r : Routine) (other : Key) (called : Routine) (live : Live) → Suited w x chain live key r → MayCall key r other called → 128 + chain other ≤ live.frame.sp
-  deep_for key r other called live g (inl one) = let tall = g.tall one in let most = p.chains other in omega (arith, tall, most)
+  deep_for key r other called live g (inl one) = let tall = g.tall one in let most = p.shallow.short other in omega (arith, tall, most)
   deep_for key r other called live g (inr h) = let deep = g.deep h.0 in let less = h.2 in omega (arith, deep, less)
 
   tall_for : (key : Key) (r : Routine) (other : Key) (called : Routine) (live : Live) → Suited w x chain live key r → MayCall key r other called → 0 < called.frame → (512 ≤ live.frame.sp) × (live.frame.sp + live.frame.sum ≡ stack_top w.program)
@@ -144,7 +144,7 @@ module _ (w : World) (R : Mention → Type 0) (x : Layout) (p : PlacedProgram w 
         tall = λ one. (room.tall one).0;
         counted = λ one. counted other called e one;
         sum = λ one. (room.tall one).1;
-        deep = λ none. let deep = room.deep in let short = (p.shallow.short other called e none).0 in omega (arith, deep, short);
+        deep = λ none. let deep = room.deep in let short = p.shallow.covers other called e none in omega (arith, deep, short);
       }
 
   -- ## The activation of the callee

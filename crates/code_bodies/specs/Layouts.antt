@@ -67,11 +67,10 @@ pub record IsPlaced (w : World) (R : Mention → Type 0) (x : Layout) (key : Key
 abbrev pub constant_live : World → Layout → Live
 constant_live w x = record { frame = start_frame w.program; fixed = x.constants; records = [] }
 
--- A flat program stands on the machine: its routines that are reached, the error routine, and the routines of the acts. Calls of the runtime take at most 384 bytes of the stack's last 512.
+-- A flat program stands on the machine: its routines that are reached, the error routine, and the routines of the acts.
 pub record PlacedProgram (w : World) (R : Mention → Type 0) (x : Layout) : Type 0 where
   pub well_formed : IsWellFormed w.program
   pub shallow : IsShallow w.program
-  pub chains : (key : Key) → shallow.chain key ≤ 384
   pub reaches : Reaches w.program R
   pub legal : IsLegal w.program w.choice R
   pub data_small : w.choice.data_segment < 65536

@@ -106,7 +106,7 @@ module _ (w : World) (R : Mention → Type 0) (x : Layout) (p : PlacedProgram w 
   first_flows c k s r here a key reached far stands =
       let t = target w.program key (λ called. called.far ≡ true) far in
       let tall = h.tall in
-      let most = p.chains key in
+      let most = p.shallow.short key in
       let room : HasRoomFor w R x p live key t.routine = record { tall = λ one. (tall, omega arith); deep = omega (arith, tall, most) } in
       let callable = by_far_call w R x p (suc s.turns) (bodies w R x p (suc s.turns)) site live fits (λ place byte e. e) chained key t.unit t.routine reached t.has_unit t.has_routine room t.holds in
       let a0 = represents_like w live s (suc s.turns) (s.work + c) r a in

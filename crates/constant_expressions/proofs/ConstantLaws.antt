@@ -1,11 +1,15 @@
 -- Constants are judged lawfully.
-use Rattle.std.proofs.Common.{◌≡◌, ◌==◌, ℕ, ℤ, Bool, true, List, [], ◌∷◌, ◌++◌, Option, Some, None, Decides, refl}
+use Rattle.std.proofs.Common.{◌≡◌, ℕ, ℤ, pos, ◌+ℤ◌, ◌-ℤ◌, ◌≤ℤ◌, int_le, Bool, true, List, [], ◌∷◌, ◌++◌, Option, Some, None, Decides, refl, arith}
+use Rattle.std.proofs.lemmas.Int.{ints}
 use Rattle.std.proofs.lemmas.Bool.Decides.{Decides-and}
 use Rattle.type_layout.specs.declared.definitions.TypeId.{TypeId}
 use Rattle.type_layout.specs.declared.definitions.Host.TheVariants as host
 use Rattle.type_layout.specs.declared.definitions.TypeDef.{TypeDef}
 use Rattle.type_layout.specs.declared.texts.Place.{Place}
+use Rattle.type_layout.specs.Layouts.{bounds_at}
 use Rattle.type_layout.specs.Storage.{holds}
+use Rattle.typed_tree.specs.declared.expressions.Value.{Value}
+use Rattle.typed_tree.specs.declared.expressions.Value.TheVariants as value
 use Rattle.syntax_tree.specs.declared.expression.PlacedSign.{PlacedSign}
 use Rattle.typed_tree.specs.declared.expressions.UnaryOp.{UnaryOp}
 use Rattle.typed_tree.specs.declared.expressions.BinaryOp.{BinaryOp}
@@ -17,8 +21,8 @@ use Rattle.left_out_names.specs.Names.{feature_of}
 use Rattle.typing_rules.specs.declared.faults.Rule.TheVariants as rules
 use Rattle.typing_rules.specs.declared.sorts.SetBase.{SetBase}
 use Rattle.typing_rules.specs.declared.sorts.Sort.{Sort}
-use Rattle.typing_rules.specs.Faults.{broken, not_yet}
-use Rattle.typing_rules.specs.Judgements.{refuses, makes, rule, either}
+use Rattle.typing_rules.specs.Faults.{broken}
+use Rattle.typing_rules.specs.Judgements.{Judgement, refuses, makes, rule, either, parts}
 use Rattle.typing_rules.specs.Selectors.{asking}
 use Rattle.typing_rules.specs.Sorts.{sort_of_type, sort_of_constant}
 use Rattle.typing_rules.specs.Operators.{sign_value}
@@ -30,17 +34,22 @@ use Rattle.typing_rules.proofs.PlanLaws.{no, tells_integer, tells_allowed, tells
 use Rattle.standard_rules.specs.declared.signatures.Signature.{Signature}
 use Rattle.standard_rules.specs.Signatures.{signature_of}
 use Rattle.standard_rules.proofs.StandardLaws.{tells_accepted}
+use Rattle.values.specs.declared.ordinals.IntegerType.TheVariants.{Byte, LongInt}
+use Rattle.values.specs.Ordinals.{kept}
 use Rattle.values.specs.Strings.{joined}
-use Rattle.expression_tree.specs.Trees.{Tree, Listed, Elements, single, span, no_elements, and_element, Operand, Operands, plain, wide, no_operands, and_operand, number, text, control, nil, set, call, signed, negated, combined, name, field, index, followed, of_sign}
+use Rattle.expression_tree.specs.Trees.{Tree, Listed, Elements, single, span, no_elements, and_element, Operand, Operands, plain, wide, no_operands, and_operand, number, text, control, nil, set, call, signed, negated, combined, name, field, index, followed, of_sign, sole_designator}
 use Rattle.constant_expressions.specs.declared.constants.Constant.{Constant}
 use Rattle.constant_expressions.specs.Values as values
-use Rattle.constant_expressions.specs.Values.{bytes_of, number_of, computed, compares, base_in, integer, turned, sets_combined, numbered, combined_values, combined_by}
+use Rattle.constant_expressions.specs.Values.{bytes_of, number_of, IsWithin, is_within, taken, computed, compares, base_in, integer, turned, sets_combined, numbered, combined_values, combined_by}
 use Rattle.constant_expressions.specs.declared.functions.Function.{Function}
+use Rattle.constant_expressions.specs.declared.functions.Function.TheVariants.{Abs, Odd, Ord, Chr, Succ, Pred, Hi, Lo, Swap, UpCase, Length}
 use Rattle.constant_expressions.specs.declared.functions.StandardFunction.{StandardFunction}
-use Rattle.constant_expressions.specs.Functions.{function_of, applied, chosen, function_entry, function_meant, function_at, function_named, IsTaken, is_taken, called_with}
+use Rattle.constant_expressions.specs.Functions.{function_of, bounded, stepped, applied, chosen, function_entry, function_meant, function_at, function_named, IsTaken, is_taken, called_on, called_with}
 use Rattle.constant_expressions.specs.declared.constructors.Ordinal.{Ordinal}
 use Rattle.constant_expressions.specs.declared.constructors.Span.{Span}
-use Rattle.constant_expressions.specs.Constructors.{IsElement, is_element, IsSpan, is_span, AreSpans, are_spans, first_sort, typed_set, set_by, set_of}
+use Rattle.constant_expressions.specs.Constructors.{IsElement, is_element, IsSpan, is_span, AreSpans, are_spans, first_sort, base_bounds, typed_set, set_of_type, set_by, set_of}
+use Rattle.standard_rules.specs.Sizes.{has_class}
+use Rattle.constant_expressions.specs.Sizes.{asks_size, size_constant, sized_entry, sized_meaning, sized_name, sized, size_called}
 use Rattle.constant_expressions.specs.Constants.{of_entry, of_meaning, of_name, marked, judged, spans_judged, span_judged, operands_judged, operand_judged}
 
 module _ (types : List TypeDef) (place : Place) where
@@ -51,8 +60,8 @@ module _ (types : List TypeDef) (place : Place) where
   lawful_values : (one : BinaryOp) (s : Sort) (base : Option SetBase) (a b : Constant) → Lawful (combined_values place one s base a b)
   lawful_values one s (Some base) a b = lawful_makes _
   lawful_values one s None a b =
-      lawful_either (is_text s) (makes (values.text (joined (bytes_of a.value) (bytes_of b.value)))) (numbered place s (computed one (number_of a.value) (number_of b.value)))
-      (lawful_makes _) (lawful_numbered s (computed one (number_of a.value) (number_of b.value)))
+      lawful_either (is_text s) (makes (values.text (joined (bytes_of a.value) (bytes_of b.value)))) (numbered place s (computed one (taken s (number_of a.value)) (taken s (number_of b.value))))
+      (lawful_makes _) (lawful_numbered s (computed one (taken s (number_of a.value)) (taken s (number_of b.value))))
 
   lawful_allowed : (one : BinaryOp) (s t : Sort) (a b : Constant)
       → Lawful (asking (rule (broken place (rule_of (operation_of one) s t)) (allows (operation_of one) s t) (Asks (operation_of one) s t) tt) (combined_values place one s (base_in s) a b))
@@ -83,7 +92,7 @@ module _ (types : List TypeDef) (place : Place) where
   lawful_entry (entry.Const ty v) = lawful_makes _
   lawful_entry (entry.Ty ty) = lawful_refuses _
   lawful_entry (entry.Var unit level n ty) = lawful_refuses _
-  lawful_entry (entry.Code routine level header) = lawful_refuses _
+  lawful_entry (entry.Code routine level header far) = lawful_refuses _
   lawful_entry (entry.Std n) = lawful_refuses _
 
   lawful_meaning : (feature : Option Feature) (one : Option Meaning) → Lawful (of_meaning types place feature one)
@@ -109,8 +118,8 @@ lawful_function_entry : (place : Place) (one : Entry) → Lawful (function_entry
 lawful_function_entry place (entry.Const ty v) = lawful_refuses _
 lawful_function_entry place (entry.Ty ty) = lawful_refuses _
 lawful_function_entry place (entry.Var unit level n ty) = lawful_refuses _
-lawful_function_entry place (entry.Code routine level header) = lawful_refuses _
-lawful_function_entry place (entry.Std n) = lawful_either (n == 12) (refuses (not_yet place)) (chosen place n (function_of n)) (lawful_refuses _) (lawful_chosen place n (function_of n))
+lawful_function_entry place (entry.Code routine level header far) = lawful_refuses _
+lawful_function_entry place (entry.Std n) = lawful_chosen place n (function_of n)
 
 lawful_function_meant : (place : Place) (feature : Option Feature) (one : Option Meaning) → Lawful (function_meant place feature one)
 lawful_function_meant place feature None = lawful_refuses _
@@ -140,13 +149,82 @@ tells_taken : (one : Option Signature) (s : Sort) → Decides (is_taken one s) (
 tells_taken None s = no
 tells_taken (Some one) s = tells_accepted one.shape (s ∷ [])
 
+tells_rising : (m n : ℤ) → Decides (int_le m n) (m ≤ℤ n)
+tells_rising m n = (λ e. grind (arith, ints), λ h. grind (arith, ints))
+
+tells_within : (bounds : ℤ × ℤ) (n : ℤ) → Decides (is_within bounds n) (IsWithin bounds n)
+tells_within bounds n = Decides-and _ _ (tells_rising bounds.0 n) (tells_rising n bounds.1)
+
+lawful_bounded : (place : Place) (ty : TypeId) (bounds : ℤ × ℤ) (n : ℤ) → Lawful (bounded place ty bounds n)
+lawful_bounded place ty bounds n =
+    let one : Constant = record { ty = ty; value = value.Number n } in
+    lawful_rule (broken place rules.Constant) (is_within bounds n) (IsWithin bounds n) one (tells_within bounds n)
+
+lawful_stepped : (place : Place) (ty : TypeId) (s : Sort) (bounds : ℤ × ℤ) (n : ℤ) → Lawful (stepped place ty s bounds n)
+lawful_stepped place ty s bounds n =
+    lawful_either (is_integer s) (makes (integer (kept LongInt n))) (bounded place ty bounds (kept Byte n)) (lawful_makes _) (lawful_bounded place ty bounds (kept Byte n))
+
+lawful_applied : (types : List TypeDef) (place : Place) (one : Function) (ty : TypeId) (s : Sort) (v : Value) → Lawful (applied types place one ty s v)
+lawful_applied types place Abs ty s v = lawful_makes _
+lawful_applied types place Odd ty s v = lawful_makes _
+lawful_applied types place Ord ty s v = lawful_makes _
+lawful_applied types place Chr ty s v = lawful_makes _
+lawful_applied types place Succ ty s v = lawful_stepped place ty s (bounds_at types ty) (number_of v +ℤ pos 1)
+lawful_applied types place Pred ty s v = lawful_stepped place ty s (bounds_at types ty) (number_of v -ℤ pos 1)
+lawful_applied types place Hi ty s v = lawful_makes _
+lawful_applied types place Lo ty s v = lawful_makes _
+lawful_applied types place Swap ty s v = lawful_makes _
+lawful_applied types place UpCase ty s v = lawful_makes _
+lawful_applied types place Length ty s v = lawful_makes _
+
+lawful_on : (types : List TypeDef) (place : Place) (f : StandardFunction) (s : Sort) (x : Constant) → Lawful (called_on types place f s x)
+lawful_on types place f s x =
+    lawful_part (rule (broken place rules.Called) (is_taken (signature_of f.number) s) (IsTaken (signature_of f.number) s) tt) (λ u. applied types place f.function x.ty (sort_of_type types x.ty) x.value)
+    (lawful_rule (broken place rules.Called) (is_taken (signature_of f.number) s) (IsTaken (signature_of f.number) s) tt (tells_taken (signature_of f.number) s))
+    (λ u. lawful_applied types place f.function x.ty (sort_of_type types x.ty) x.value)
+
 lawful_called : (types : List TypeDef) (place : Place) (f : StandardFunction) (xs : List Constant) → Lawful (called_with types place f xs)
 lawful_called types place f [] = lawful_refuses _
-lawful_called types place f (x ∷ []) =
-    let s = sort_of_constant types x.ty x.value in
-    lawful_rule (broken place rules.Called) (is_taken (signature_of f.number) s) (IsTaken (signature_of f.number) s)
-    (applied f.function x.ty (sort_of_type types x.ty) x.value) (tells_taken (signature_of f.number) s)
+lawful_called types place f (x ∷ []) = lawful_on types place f (sort_of_constant types x.ty x.value) x
 lawful_called types place f (x ∷ y ∷ rest) = lawful_refuses _
+
+-- ---- SizeOf
+
+lawful_sized_entry : (types : List TypeDef) (place : Place) (one : Entry) → Lawful (sized_entry types place one)
+lawful_sized_entry types place (entry.Const ty v) = lawful_refuses _
+lawful_sized_entry types place (entry.Ty ty) = lawful_makes _
+lawful_sized_entry types place (entry.Var unit level n ty) =
+    lawful_either (has_class types ty) (refuses (broken place rules.Constant)) (makes (size_constant types ty)) (lawful_refuses _) (lawful_makes _)
+lawful_sized_entry types place (entry.Code routine level header far) = lawful_refuses _
+lawful_sized_entry types place (entry.Std n) = lawful_refuses _
+
+lawful_sized_meaning : (types : List TypeDef) (place at : Place) (feature : Option Feature) (one : Option Meaning) → Lawful (sized_meaning types place at feature one)
+lawful_sized_meaning types place at feature None = lawful_refuses _
+lawful_sized_meaning types place at feature (Some (named n one)) = lawful_sized_entry types place one
+lawful_sized_meaning types place at feature (Some (member n one)) = lawful_refuses _
+
+lawful_sized_name : (g : Environment) (place at : Place) (word : List ℕ) → Lawful (sized_name g place at word)
+unfolding sized_name
+lawful_sized_name g place at word = lawful_sized_meaning g.types.types place at (feature_of word) (find g word)
+
+lawful_sized : (g : Environment) (place : Place) (one : Tree) → Lawful (sized g place one)
+lawful_sized g place (name here word) = lawful_sized_name g place here.place word
+lawful_sized g place (number at n) = lawful_refuses _
+lawful_sized g place (text at bytes) = lawful_refuses _
+lawful_sized g place (control at letter) = lawful_refuses _
+lawful_sized g place (nil at) = lawful_refuses _
+lawful_sized g place (set at listed) = lawful_refuses _
+lawful_sized g place (call at callee given) = lawful_refuses _
+lawful_sized g place (signed mark a) = lawful_refuses _
+lawful_sized g place (negated at a) = lawful_refuses _
+lawful_sized g place (combined at op a b) = lawful_refuses _
+lawful_sized g place (field at a one) = lawful_refuses _
+lawful_sized g place (index at a i) = lawful_refuses _
+lawful_sized g place (followed at a) = lawful_refuses _
+
+lawful_size : (g : Environment) (place : Place) (one : Option Tree) (given : Judgement (List Constant)) → Lawful given → Lawful (size_called g place one given)
+lawful_size g place (Some one) given l = lawful_sized g place one
+lawful_size g place None given l = lawful_part given (λ all. refuses (broken place rules.Called)) l (λ all. lawful_refuses _)
 
 -- ---- set constructors
 
@@ -154,26 +232,31 @@ lawful_called types place f (x ∷ y ∷ rest) = lawful_refuses _
 itself : (b : Bool) → Decides b (b ≡ true)
 itself b = (λ e. e, λ e. e)
 
-tells_element : (s : Sort) (one : Ordinal) → Decides (is_element s one) (IsElement s one)
-tells_element s one = Decides-and _ _ (tells_one_host s one.sort) (itself (holds host.Byte one.number one.number))
+module _ (s : Sort) (bounds : ℤ × ℤ) where
+  tells_element : (one : Ordinal) → Decides (is_element s bounds one) (IsElement s bounds one)
+  tells_element one = Decides-and _ _ (tells_one_host s one.sort) (Decides-and _ _ (itself (holds host.Byte one.number one.number)) (tells_within bounds one.number))
 
-tells_span : (s : Sort) (one : Span) → Decides (is_span s one) (IsSpan s one)
-tells_span s one = Decides-and _ _ (tells_element s one.low) (tells_element s one.high)
+  tells_span : (one : Span) → Decides (is_span s bounds one) (IsSpan s bounds one)
+  tells_span one = Decides-and _ _ (tells_element one.low) (tells_element one.high)
 
-tells_spans : (s : Sort) (spans : List Span) → Decides (are_spans s spans) (AreSpans s spans)
-tells_spans s [] = (λ e. tt, λ h. refl)
-tells_spans s (one ∷ rest) = Decides-and _ _ (tells_span s one) (tells_spans s rest)
+  tells_spans : (spans : List Span) → Decides (are_spans s bounds spans) (AreSpans s bounds spans)
+  tells_spans [] = (λ e. tt, λ h. refl)
+  tells_spans (one ∷ rest) = Decides-and _ _ (tells_span one) (tells_spans rest)
 
 lawful_typed : (place : Place) (ty : Option TypeId) (spans : List Span) → Lawful (typed_set place ty spans)
 lawful_typed place None spans = lawful_refuses _
 lawful_typed place (Some ty) spans = lawful_makes _
 
+lawful_set_of_type : (types : List TypeDef) (place : Place) (s : Sort) (ty : Option TypeId) (spans : List Span) → Lawful (set_of_type types place s ty spans)
+lawful_set_of_type types place s ty spans =
+    let bounds = base_bounds types ty in
+    lawful_part (rule (broken place rules.Listed) (are_spans s bounds spans) (AreSpans s bounds spans) tt) (λ u. typed_set place ty spans)
+    (lawful_rule (broken place rules.Listed) (are_spans s bounds spans) (AreSpans s bounds spans) tt (tells_spans s bounds spans))
+    (λ u. lawful_typed place ty spans)
+
 lawful_set_by : (types : List TypeDef) (place : Place) (s : Option Sort) (spans : List Span) → Lawful (set_by types place s spans)
 lawful_set_by types place None spans = lawful_makes _
-lawful_set_by types place (Some s) spans =
-    lawful_part (rule (broken place rules.Listed) (are_spans s spans) (AreSpans s spans) tt) (λ u. typed_set place (set_over types s) spans)
-    (lawful_rule (broken place rules.Listed) (are_spans s spans) (AreSpans s spans) tt (tells_spans s spans))
-    (λ u. lawful_typed place (set_over types s) spans)
+lawful_set_by types place (Some s) spans = lawful_set_of_type types place s (set_over types s) spans
 
 lawful_set : (types : List TypeDef) (place : Place) (spans : List Span) → Lawful (set_of types place spans)
 unfolding set_of
@@ -188,7 +271,11 @@ mutual
   lawful g (control place letter) = lawful_makes _
   lawful g (nil place) = lawful_refuses _
   lawful g (set here elements) = lawful_part (spans_judged g [] elements) _ (lawful_spans g [] elements) (λ spans. lawful_set g.types.types here.place spans)
-  lawful g (call here callee given) = lawful_parts (function_named g here.place callee) (operands_judged g here.place [] given) _ (lawful_function g here.place callee) (lawful_operands g here.place [] given) (λ f xs. lawful_called g.types.types here.place f xs)
+  lawful g (call here callee given) =
+      lawful_either (asks_size g callee) (size_called g here.place (sole_designator given) (operands_judged g here.place [] given))
+      (parts (function_named g here.place callee) (operands_judged g here.place [] given) (λ f xs. called_with g.types.types here.place f xs))
+      (lawful_size g here.place (sole_designator given) (operands_judged g here.place [] given) (lawful_operands g here.place [] given))
+      (lawful_parts (function_named g here.place callee) (operands_judged g here.place [] given) _ (lawful_function g here.place callee) (lawful_operands g here.place [] given) (λ f xs. lawful_called g.types.types here.place f xs))
   lawful g (signed mark a) = lawful_part (judged g a) _ (lawful g a) (λ x. lawful_marked g.types.types mark x)
   lawful g (negated place a) = lawful_part (judged g a) _ (lawful g a) (λ x. lawful_negated g.types.types place x)
   lawful g (combined here op a b) = lawful_parts (judged g a) (judged g b) _ (lawful g a) (lawful g b) (λ x y. lawful_combined g.types.types here.place op x y)

@@ -14,10 +14,10 @@ use Rattle.scopes.specs.Environment.{Environment, Meaning, named, member, find}
 use Rattle.typing_rules.specs.declared.faults.Fault.{Fault}
 use Rattle.typing_rules.specs.declared.faults.Rule.TheVariants as rules
 use Rattle.typing_rules.specs.Faults.{broken, undeclared}
-use Rattle.typing_rules.specs.Judgements.{Judgement, makes, refuses, part, parts}
+use Rattle.typing_rules.specs.Judgements.{Judgement, makes, refuses, either, part, parts}
 use Rattle.typing_rules.specs.Sorts.{sort_of_type}
 use Rattle.typing_rules.specs.Wanted.{constant_type}
-use Rattle.expression_tree.specs.Trees.{Tree, Listed, Elements, single, span, no_elements, and_element, Operand, Operands, plain, wide, no_operands, and_operand, number, text, control, nil, set, call, signed, negated, combined, name, field, index, followed, of_sign}
+use Rattle.expression_tree.specs.Trees.{Tree, Listed, Elements, single, span, no_elements, and_element, Operand, Operands, plain, wide, no_operands, and_operand, number, text, control, nil, set, call, signed, negated, combined, name, field, index, followed, of_sign, sole_designator}
 use Rattle.constant_expressions.specs.declared.constants.Constant.{Constant}
 use Rattle.constant_expressions.specs.Values as values
 use Rattle.constant_expressions.specs.Values.{integer, character}
@@ -25,6 +25,7 @@ use Rattle.constant_expressions.specs.declared.functions.StandardFunction.{Stand
 use Rattle.constant_expressions.specs.Functions.{function_named, called_with}
 use Rattle.constant_expressions.specs.declared.constructors.Span.{Span}
 use Rattle.constant_expressions.specs.Constructors.{ordinal_of, span_of, set_of}
+use Rattle.constant_expressions.specs.Sizes.{asks_size, size_called}
 
 -- ---- literals
 
@@ -76,7 +77,9 @@ abbrev mutual
   judged g (control place letter) = makes (of_control letter)
   judged g (nil place) = refuses (broken place rules.Constant)
   judged g (set here elements) = part (spans_judged g [] elements) (λ spans. set_of g.types.types here.place spans)
-  judged g (call here callee given) = parts (function_named g here.place callee) (operands_judged g here.place [] given) (λ f xs. called_with g.types.types here.place f xs)
+  judged g (call here callee given) =
+      either (asks_size g callee) (size_called g here.place (sole_designator given) (operands_judged g here.place [] given))
+      (parts (function_named g here.place callee) (operands_judged g here.place [] given) (λ f xs. called_with g.types.types here.place f xs))
   judged g (signed mark a) = part (judged g a) (λ x. marked g.types.types mark x)
   judged g (negated place a) = part (judged g a) (λ x. values.negated g.types.types place x)
   judged g (combined here op a b) = parts (judged g a) (judged g b) (λ x y. values.combined g.types.types here.place op x y)

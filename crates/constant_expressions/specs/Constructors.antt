@@ -1,11 +1,14 @@
 -- Set constructors of constants.
-use Rattle.std.specs.Prelude.{◌≡◌, ℤ, unsigned_abs, ◌%◌, Bool, true, ◌&&◌, List, [], ◌∷◌, ℕ, Option, Some, None}
+use Rattle.std.specs.Prelude.{◌≡◌, ℤ, pos, unsigned_abs, ◌%◌, Bool, true, ◌&&◌, List, [], ◌∷◌, ℕ, Option, Some, None}
 use Rattle.type_layout.specs.declared.definitions.Host.TheVariants as host
 use Rattle.type_layout.specs.declared.definitions.TypeId.{TypeId}
 use Rattle.type_layout.specs.declared.definitions.TypeDef.{TypeDef}
+use Rattle.type_layout.specs.declared.definitions.TypeDef.TheVariants as type
 use Rattle.type_layout.specs.declared.texts.Place.{Place}
+use Rattle.type_layout.specs.Layouts.{bounds_at}
 use Rattle.type_layout.specs.Storage.{holds}
 use Rattle.values.specs.Sets.{with_range}
+use Rattle.well_formed.specs.Fits.{definition}
 use Rattle.typing_rules.specs.declared.faults.Rule.TheVariants as rules
 use Rattle.typing_rules.specs.declared.sorts.Sort.{Sort}
 use Rattle.typing_rules.specs.Faults.{broken, not_yet}
@@ -17,7 +20,7 @@ use Rattle.set_rules.specs.Bases.{set_of_byte, set_over}
 use Rattle.constant_expressions.specs.declared.constants.Constant.{Constant}
 use Rattle.constant_expressions.specs.declared.constructors.Ordinal.{Ordinal}
 use Rattle.constant_expressions.specs.declared.constructors.Span.{Span}
-use Rattle.constant_expressions.specs.Values.{set_constant, number_of}
+use Rattle.constant_expressions.specs.Values.{set_constant, number_of, IsWithin, is_within}
 
 -- ---- what a constructor lists
 
@@ -30,26 +33,26 @@ span_of low high = record { low = low; high = high }
 
 -- ---- what is asked
 
--- an ordinal of a host that lies in 0..255
-abbrev pub IsElement : Sort → Ordinal → Type 0
-IsElement s one = AreOfOneHost s one.sort × (holds host.Byte one.number one.number ≡ true)
+-- an ordinal of a host that lies in 0..255, and within the bounds of what the set is over
+abbrev pub IsElement : Sort → ℤ × ℤ → Ordinal → Type 0
+IsElement s bounds one = AreOfOneHost s one.sort × ((holds host.Byte one.number one.number ≡ true) × IsWithin bounds one.number)
 
-abbrev pub is_element : Sort → Ordinal → Bool
-is_element s one = are_of_one_host s one.sort && holds host.Byte one.number one.number
+abbrev pub is_element : Sort → ℤ × ℤ → Ordinal → Bool
+is_element s bounds one = are_of_one_host s one.sort && (holds host.Byte one.number one.number && is_within bounds one.number)
 
-abbrev pub IsSpan : Sort → Span → Type 0
-IsSpan s one = IsElement s one.low × IsElement s one.high
+abbrev pub IsSpan : Sort → ℤ × ℤ → Span → Type 0
+IsSpan s bounds one = IsElement s bounds one.low × IsElement s bounds one.high
 
-abbrev pub is_span : Sort → Span → Bool
-is_span s one = is_element s one.low && is_element s one.high
+abbrev pub is_span : Sort → ℤ × ℤ → Span → Bool
+is_span s bounds one = is_element s bounds one.low && is_element s bounds one.high
 
-abbrev pub AreSpans : Sort → List Span → Type 0
-AreSpans s [] = Unit {0}
-AreSpans s (one ∷ rest) = IsSpan s one × AreSpans s rest
+abbrev pub AreSpans : Sort → ℤ × ℤ → List Span → Type 0
+AreSpans s bounds [] = Unit {0}
+AreSpans s bounds (one ∷ rest) = IsSpan s bounds one × AreSpans s bounds rest
 
-abbrev pub are_spans : Sort → List Span → Bool
-are_spans s [] = true
-are_spans s (one ∷ rest) = is_span s one && are_spans s rest
+abbrev pub are_spans : Sort → ℤ × ℤ → List Span → Bool
+are_spans s bounds [] = true
+are_spans s bounds (one ∷ rest) = is_span s bounds one && are_spans s bounds rest
 
 -- ---- the set
 
@@ -72,9 +75,22 @@ abbrev pub typed_set : Place → Option TypeId → List Span → Judgement Const
 typed_set place None spans = refuses (not_yet place)
 typed_set place (Some ty) spans = makes (set_constant ty (elements_with [] spans))
 
+-- the bounds of what a set is over
+abbrev pub bounds_by : List TypeDef → Option TypeDef → ℤ × ℤ
+bounds_by types (Some (type.SetOf base)) = bounds_at types base
+bounds_by types _ = (pos 0, pos 255)
+
+abbrev pub base_bounds : List TypeDef → Option TypeId → ℤ × ℤ
+base_bounds types None = (pos 0, pos 255)
+base_bounds types (Some ty) = bounds_by types (definition types ty)
+
+abbrev pub set_of_type : List TypeDef → Place → Sort → Option TypeId → List Span → Judgement Constant
+set_of_type types place s ty spans =
+    asking (rule (broken place rules.Listed) (are_spans s (base_bounds types ty) spans) (AreSpans s (base_bounds types ty) spans) tt) (typed_set place ty spans)
+
 abbrev pub set_by : List TypeDef → Place → Option Sort → List Span → Judgement Constant
 set_by types place None spans = makes (set_constant set_of_byte [])
-set_by types place (Some s) spans = asking (rule (broken place rules.Listed) (are_spans s spans) (AreSpans s spans) tt) (typed_set place (set_over types s) spans)
+set_by types place (Some s) spans = set_of_type types place s (set_over types s) spans
 
 -- A set constructor at a place: ordinals of one host in 0..255, and the set over all of that host.
 unfoldable pub set_of : List TypeDef → Place → List Span → Judgement Constant

@@ -4,6 +4,7 @@ use Rattle.type_layout.specs.declared.definitions.TypeId.{TypeId}
 use Rattle.type_layout.specs.declared.definitions.TypeDef.{TypeDef}
 use Rattle.type_layout.specs.declared.definitions.Host.TheVariants as host
 use Rattle.type_layout.specs.declared.texts.Place.{Place}
+use Rattle.type_layout.specs.Layouts.{bounds_at}
 use Rattle.type_layout.specs.Storage.{holds}
 use Rattle.tp_lexer.specs.declared.token.Feature.{Feature}
 use Rattle.left_out_names.specs.Names.{feature_of}
@@ -19,8 +20,9 @@ use Rattle.values.specs.Bits.{conjunction, hi, lo, swapped, absolute}
 use Rattle.values.specs.Strings.{upper}
 use Rattle.typing_rules.specs.declared.faults.Rule.TheVariants as rules
 use Rattle.typing_rules.specs.declared.sorts.Sort.{Sort}
-use Rattle.typing_rules.specs.Faults.{broken, not_yet, undeclared}
+use Rattle.typing_rules.specs.Faults.{broken, undeclared}
 use Rattle.typing_rules.specs.Judgements.{Judgement, makes, refuses, rule, either}
+use Rattle.typing_rules.specs.Selectors.{asking}
 use Rattle.typing_rules.specs.Sorts.{sort_of_type, sort_of_constant}
 use Rattle.typing_rules.specs.Plans.{is_integer}
 use Rattle.standard_rules.specs.declared.signatures.Signature.{Signature}
@@ -31,7 +33,7 @@ use Rattle.constant_expressions.specs.declared.constants.Constant.{Constant}
 use Rattle.constant_expressions.specs.declared.functions.Function.{Function}
 use Rattle.constant_expressions.specs.declared.functions.Function.TheVariants.{Abs, Odd, Ord, Chr, Succ, Pred, Hi, Lo, Swap, UpCase, Length}
 use Rattle.constant_expressions.specs.declared.functions.StandardFunction.{StandardFunction}
-use Rattle.constant_expressions.specs.Values.{integer, truth, character, number_of, bytes_of}
+use Rattle.constant_expressions.specs.Values.{integer, truth, character, number_of, bytes_of, IsWithin, is_within}
 
 -- the functions that a constant may have, by their numbers among the standard routines
 unfoldable pub functions : List (ℕ × Function)
@@ -49,27 +51,34 @@ function_of number = function_in functions number
 
 -- ---- what they give
 
--- an integer wraps on 32 bits, any other ordinal in its byte
-abbrev pub stepped : TypeId → Sort → ℤ → Constant
-stepped ty s n = cond (is_integer s) (integer (kept LongInt n)) (record { ty = ty; value = value.Number (kept Byte n) })
+-- an ordinal within the bounds of its type
+abbrev pub bounded : Place → TypeId → ℤ × ℤ → ℤ → Judgement Constant
+bounded place ty bounds n = rule (broken place rules.Constant) (is_within bounds n) (IsWithin bounds n) (record { ty = ty; value = value.Number n })
+
+-- an integer as it is kept on 32 bits, or another ordinal as its byte keeps it, which has to be a value of its type
+abbrev pub stepped_to : Place → TypeId → Sort → ℤ × ℤ → ℤ → ℤ → Judgement Constant
+stepped_to place ty s bounds whole byte = either (is_integer s) (makes (integer whole)) (bounded place ty bounds byte)
+
+abbrev pub stepped : Place → TypeId → Sort → ℤ × ℤ → ℤ → Judgement Constant
+stepped place ty s bounds n = stepped_to place ty s bounds (kept LongInt n) (kept Byte n)
 
 -- the type of 16 bits that holds a number
 abbrev pub short_type : ℤ → IntegerType
 short_type n = cond (holds host.Integer n n) Integer Word
 
 -- a string has at most 255 bytes
-abbrev pub applied : Function → TypeId → Sort → Value → Constant
-applied Abs ty s v = integer (absolute LongInt (number_of v))
-applied Odd ty s v = truth (conjunction LongInt (number_of v) (pos 1))
-applied Ord ty s v = integer (number_of v)
-applied Chr ty s v = character (lo (number_of v))
-applied Succ ty s v = stepped ty s (number_of v +ℤ pos 1)
-applied Pred ty s v = stepped ty s (number_of v -ℤ pos 1)
-applied Hi ty s v = integer (pos (hi (number_of v)))
-applied Lo ty s v = integer (pos (lo (number_of v)))
-applied Swap ty s v = integer (swapped (short_type (number_of v)) (number_of v))
-applied UpCase ty s v = character (upper (lo (number_of v)))
-applied Length ty s v = integer (pos (min (length (bytes_of v)) 255))
+abbrev pub applied : List TypeDef → Place → Function → TypeId → Sort → Value → Judgement Constant
+applied types place Abs ty s v = makes (integer (absolute LongInt (number_of v)))
+applied types place Odd ty s v = makes (truth (conjunction LongInt (number_of v) (pos 1)))
+applied types place Ord ty s v = makes (integer (number_of v))
+applied types place Chr ty s v = makes (character (lo (number_of v)))
+applied types place Succ ty s v = stepped place ty s (bounds_at types ty) (number_of v +ℤ pos 1)
+applied types place Pred ty s v = stepped place ty s (bounds_at types ty) (number_of v -ℤ pos 1)
+applied types place Hi ty s v = makes (integer (pos (hi (number_of v))))
+applied types place Lo ty s v = makes (integer (pos (lo (number_of v))))
+applied types place Swap ty s v = makes (integer (swapped (short_type (number_of v)) (number_of v)))
+applied types place UpCase ty s v = makes (character (upper (lo (number_of v))))
+applied types place Length ty s v = makes (integer (pos (min (length (bytes_of v)) 255)))
 
 -- ---- which of them is called
 
@@ -81,9 +90,9 @@ abbrev pub chosen : Place → ℕ → Option Function → Judgement StandardFunc
 chosen place number None = refuses (broken place rules.Constant)
 chosen place number (Some function) = makes (record { function = function; number = number })
 
--- SizeOf, which is number 12, takes types and is not built yet; a conversion or a call of another routine is no constant
+-- a conversion or a call of another routine is no constant
 abbrev pub function_entry : Place → Entry → Judgement StandardFunction
-function_entry place (entry.Std number) = either (number == 12) (refuses (not_yet place)) (chosen place number (function_of number))
+function_entry place (entry.Std number) = chosen place number (function_of number)
 function_entry place _ = refuses (broken place rules.Constant)
 
 abbrev pub function_meant : Place → Option Feature → Option Meaning → Judgement StandardFunction
@@ -109,9 +118,12 @@ abbrev pub is_taken : Option Signature → Sort → Bool
 is_taken None s = false
 is_taken (Some one) s = accepts one.shape (s ∷ [])
 
+abbrev pub called_on : List TypeDef → Place → StandardFunction → Sort → Constant → Judgement Constant
+called_on types place f s x =
+    asking (rule (broken place rules.Called) (is_taken (signature_of f.number) s) (IsTaken (signature_of f.number) s) tt)
+    (applied types place f.function x.ty (sort_of_type types x.ty) x.value)
+
 -- the call of a function at a place; it has one argument
 abbrev pub called_with : List TypeDef → Place → StandardFunction → List Constant → Judgement Constant
-called_with types place f (x ∷ []) =
-    rule (broken place rules.Called) (is_taken (signature_of f.number) (sort_of_constant types x.ty x.value)) (IsTaken (signature_of f.number) (sort_of_constant types x.ty x.value))
-    (applied f.function x.ty (sort_of_type types x.ty) x.value)
+called_with types place f (x ∷ []) = called_on types place f (sort_of_constant types x.ty x.value) x
 called_with types place f _ = refuses (broken place rules.Called)

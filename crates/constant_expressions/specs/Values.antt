@@ -1,5 +1,5 @@
 -- Operators on constants. Integers are computed on 32 bits and wrap there.
-use Rattle.std.specs.Prelude.{ℕ, ℤ, pos, ◌+ℤ◌, ◌-ℤ◌, ◌*ℤ◌, unsigned_abs, Bool, true, false, cond, List, [], ◌∷◌, Option, Some, None}
+use Rattle.std.specs.Prelude.{ℕ, ℤ, pos, ◌+ℤ◌, ◌-ℤ◌, ◌*ℤ◌, ◌≤ℤ◌, int_le, unsigned_abs, Bool, true, false, ◌&&◌, cond, List, [], ◌∷◌, Option, Some, None}
 use Rattle.std.specs.Ordering.{int_eq}
 use Rattle.type_layout.specs.declared.definitions.TypeId.{TypeId}
 use Rattle.type_layout.specs.declared.definitions.TypeDef.{TypeDef}
@@ -70,13 +70,24 @@ abbrev pub elements_of : Value → List ℕ
 elements_of (value.Elements elements) = elements
 elements_of _ = []
 
+-- ---- bounds
+
+abbrev pub IsWithin : ℤ × ℤ → ℤ → Type 0
+IsWithin bounds n = (bounds.0 ≤ℤ n) × (n ≤ℤ bounds.1)
+
+abbrev pub is_within : ℤ × ℤ → ℤ → Bool
+is_within bounds n = int_le bounds.0 n && int_le n bounds.1
+
 -- ---- numbers
 
 -- nothing where the divisor is 0
 abbrev pub divided : ℤ → ℤ → Option ℤ
 divided b n = cond (int_eq b (pos 0)) None (Some n)
 
--- Booleans are 0 and 1, and are computed as such
+-- what an operator takes of an ordinal: an integer as it is, a Boolean as 0 or 1; it is true where it isn't 0
+abbrev pub taken : Sort → ℤ → ℤ
+taken s n = cond (is_integer s) n (cond (int_eq n (pos 0)) (pos 0) (pos 1))
+
 abbrev pub computed : BinaryOp → ℤ → ℤ → Option ℤ
 computed op.Add a b = Some (kept LongInt (a +ℤ b))
 computed op.Subtract a b = Some (kept LongInt (a -ℤ b))
@@ -127,7 +138,7 @@ numbered place s (Some n) = makes (of_sort s n)
 abbrev pub combined_values : Place → BinaryOp → Sort → Option SetBase → Constant → Constant → Judgement Constant
 combined_values place one s (Some base) a b = makes (sets_combined one base a b)
 combined_values place one s None a b =
-    either (is_text s) (makes (text (joined (bytes_of a.value) (bytes_of b.value)))) (numbered place s (computed one (number_of a.value) (number_of b.value)))
+    either (is_text s) (makes (text (joined (bytes_of a.value) (bytes_of b.value)))) (numbered place s (computed one (taken s (number_of a.value)) (taken s (number_of b.value))))
 
 abbrev pub combined_by : Place → BinaryOp → Sort → Sort → Constant → Constant → Judgement Constant
 combined_by place one s t a b =

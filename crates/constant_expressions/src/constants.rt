@@ -1,15 +1,16 @@
 //! Constants by themselves, and literals.
 
 ghost use Rattle.std.specs.Prelude.{◌≡◌, IfOk, Ok};
+ghost use Rattle.type_layout.specs.Layouts.{bounds_at};
 ghost use Rattle.typing_rules.specs.Judgements.{Gives};
 ghost use Rattle.constant_expressions.specs.Values.{itself, integer, truth, character, every_byte, set_constant, number_of, bytes_of, elements_of};
 ghost use Rattle.constant_expressions.specs.Constants.{of_text, of_control};
 
 use scopes::{BOOLEAN, CHAR, STRING};
 use std::alloc::{AllocError, Global};
-use type_layout::{Bytes, Host, TypeId};
+use type_layout::{Bytes, Host, TypeDef, TypeId, Types};
 use typed_tree::Value;
-use typing_rules::{Refusal, number_type};
+use typing_rules::{Refusal, definition, number_type};
 use values::sets::{intersection, ordinals_between};
 
 /// The value of a constant expression, and its type.
@@ -36,6 +37,16 @@ pub(crate) fn truth(number: i32) -> Constant
     Constant {
         ty: BOOLEAN,
         value: Value::Number(number),
+    }
+}
+
+/// The bounds of an ordinal type, (0, 0) of any other.
+pub fn bounds_at(types: &Types, ty: TypeId) -> (i32, i32)
+    ensures { result ≡ bounds_at types.now.types ty }
+{
+    match definition(types, ty) {
+        Some(TypeDef::Ordinal { low, high, .. }) => (*low, *high),
+        _ => (0, 0),
     }
 }
 

@@ -1,16 +1,19 @@
 //! Set constructors of constants.
 
 ghost use Rattle.std.specs.Prelude.{◌≡◌, IfOk, [], Some};
+ghost use Rattle.std.specs.Option.{option_copied};
 ghost use Rattle.typing_rules.specs.Judgements.{Gives};
-ghost use Rattle.constant_expressions.specs.Values.{itself};
-ghost use Rattle.constant_expressions.specs.Constructors.{ordinal_of, is_element, is_span, are_spans, first_sort, byte_of, elements_with, set_by, set_of};
+ghost use Rattle.constant_expressions.specs.Values.{is_within, itself};
+ghost use Rattle.constant_expressions.specs.Constructors.{ordinal_of, is_element, is_span, are_spans, first_sort, byte_of, elements_with, bounds_by, base_bounds, set_by, set_of};
 
-use crate::constants::{Constant, number_of, set_constant};
+use crate::constants::{Constant, bounds_at, number_of, set_constant};
 use scopes::SET_OF_BYTE;
 use set_rules::set_over;
 use std::alloc::{AllocError, Global};
-use type_layout::{Host, Place, Types};
-use typing_rules::{Refusal, Rule, Sort, are_of_one_host, broken, not_yet, sort_of_type};
+use type_layout::{Host, Place, TypeDef, TypeId, Types};
+use typing_rules::{
+    Refusal, Rule, Sort, are_of_one_host, broken, definition, not_yet, sort_of_type,
+};
 use values::sets::with_range;
 
 /// A constant in a set constructor: what it is, and its number if it is an ordinal.
@@ -37,24 +40,32 @@ pub(crate) fn ordinal_of(types: &Types, constant: &Constant) -> Ordinal
     }
 }
 
-fn is_element(sort: Sort, one: Ordinal) -> bool
-    ensures { result ≡ is_element sort one }
+fn is_within(bounds: (i32, i32), number: i32) -> bool
+    ensures { result ≡ is_within bounds number }
 {
-    are_of_one_host(sort, one.sort) && Host::Byte.holds(one.number, one.number)
+    bounds.0 <= number && number <= bounds.1
 }
 
-fn is_span(sort: Sort, one: Span) -> bool
-    ensures { result ≡ is_span sort one }
+fn is_element(sort: Sort, bounds: (i32, i32), one: Ordinal) -> bool
+    ensures { result ≡ is_element sort bounds one }
 {
-    is_element(sort, one.low) && is_element(sort, one.high)
+    let number = one.number;
+    are_of_one_host(sort, one.sort)
+        && (Host::Byte.holds(number, number) && is_within(bounds, number))
 }
 
-// Whether all are ordinals of a host in 0..255.
-fn are_spans(sort: Sort, spans: &[Span]) -> bool
-    ensures { result ≡ are_spans sort spans.now }
+fn is_span(sort: Sort, bounds: (i32, i32), one: Span) -> bool
+    ensures { result ≡ is_span sort bounds one }
+{
+    is_element(sort, bounds, one.low) && is_element(sort, bounds, one.high)
+}
+
+// Whether all are ordinals of a host in 0..255, within the bounds of what the set is over.
+fn are_spans(sort: Sort, bounds: (i32, i32), spans: &[Span]) -> bool
+    ensures { result ≡ are_spans sort bounds spans.now }
 {
     for one in spans {
-        if !is_span(sort, *one) {
+        if !is_span(sort, bounds, *one) {
             return false;
         }
     }
@@ -90,6 +101,25 @@ fn elements_of(alloc: Global, spans: &[Span]) -> Result<Vec<u8>, AllocError>
     Ok(elements)
 }
 
+// The bounds of what a set of a type is over.
+fn base_bounds(types: &Types, ty: Option<TypeId>) -> (i32, i32)
+    ensures { result ≡ base_bounds types.now.types ty }
+{
+    match ty {
+        Some(ty) => bounds_by(types, definition(types, ty)),
+        None => (0, 255),
+    }
+}
+
+fn bounds_by(types: &Types, one: Option<&TypeDef>) -> (i32, i32)
+    ensures { result ≡ bounds_by types.now.types (option_copied one.entry) }
+{
+    match one {
+        Some(TypeDef::SetOf { base }) => bounds_at(types, *base),
+        _ => (0, 255),
+    }
+}
+
 // The set of spans that begin with an ordinal of a sort.
 fn set_by(
     alloc: Global,
@@ -100,10 +130,11 @@ fn set_by(
 ) -> Result<Constant, Refusal>
     ensures { Gives itself result (set_by types.now.types place (Some sort) spans.now).run }
 {
-    if !are_spans(sort, spans) {
+    let over = set_over(types, sort);
+    if !are_spans(sort, base_bounds(types, over), spans) {
         return Err(Refusal::Because(broken(place, Rule::Listed)));
     }
-    match set_over(types, sort) {
+    match over {
         None => Err(Refusal::Because(not_yet(place))),
         Some(ty) => {
             let elements = elements_of(alloc, spans)?;

@@ -2,8 +2,9 @@
 
 ghost use Rattle.std.specs.Prelude.{◌≡◌, []};
 ghost use Rattle.typing_rules.specs.Judgements.{Gives};
-ghost use Rattle.expression_tree.specs.Trees.{set, call, begins, view_argument, view_arguments, view_element, view_elements, view_expression, view_simple, view_term, view_factor, view_designator};
+ghost use Rattle.expression_tree.specs.Trees.{set, call, begins, sole_designator, view_argument, view_arguments, view_element, view_elements, view_expression, view_simple, view_term, view_factor, view_designator};
 ghost use Rattle.constant_expressions.specs.Values.{itself};
+ghost use Rattle.constant_expressions.specs.Sizes.{size_called};
 ghost use Rattle.constant_expressions.specs.Constants.{marked, judged, operands_judged, operand_judged, spans_judged, span_judged};
 
 use crate::constants::{Constant, integer, of_control, of_text};
@@ -11,7 +12,8 @@ use crate::constructors::{Span, ordinal_of, set_of};
 use crate::functions::{called_with, function_named};
 use crate::names::of_name;
 use crate::operations::{combined, negated, signed};
-use expression_tree::{begins, of_adder, of_multiplier, of_relator, of_sign};
+use crate::sizes::{asks_size, sized};
+use expression_tree::{begins, of_adder, of_multiplier, of_relator, of_sign, sole_designator};
 use pascal_grammar::Position;
 use scopes::Scope;
 use std::alloc::Global;
@@ -136,9 +138,31 @@ fn of_call(
     ensures { Gives itself result (judged scope.now (call (begins callee.now) (view_designator callee.now) (view_arguments arguments.now))).run }
 {
     let place = begins(callee).place;
+    if asks_size(scope, callee) {
+        return size_called(alloc, arguments, place, scope);
+    }
     let function = function_named(scope, place, callee)?;
     let operands = operands_of(alloc, arguments, place, scope)?;
     called_with(scope.types(), place, function, operands.as_slice())
+}
+
+// SizeOf before its arguments.
+#[cycle(parts)]
+fn size_called(
+    alloc: Global,
+    arguments: &[Argument],
+    place: Place,
+    scope: &Scope,
+) -> Result<Constant, Refusal>
+    ensures { Gives itself result (size_called scope.now place (sole_designator (view_arguments arguments.now)) (operands_judged scope.now place [] (view_arguments arguments.now))).run }
+{
+    match sole_designator(arguments) {
+        Some(operand) => sized(scope, place, operand),
+        None => {
+            let _operands = operands_of(alloc, arguments, place, scope)?;
+            Err(Refusal::Because(broken(place, Rule::Called)))
+        }
+    }
 }
 
 #[cycle(parts)]

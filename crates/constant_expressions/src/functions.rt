@@ -1,13 +1,14 @@
 //! Standard functions of constants.
 
-ghost use Rattle.std.specs.Prelude.{◌≡◌, [], ◌∷◌, length, min};
+ghost use Rattle.std.specs.Prelude.{◌≡◌, [], ◌∷◌, length, min, pos, ◌+ℤ◌, ◌-ℤ◌};
+ghost use Rattle.values.specs.Ordinals.{kept};
 ghost use Rattle.typing_rules.specs.Judgements.{Gives};
 ghost use Rattle.expression_tree.specs.Trees.{view_designator};
 ghost use Rattle.standard_rules.specs.Signatures.{signature_of};
 ghost use Rattle.constant_expressions.specs.Values.{itself, bytes_of};
-ghost use Rattle.constant_expressions.specs.Functions.{same_one, function_in, function_of, stepped, short_type, applied, chosen, function_entry, function_at, function_named, is_taken, called_with};
+ghost use Rattle.constant_expressions.specs.Functions.{same_one, function_in, function_of, bounded, stepped_to, short_type, applied, chosen, function_entry, function_at, function_named, is_taken, called_with};
 
-use crate::constants::{Constant, bytes_of, character, integer, number_of, truth};
+use crate::constants::{Constant, bounds_at, character, integer, number_of, truth};
 use left_out_names::feature_of;
 use scopes::{Entry, Found, Scope};
 use standard_rules::{accepts_one, signature_of};
@@ -15,7 +16,7 @@ use syntax_tree::Designator;
 use type_layout::{Host, Name, Place, TypeId, Types};
 use typed_tree::Value;
 use typing_rules::{
-    Refusal, Rule, Sort, broken, is_integer, not_yet, sort_of_constant, sort_of_type, undeclared,
+    Refusal, Rule, Sort, broken, is_integer, sort_of_constant, sort_of_type, undeclared,
 };
 use values::bits::{absolute, bitwise_and, first_byte, second_byte, swapped};
 use values::ordinals::{IntegerType, kept};
@@ -81,18 +82,48 @@ fn function_of(number: u32) -> Option<Function>
     function_in(&FUNCTIONS, number)
 }
 
-// An integer wraps on 32 bits, any other ordinal in its byte.
-fn stepped(ty: TypeId, sort: Sort, number: i64) -> Constant
-    ensures { result ≡ stepped ty sort number }
+// An ordinal within the bounds of its type.
+fn bounded(place: Place, ty: TypeId, bounds: (i32, i32), number: i32) -> Result<Constant, Refusal>
+    ensures { Gives itself result (bounded place ty bounds number).run }
+{
+    if bounds.0 <= number && number <= bounds.1 {
+        Ok(Constant {
+            ty,
+            value: Value::Number(number),
+        })
+    } else {
+        Err(Refusal::Because(broken(place, Rule::Constant)))
+    }
+}
+
+// An integer as it is kept on 32 bits, or another ordinal as its byte keeps it, which has to be a value of its type.
+fn stepped_to(
+    place: Place,
+    ty: TypeId,
+    sort: Sort,
+    bounds: (i32, i32),
+    whole: i32,
+    byte: i32,
+) -> Result<Constant, Refusal>
+    ensures { Gives itself result (stepped_to place ty sort bounds whole byte).run }
 {
     if is_integer(sort) {
-        integer(kept(IntegerType::LongInt, number))
+        Ok(integer(whole))
     } else {
-        Constant {
-            ty,
-            value: Value::Number(kept(IntegerType::Byte, number)),
-        }
+        bounded(place, ty, bounds, byte)
     }
+}
+
+fn next(host: IntegerType, number: i32) -> i32
+    ensures { result ≡ kept host (number +ℤ pos 1) }
+{
+    kept(host, i64::from(number) + 1)
+}
+
+fn previous(host: IntegerType, number: i32) -> i32
+    ensures { result ≡ kept host (number -ℤ pos 1) }
+{
+    kept(host, i64::from(number) - 1)
 }
 
 // The type of 16 bits that holds a number.
@@ -117,24 +148,51 @@ fn text_length(value: &Value) -> u8
     }
 }
 
-// What a function gives for a constant of a sort.
-fn applied(function: Function, ty: TypeId, sort: Sort, value: &Value) -> Constant
-    ensures { result ≡ applied function ty sort value.now }
+// What a function gives for a constant of a sort, in a call at a place.
+fn applied(
+    types: &Types,
+    place: Place,
+    function: Function,
+    sort: Sort,
+    operand: &Constant,
+) -> Result<Constant, Refusal>
+    ensures { Gives itself result (applied types.now.types place function operand.now.ty sort operand.now.value).run }
 {
     let wide = IntegerType::LongInt;
-    let number = number_of(value);
+    let byte = IntegerType::Byte;
+    let ty = operand.ty;
+    let number = number_of(&operand.value);
+    let bounds = bounds_at(types, ty);
     match function {
-        Function::Abs => integer(absolute(wide, number)),
-        Function::Odd => truth(bitwise_and(wide, number, 1)),
-        Function::Ord => integer(number),
-        Function::Chr => character(first_byte(number)),
-        Function::Succ => stepped(ty, sort, i64::from(number) + 1),
-        Function::Pred => stepped(ty, sort, i64::from(number) - 1),
-        Function::Hi => integer(i32::from(second_byte(number))),
-        Function::Lo => integer(i32::from(first_byte(number))),
-        Function::Swap => integer(swapped(short_type(number), number)),
-        Function::UpCase => character(upper(first_byte(number))),
-        Function::Length => integer(i32::from(text_length(value))),
+        Function::Abs => Ok(integer(absolute(wide, number))),
+        Function::Odd => Ok(truth(bitwise_and(wide, number, 1))),
+        Function::Ord => Ok(integer(number)),
+        Function::Chr => Ok(character(first_byte(number))),
+        Function::Succ => {
+            stepped_to(
+                place,
+                ty,
+                sort,
+                bounds,
+                next(wide, number),
+                next(byte, number),
+            )
+        }
+        Function::Pred => {
+            stepped_to(
+                place,
+                ty,
+                sort,
+                bounds,
+                previous(wide, number),
+                previous(byte, number),
+            )
+        }
+        Function::Hi => Ok(integer(i32::from(second_byte(number)))),
+        Function::Lo => Ok(integer(i32::from(first_byte(number)))),
+        Function::Swap => Ok(integer(swapped(short_type(number), number))),
+        Function::UpCase => Ok(character(upper(first_byte(number)))),
+        Function::Length => Ok(integer(i32::from(text_length(&operand.value)))),
     }
 }
 
@@ -155,7 +213,6 @@ fn function_entry(place: Place, entry: &Entry) -> Result<StandardFunction, Refus
     ensures { Gives same_one result (function_entry place entry.now).run }
 {
     match entry {
-        Entry::Std { number } if *number == 12 => Err(Refusal::Because(not_yet(place))),
         Entry::Std { number } => chosen(place, *number, function_of(*number)),
         Entry::Const { .. } | Entry::Ty { .. } | Entry::Var { .. } | Entry::Code { .. } => {
             Err(Refusal::Because(broken(place, Rule::Constant)))
@@ -213,7 +270,7 @@ fn called_on(
         return Err(Refusal::Because(broken(place, Rule::Called)));
     }
     let own = sort_of_type(types, operand.ty);
-    Ok(applied(chosen.function, operand.ty, own, &operand.value))
+    applied(types, place, chosen.function, own, operand)
 }
 
 /// The value of a function's call at a place.

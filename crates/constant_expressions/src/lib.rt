@@ -8,7 +8,8 @@ mod expressions;
 mod functions;
 mod names;
 mod operations;
+mod sizes;
 
 pub use check::{check_constant, constant_laws};
-pub use constants::{Constant, bytes_of, elements_of, number_of};
+pub use constants::{Constant, bounds_at, bytes_of, elements_of, number_of};
 pub use expressions::constant_of;

@@ -2,7 +2,7 @@
 
 ghost use Rattle.std.specs.Prelude.{◌≡◌, Ok, Some, IfOk};
 ghost use Rattle.typing_rules.specs.Judgements.{Gives};
-ghost use Rattle.constant_expressions.specs.Values.{itself, text, bytes_of, computed, compares, elements_of, base_in, elements_combined, sets_combined, of_sort, numbered, combined_values, combined, signed, turned, negated};
+ghost use Rattle.constant_expressions.specs.Values.{itself, text, bytes_of, taken, computed, compares, elements_of, base_in, elements_combined, sets_combined, of_sort, numbered, combined_values, combined, signed, turned, negated};
 ghost use Rattle.typing_rules.specs.Plans.{set_type};
 ghost use Rattle.values.specs.Strings.{joined};
 
@@ -21,6 +21,19 @@ use values::sets::{difference, intersection, union};
 use values::strings::joined;
 
 const WIDE: IntegerType = IntegerType::LongInt;
+
+// What an operator takes of an ordinal: an integer as it is, a Boolean as 0 or 1.
+fn taken(sort: Sort, number: i32) -> i32
+    ensures { result ≡ taken sort number }
+{
+    if is_integer(sort) {
+        number
+    } else if number == 0 {
+        0
+    } else {
+        1
+    }
+}
 
 // An operator on 32 bits; nothing where a divisor is 0.
 fn computed(op: BinaryOp, left: i32, right: i32) -> Option<i32>
@@ -150,8 +163,9 @@ fn combined_values(
         Some(base) => sets_combined(alloc, op, base, left, right),
         None if is_text(sort) => join(alloc, &left.value, &right.value),
         None => {
-            let number = computed(op, number_of(&left.value), number_of(&right.value));
-            numbered(place, sort, number)
+            let first = taken(sort, number_of(&left.value));
+            let second = taken(sort, number_of(&right.value));
+            numbered(place, sort, computed(op, first, second))
         }
     }
 }

@@ -1,7 +1,7 @@
 //! Arithmetic, shifts and conditions: what they make of operands and flags.
 
 ghost use Rattle.std.specs.Prelude.{◌≡◌, ◌<◌, ◌*◌};
-ghost use Rattle.cpu_8086.specs.Arithmetic.{size};
+ghost use Rattle.cpu_8086.specs.Arithmetic.{size, sign_extend};
 ghost use Rattle.cpu_8086.specs.Effect.{with_flags, alu_op, counted, width_of, accumulator, dividend, with_halves, with_product, multiplied, multiplied_signed, count_of, zero_and_sign, with_shift_flags, holds, jump_by, jump_if};
 ghost use Rattle.cpu_8086.specs.Direct.{with_result_byte, with_result_word, alu_on_byte, alu_on_word, alu_on_pair, alu_on_immediate, negated, divided_by, unary_on, shifted_to, shifted_by};
 
@@ -18,7 +18,7 @@ use x86_table::{
 };
 
 /// The operator of an instruction that takes a sign-extended byte.
-pub fn alu_op(op: ShortOp) -> AluOp
+fn alu_op(op: ShortOp) -> AluOp
     ensures { result ≡ alu_op op }
 {
     match op {
@@ -225,7 +225,7 @@ impl Hardware {
 
     #[tactic(auto, unfolding(crate::specs::Direct::alu_on_word))]
     #[inline(always)]
-    pub(crate) fn alu_word(&mut self, op: AluOp, operand: &WordOperand, number: u16)
+    fn alu_word(&mut self, op: AluOp, operand: &WordOperand, number: u16)
         ensures { self.new ≡ alu_on_word self.old op operand.now number }
     {
         let value = self.word_value(operand);
@@ -236,7 +236,6 @@ impl Hardware {
     }
 
     #[tactic(auto, unfolding(crate::specs::Direct::alu_on_pair))]
-    #[inline(always)]
     pub(crate) fn alu_pair(&mut self, op: AluOp, pair: &Pair)
         ensures { self.new ≡ alu_on_pair self.old op pair.now }
     {
@@ -261,7 +260,6 @@ impl Hardware {
     }
 
     #[tactic(auto, unfolding(crate::specs::Direct::alu_on_immediate))]
-    #[inline(always)]
     pub(crate) fn alu_immediate(&mut self, op: AluOp, immediate: &Immediate)
         ensures { self.new ≡ alu_on_immediate self.old op immediate.now }
     {
@@ -269,6 +267,13 @@ impl Hardware {
             Immediate::Byte(operand, number) => self.alu_byte(op, operand, *number),
             Immediate::Word(operand, number) => self.alu_word(op, operand, *number),
         }
+    }
+
+    /// An operator of a word and a sign-extended byte.
+    pub(crate) fn alu_short(&mut self, op: ShortOp, operand: &WordOperand, number: u8)
+        ensures { self.new ≡ alu_on_word self.old (alu_op op) operand.now (sign_extend number) }
+    {
+        self.alu_word(alu_op(op), operand, sign_extend(number));
     }
 
     #[tactic(auto, unfolding(crate::specs::Direct::negated))]

@@ -4,13 +4,14 @@ ghost use Rattle.std.specs.Prelude.{◌≡◌};
 ghost use Rattle.cpu_8086.specs.Direct.{direct};
 
 use crate::arithmetic::{add, sign_extend, subtract, top};
-use crate::compute::alu_op;
 use crate::hardware::Hardware;
 use crate::machine::Event;
 use x86_table::{Instr, Width};
 
 impl Hardware {
-    /// Does what an instruction does. IP is already that of the next one.
+    /// Does what an instruction does. IP is already that of the next one. A step inlines this, and a hint to inline a
+    /// very large function is dropped: so of the kinds only the short ones that programs are full of are inlined here,
+    /// and the others are functions.
     #[tactic(auto, unfolding(crate::specs::Direct::direct))]
     #[inline(always)]
     pub(crate) fn execute(&mut self, instr: &Instr) -> Event
@@ -22,26 +23,15 @@ impl Hardware {
             Instr::MovImmediate(immediate) => self.move_immediate(immediate),
             Instr::MovByte(register, value) => self.registers.set_byte_reg(*register, *value),
             Instr::MovWord(register, value) => self.registers.set_word_reg(*register, *value),
-            Instr::MovFromSeg(operand, register) => {
-                let value = self.seg_reg(*register);
-                self.set_word_value(operand, value);
-            }
-            Instr::MovToSeg(register, operand) => {
-                let value = self.word_value(operand);
-                self.registers.set_data_seg(*register, value);
-            }
+            Instr::MovFromSeg(operand, register) => self.store_seg_reg(operand, *register),
+            Instr::MovToSeg(register, operand) => self.load_data_seg(*register, operand),
             Instr::Push(register) => self.push_register(*register),
             Instr::Pop(register) => self.pop_register(*register),
-            Instr::PushSeg(register) => {
-                let value = self.seg_reg(*register);
-                self.push(value);
-            }
+            Instr::PushSeg(register) => self.push_segment(*register),
             Instr::PopSeg(register) => self.pop_segment(*register),
             Instr::Alu(op, pair) => self.alu_pair(*op, pair),
             Instr::AluImmediate(op, immediate) => self.alu_immediate(*op, immediate),
-            Instr::AluShort(op, operand, number) => {
-                self.alu_word(alu_op(*op), operand, sign_extend(*number));
-            }
+            Instr::AluShort(op, operand, number) => self.alu_short(*op, operand, *number),
             Instr::Unary(op, target) => {
                 let value = self.target_value(target);
                 return self.unary(*op, target, value);
@@ -63,10 +53,7 @@ impl Hardware {
                 let sign = top(Width::Word, self.registers.ax);
                 self.registers.dx = if sign { 0xffff } else { 0 };
             }
-            Instr::Lea(register, memory) => {
-                let offset = self.registers.offset_of(&memory.place);
-                self.registers.set_word_reg(*register, offset);
-            }
+            Instr::Lea(register, memory) => self.registers.load_offset(*register, memory),
             Instr::Les(register, memory) => {
                 let offset = self.first_word(memory);
                 self.registers.es = self.second_word(memory);
@@ -89,10 +76,7 @@ impl Hardware {
                 self.call(offset);
             }
             Instr::CallFar(offset, segment) => self.call_far(*segment, *offset),
-            Instr::CallIndirect(operand) => {
-                let offset = self.word_value(operand);
-                self.call(offset);
-            }
+            Instr::CallIndirect(operand) => self.call_indirect(operand),
             Instr::CallFarIndirect(memory) => {
                 let offset = self.first_word(memory);
                 let segment = self.second_word(memory);

@@ -3,7 +3,8 @@
 ghost use Rattle.std.specs.Prelude.{◌≡◌};
 ghost use Rattle.cpu_8086.specs.Access.{lowered, raised};
 ghost use Rattle.cpu_8086.specs.Effect.{index_after, indices_after};
-ghost use Rattle.cpu_8086.specs.Direct.{moved_pair, moved_immediate, pushed, pushed_register, top_word, popped_register, popped_segment, first_word, second_word, exchanged, called, called_far, returned, returned_far, moved_byte, moved_bytes, moved_from};
+ghost use Rattle.cpu_8086.specs.Operand.{with_word_reg, with_data_seg, offset_of};
+ghost use Rattle.cpu_8086.specs.Direct.{with_registers, seg_reg, word_value, with_word, moved_pair, moved_immediate, pushed, pushed_register, top_word, popped_register, popped_segment, first_word, second_word, exchanged, called, called_far, returned, returned_far, moved_byte, moved_bytes, moved_from};
 
 use crate::hardware::Hardware;
 use crate::registers::Registers;
@@ -45,9 +46,18 @@ impl Registers {
     }
 }
 
+impl Registers {
+    /// The effective address of an operand goes to a register.
+    pub(crate) fn load_offset(&mut self, register: WordReg, memory: &Memory)
+        ensures { self.new ≡ with_word_reg self.old register (offset_of self.old memory.now.place) }
+    {
+        let offset = self.offset_of(&memory.place);
+        self.set_word_reg(register, offset);
+    }
+}
+
 impl Hardware {
     #[tactic(auto, unfolding(crate::specs::Direct::moved_pair))]
-    #[inline(always)]
     pub(crate) fn move_pair(&mut self, pair: &Pair)
         ensures { self.new ≡ moved_pair self.old pair.now }
     {
@@ -72,7 +82,6 @@ impl Hardware {
     }
 
     #[tactic(auto, unfolding(crate::specs::Direct::moved_immediate))]
-    #[inline(always)]
     pub(crate) fn move_immediate(&mut self, immediate: &Immediate)
         ensures { self.new ≡ moved_immediate self.old immediate.now }
     {
@@ -82,9 +91,23 @@ impl Hardware {
         }
     }
 
+    pub(crate) fn store_seg_reg(&mut self, operand: &WordOperand, register: SegReg)
+        ensures { self.new ≡ with_word self.old operand.now (seg_reg self.old register) }
+    {
+        let value = self.seg_reg(register);
+        self.set_word_value(operand, value);
+    }
+
+    pub(crate) fn load_data_seg(&mut self, register: DataSeg, operand: &WordOperand)
+        ensures { self.new ≡ with_registers self.old (with_data_seg self.old.registers register (word_value self.old operand.now)) }
+    {
+        let value = self.word_value(operand);
+        self.registers.set_data_seg(register, value);
+    }
+
     #[tactic(auto, unfolding(crate::specs::Direct::pushed))]
     #[inline(always)]
-    pub(crate) fn push(&mut self, value: u16)
+    fn push(&mut self, value: u16)
         ensures { self.new ≡ pushed self.old value }
     {
         self.registers.lower();
@@ -104,6 +127,13 @@ impl Hardware {
         let offset = self.registers.sp;
         let word = self.registers.word_reg(register);
         self.store_word(segment, offset, word);
+    }
+
+    pub(crate) fn push_segment(&mut self, register: SegReg)
+        ensures { self.new ≡ pushed self.old (seg_reg self.old register) }
+    {
+        let value = self.seg_reg(register);
+        self.push(value);
     }
 
     /// The word at the top of the stack.
@@ -168,6 +198,14 @@ impl Hardware {
         let ip = self.registers.ip;
         self.push(ip);
         self.registers.ip = offset;
+    }
+
+    /// Calls the offset that a word holds.
+    pub(crate) fn call_indirect(&mut self, operand: &WordOperand)
+        ensures { self.new ≡ called self.old (word_value self.old operand.now) }
+    {
+        let offset = self.word_value(operand);
+        self.call(offset);
     }
 
     /// CS is pushed, then IP.

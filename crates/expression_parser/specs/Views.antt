@@ -2,6 +2,7 @@
 use Rattle.std.specs.Prelude.{List, [], ◌∷◌, Option, Some, None, Result, Ok}
 use Rattle.pascal_grammar.specs.declared.lexeme.Lexeme.{Lexeme}
 use Rattle.pascal_grammar.specs.declared.lexeme.Position.{Position}
+use Rattle.pascal_grammar.specs.declared.operator.Relator.{Relator}
 use Rattle.pascal_grammar.specs.declared.operator.Adder.{Adder}
 use Rattle.pascal_grammar.specs.declared.operator.Multiplier.{Multiplier}
 use Rattle.pascal_grammar.specs.Lexemes as v
@@ -40,6 +41,13 @@ arguments_of all more = of p.arguments (word ∷ (argument_list all more).0 ∷ 
 -- what was read before, and what is still read
 abbrev pub with_front : {A B : Type 0} → (A → B) → Result (A × List Lexeme) (Fault Production) → Result (B × List Lexeme) (Fault Production)
 with_front front read = read >>= λ x. Ok (front x.0, x.1)
+
+-- one simple expression, and two that are compared
+abbrev pub single_of : Parsed → Parsed
+single_of s = of p.expression (s ∷ of p.no_relation [] ∷ [])
+
+abbrev pub compared_of : Relator → Position → Parsed → Parsed → Parsed
+compared_of op here s t = of p.expression (s ∷ of p.relation (leaf (v.relator op here) ∷ t ∷ []) ∷ [])
 
 -- a term with the sign before it, and the terms behind it
 abbrev pub leading_of : Option PlacedSign → Parsed → Parsed → Parsed

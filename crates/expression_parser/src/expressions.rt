@@ -16,7 +16,7 @@ use crate::front::{
 };
 use crate::lexemes::{identifier, mark, skip};
 use crate::list::{Arguments, Elements};
-use crate::node::{element_of, group, leading, negation, product, sum};
+use crate::node::{compared, element_of, group, leading, lone, negation, product, single, sum};
 use crate::selector::{field_behind, target_behind};
 use pascal_grammar::{Kind, Lexeme, Omission};
 use std::alloc::Global;
@@ -35,15 +35,13 @@ pub fn next_expression(
 {
     let (left, rest) = next_simple(alloc, depth, lexemes)?;
     match relator(rest) {
-        None => Ok((Expression::Simple(left), rest)),
-        Some((relator, position)) => {
+        None => {
+            let whole = single(alloc, left)?;
+            Ok((whole, rest))
+        }
+        Some(operator) => {
             let (right, rest) = next_simple(alloc, depth, tail(rest))?;
-            let whole = Expression::Relation {
-                left,
-                relator,
-                position,
-                right,
-            };
+            let whole = compared(alloc, left, operator, right)?;
             Ok((whole, rest))
         }
     }
@@ -78,7 +76,7 @@ fn next_term(alloc: Global, depth: u32, lexemes: &[Lexeme]) -> Result<(Term, &[L
     ensures gives { Gives (λ x. (of_term x.0 (of no_factors []), x.1.now)) result (term_at (inside depth) lexemes.now) }
 {
     let (first, mut rest) = next_factor(alloc, depth, lexemes)?;
-    let mut all = Term::Factor(first);
+    let mut all = lone(alloc, first)?;
     let mut left = depth;
     'factors: while let Some(operator) = multiplier(rest) {
         left = deeper(left, rest)?;

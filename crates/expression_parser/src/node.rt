@@ -1,17 +1,47 @@
 //! Nodes of what was read.
 
 ghost use Rattle.std.specs.Prelude.{◌≡◌, IfErr, IfOk, List, [], ◌∷◌};
-ghost use Rattle.pascal_grammar.specs.Productions.{no_factors, no_selectors, group_factor, negation, dereference, field, last_index};
+ghost use Rattle.pascal_grammar.specs.Productions.{no_terms, term, no_factors, no_selectors, group_factor, negation, dereference, field, last_index};
 ghost use Rattle.syntax_tree.specs.Expressions.{Parsed, of, word, mark_at, name_of, closed, selector, of_expression, of_simple, of_term, of_factor};
-ghost use Rattle.expression_parser.specs.Views.{leading_of, added_of, multiplied_of, named_with, indexed_with, index_of};
+ghost use Rattle.expression_parser.specs.Views.{single_of, compared_of, leading_of, added_of, multiplied_of, named_with, indexed_with, index_of};
 ghost use Rattle.expression_parser.specs.declared.error.ReadError.TheVariants.{NoMemory};
 
 use crate::error::ReadError;
-use pascal_grammar::{Adder, Multiplier, Position};
+use pascal_grammar::{Adder, Multiplier, Position, Relator};
 use std::alloc::Global;
 use syntax_tree::{
     Designator, Expression, Factor, Identifier, IndexMark, PlacedSign, SimpleExpression, Term,
 };
+
+/// One simple expression, which is compared with nothing.
+pub fn single(alloc: Global, simple: SimpleExpression) -> Result<Expression, ReadError>
+    ensures ok { IfOk result (λ x. of_expression x ≡ single_of (of_simple simple (of no_terms []))) }
+    ensures err { IfErr result (λ e. e ≡ NoMemory) }
+{
+    let simple = Box::new(alloc, simple)?;
+    Ok(Expression::Simple(simple))
+}
+
+/// Two simple expressions that are compared.
+pub fn compared(
+    alloc: Global,
+    left: SimpleExpression,
+    operator: (Relator, Position),
+    right: SimpleExpression,
+) -> Result<Expression, ReadError>
+    ensures ok { IfOk result (λ x. of_expression x ≡ compared_of operator.0 operator.1 (of_simple left (of no_terms [])) (of_simple right (of no_terms []))) }
+    ensures err { IfErr result (λ e. e ≡ NoMemory) }
+{
+    let (relator, position) = operator;
+    let left = Box::new(alloc, left)?;
+    let right = Box::new(alloc, right)?;
+    Ok(Expression::Relation {
+        left,
+        relator,
+        position,
+        right,
+    })
+}
 
 /// The first term, with the sign before it.
 pub fn leading(sign: Option<PlacedSign>, first: Term) -> SimpleExpression
@@ -45,6 +75,15 @@ pub fn sum(
     })
 }
 
+/// A factor as a term.
+pub fn lone(alloc: Global, factor: Factor) -> Result<Term, ReadError>
+    ensures ok { IfOk result (λ x. (more : Parsed) → of_term x more ≡ of term (of_factor factor ∷ more ∷ [])) }
+    ensures err { IfErr result (λ e. e ≡ NoMemory) }
+{
+    let factor = Box::new(alloc, factor)?;
+    Ok(Term::Factor(factor))
+}
+
 /// The product of what was read and one more factor.
 pub fn product(
     alloc: Global,
@@ -58,6 +97,7 @@ pub fn product(
 {
     let (multiplier, position) = operator;
     let left = Box::new(alloc, left)?;
+    let right = Box::new(alloc, right)?;
     Ok(Term::Product {
         left,
         multiplier,

@@ -1,5 +1,5 @@
 -- Expressions as operators and operands: the levels of the grammar, parentheses and where nodes lie in memory are left out.
-use Rattle.std.specs.Prelude.{ℕ, ℤ, List, [], ◌∷◌, Option, Some}
+use Rattle.std.specs.Prelude.{ℕ, ℤ, List, [], ◌∷◌, Option, Some, None}
 use Rattle.type_layout.specs.declared.texts.Place.{Place}
 use Rattle.pascal_grammar.specs.declared.lexeme.Position.{Position}
 use Rattle.pascal_grammar.specs.declared.operator.Relator.{Relator}
@@ -106,8 +106,8 @@ begins (d.Dereference' p o here) = begins o
 
 abbrev mutual
   pub view_expression : Expression → Tree
-  view_expression (e.Simple one) = view_simple one
-  view_expression (e.Relation left op here right) = combined here (of_relator op) (view_simple left) (view_simple right)
+  view_expression (e.Simple' p one) = view_simple one
+  view_expression (e.Relation' p left op here q right) = combined here (of_relator op) (view_simple left) (view_simple right)
 
   pub view_simple : SimpleExpression → Tree
   view_simple (s.Term one) = view_term one
@@ -115,8 +115,8 @@ abbrev mutual
   view_simple (s.Sum' p left op here mark right) = combined here (of_adder op) (view_simple left) (signed mark (view_term right))
 
   pub view_term : Term → Tree
-  view_term (t.Factor one) = view_factor one
-  view_term (t.Product' p left op here mark right) = combined here (of_multiplier op) (view_term left) (signed mark (view_factor right))
+  view_term (t.Factor' p one) = view_factor one
+  view_term (t.Product' p left op here mark q right) = combined here (of_multiplier op) (view_term left) (signed mark (view_factor right))
 
   pub view_factor : Factor → Tree
   view_factor (f.Number n here) = number here.place n
@@ -160,3 +160,18 @@ view_elements (one ∷ rest) = and_element (view_element one) (view_elements res
 abbrev pub view_arguments : List Argument → Operands
 view_arguments [] = no_operands
 view_arguments (one ∷ rest) = and_operand (view_argument one) (view_arguments rest)
+
+-- ---- designators as arguments
+
+-- a name, or what is selected from another designator
+abbrev pub designator_in : Tree → Option Tree
+designator_in (name here one) = Some (name here one)
+designator_in (field here owner one) = Some (field here owner one)
+designator_in (index here owner i) = Some (index here owner i)
+designator_in (followed place owner) = Some (followed place owner)
+designator_in _ = None
+
+-- the designator that is the one argument, as a type or a variable is where no value is asked for
+abbrev pub sole_designator : Operands → Option Tree
+sole_designator (and_operand (plain a) no_operands) = designator_in a
+sole_designator _ = None

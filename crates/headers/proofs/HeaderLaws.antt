@@ -40,7 +40,7 @@ lawful_entry : (place : Place) (one : Entry) → Lawful (of_entry place one)
 lawful_entry place (entry.Ty ty) = lawful_makes _
 lawful_entry place (entry.Const ty v) = lawful_refuses _
 lawful_entry place (entry.Var unit level n ty) = lawful_refuses _
-lawful_entry place (entry.Code routine level header) = lawful_refuses _
+lawful_entry place (entry.Code routine level header far) = lawful_refuses _
 lawful_entry place (entry.Std n) = lawful_refuses _
 
 lawful_meaning : (place : Place) (feature : Option Feature) (one : Option Meaning) → Lawful (of_meaning place feature one)

@@ -6,7 +6,7 @@ ghost use Rattle.typed_tree.specs.Expressions.{view_place};
 ghost use Rattle.meaning.specs.Outcomes.{State, looked, known};
 ghost use Rattle.meaning.specs.Programs.{overlay_file, routine_key, dispatched};
 ghost use Rattle.meaning.specs.Activations.{held_routine};
-ghost use Rattle.meaning.specs.Calls.{is_file, installed_if, with_overlay_result, without_class, method_of, overlay_called};
+ghost use Rattle.meaning.specs.Calls.{is_file, installed_if, with_overlay_result, without_class, with_method, method_of, overlay_called};
 ghost use Rattle.meaning.specs.Expressions.{class_for, instance_at};
 ghost use Rattle.cell_store.specs.Views.{view_key, view_value};
 ghost use Rattle.typed_cells.specs.Sorts.{view_sort, view_reached};
@@ -99,11 +99,12 @@ fn without_class(checked: bool) -> Over
 }
 
 impl Interpreter<'_> {
+    // A class that lacks the method has nothing to call.
     fn dispatched_by(&self, class: &Key, slot: u32) -> Result<Key, Over>
-        ensures { (s : State) → Comes view_key result s (known (dispatched (program_of self.now) (view_key class.now) slot) s) }
+        ensures { (s : State) → Comes view_key result s (with_method (dispatched (program_of self.now) (view_key class.now) slot) s) }
     {
         match dispatched(self.alloc, self.sources.program, class, slot)? {
-            None => Err(Over::Stuck),
+            None => Err(Over::Undefined(4)),
             Some(key) => Ok(key),
         }
     }

@@ -19,7 +19,7 @@ use Rattle.meaning.specs.Programs.{routine_key, Sort, definition, beside, sort_i
 use Rattle.meaning.specs.Outcomes.{Does}
 use Rattle.meaning.specs.Operators.{unary, binary, decided, converted, ranged, is_between, element_of}
 use Rattle.meaning.specs.Activations.{Reached, Activation, Callee, callee_of, whole, inside, variable_at, loaded, held_routine, opened, class_set, class_at, levels_around, result_of, assigned}
-use Rattle.meaning.specs.Calls.{Task, Do, Runs, activation_of, activated, is_too_deep, entered, without_class, dispatched_by, method_of, with_overlay_result, overlay_variable, installed_if, is_file, overlay_called}
+use Rattle.meaning.specs.Calls.{Task, Do, Runs, activation_of, activated, is_too_deep, entered, without_class, with_method, dispatched_by, method_of, with_overlay_result, overlay_variable, installed_if, is_file, overlay_called}
 use Rattle.meaning.specs.Programs.{overlay_file}
 use Rattle.meaning.specs.Standard.{Operand, Given, Named, handed, standard, Effect, Gives, Changes, Makes, Asks, effect_of, target, made}
 use Rattle.meaning.specs.Expressions.{constant_value, sort_of, storage, field_of, outside, element_between, element_in, Instance, no_instance, instance_at, called, called_by_class, called_through, effect_done, block_made, unless, value, place, receiver, elements, operands}
@@ -53,9 +53,13 @@ like_without_class : {k m n : ℕ} (checked : Bool) → Like k m n (without_clas
 like_without_class true = like_raised 210
 like_without_class false = like_undefined 4
 
+like_with_method : {k m n : ℕ} (key : Option Key) → Like k m n (with_method key) (with_method key)
+like_with_method None = like_undefined 4
+like_with_method (Some key) = like_give key
+
 pub like_dispatched_by : {k m n : ℕ} (program : Program) (slot : ℕ) (checked : Bool) (class : Option Key) → Like k m n (dispatched_by program slot checked class) (dispatched_by program slot checked class)
 like_dispatched_by program slot checked None = like_without_class checked
-like_dispatched_by program slot checked (Some class) = like_known (dispatched program class slot)
+like_dispatched_by program slot checked (Some class) = like_with_method (dispatched program class slot)
 
 pub like_method_of : {k m n : ℕ} (program : Program) (at : Reached) (slot : ℕ) (checked : Bool) → Like k m n (method_of program at slot checked) (method_of program at slot checked)
 like_method_of program at slot checked = like_bind (like_looked (class_at at)) (like_dispatched_by program slot checked)

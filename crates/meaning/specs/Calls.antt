@@ -11,7 +11,7 @@ use Rattle.well_formed.specs.Scopes.{variables_of}
 use Rattle.meaning.specs.Trees.{Key, Spot, Value, Ordinal, Text, Void}
 use Rattle.meaning.specs.Store.{next_serial, without}
 use Rattle.meaning.specs.Programs.{is_overlaid, stack_of, overlay_file, integer_sort, overlay_result, dispatched}
-use Rattle.meaning.specs.Outcomes.{Does, ◌>>=◌, ◌>>◌, give, raised, undefined, stuck, found, known, raised_if, looked, changed, is_installed, install}
+use Rattle.meaning.specs.Outcomes.{Does, ◌>>=◌, ◌>>◌, give, raised, undefined, stuck, found, raised_if, looked, changed, is_installed, install}
 use Rattle.meaning.specs.Activations.{Reached, Level, Activation, whole, Callee, callee_of, opened, levels_around, class_set, class_at, result_of, assigned}
 
 -- how a statement ended: the next one follows, or the routine is left
@@ -69,9 +69,15 @@ abbrev pub without_class : Bool → Does Key
 without_class true = raised 210
 without_class false = undefined 4
 
+-- A class need not have the method that is called: a constructor that was called through a pointer to an ancestor leaves a
+-- descendant's instance as one of the ancestor's class. Nothing is defined then, and no check finds it.
+abbrev pub with_method : Option Key → Does Key
+with_method None = undefined 4
+with_method (Some key) = give key
+
 abbrev pub dispatched_by : Program → ℕ → Bool → Option Key → Does Key
 dispatched_by program slot checked None = without_class checked
-dispatched_by program slot checked (Some class) = known (dispatched program class slot)
+dispatched_by program slot checked (Some class) = with_method (dispatched program class slot)
 
 -- the routine that the class of an instance has for a slot
 abbrev pub method_of : Program → Reached → ℕ → Bool → Does Key

@@ -8,5 +8,7 @@ mod slots;
 
 pub use calls::{called_on, performed_on};
 pub use laws::method_laws;
-pub use methods::{BoundMethod, Callee, bound, callee_of, inherited, method_in};
+pub use methods::{
+    BoundMethod, Callee, bound, callee_of, inherited, method_in, routine_in, routine_named,
+};
 pub use slots::slot_of;

@@ -154,32 +154,36 @@ fn selectors(designator: &Designator) -> &'static str {
 fn shape(expression: &Expression) -> &'static str {
     match expression {
         Expression::Relation { .. } => "relation",
-        Expression::Simple(
-            SimpleExpression::Sum {
-                left,
-                adder: Adder::Plus,
-                sign: None,
-                ..
-            },
-        ) => match &**left {
+        Expression::Simple(simple) => shape_of_simple(simple),
+    }
+}
+
+fn shape_of_simple(simple: &SimpleExpression) -> &'static str {
+    match simple {
+        SimpleExpression::Sum {
+            left,
+            adder: Adder::Plus,
+            sign: None,
+            ..
+        } => match &**left {
             SimpleExpression::Signed(..) => "signed and term",
             SimpleExpression::Sum { .. } => "sum and term",
             SimpleExpression::Term(_) => "term and term",
         },
-        Expression::Simple(
-            SimpleExpression::Term(
-                Term::Product {
-                    left,
-                    sign: Some(placed),
-                    ..
-                },
-            ),
+        SimpleExpression::Term(
+            Term::Product {
+                left,
+                sign: Some(placed),
+                ..
+            },
         ) => match (&**left, placed.sign) {
             (Term::Factor(_), Sign::Minus) => "factor and signed factor",
             (_, _) => "product",
         },
-        Expression::Simple(SimpleExpression::Term(Term::Factor(Factor::Call { callee, arguments })))
-            if arguments.len() == 1 => selectors(callee),
+        SimpleExpression::Term(Term::Factor(one)) => match &**one {
+            Factor::Call { callee, arguments } if arguments.len() == 1 => selectors(callee),
+            _ => "other",
+        },
         _ => "other",
     }
 }

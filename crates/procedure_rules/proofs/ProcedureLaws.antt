@@ -10,7 +10,6 @@ use Rattle.typing_rules.specs.declared.sorts.Sort.{Sort}
 use Rattle.typing_rules.specs.declared.sorts.Sort.TheVariants as sort
 use Rattle.typing_rules.specs.Faults.{broken}
 use Rattle.typing_rules.specs.Sorts.{sort_of_type, sort_of}
-use Rattle.typing_rules.specs.Joins.{is_address}
 use Rattle.typing_rules.specs.Laws.{Lawful}
 use Rattle.typing_rules.proofs.JudgementLaws.{lawful_makes, lawful_refuses, lawful_rule, lawful_part, lawful_parts}
 use Rattle.typing_rules.proofs.PlanLaws.{yes, no, tells_integer}
@@ -23,7 +22,7 @@ use Rattle.procedure_rules.specs.declared.rows.Slot.{Slot}
 use Rattle.procedure_rules.specs.declared.rows.Slot.TheVariants.{Value, Pointer, Ordinal, Whole, Line, Link}
 use Rattle.procedure_rules.specs.declared.rows.Slots.{Slots}
 use Rattle.procedure_rules.specs.Rows.{listed, slots_of}
-use Rattle.procedure_rules.specs.Procedures.{IsPointer, is_pointer, IsAddress, Holds, holds, variable, taken, by_slots, performed_by, standard_performed, whole, told_number, told_by, told}
+use Rattle.procedure_rules.specs.Procedures.{IsPointer, is_pointer, Holds, holds, variable, taken, by_slots, performed_by, standard_performed, whole, told_number, told_by, told}
 
 tells_pointer : (s : Sort) → Decides (is_pointer s) (IsPointer s)
 tells_pointer (sort.Integer r) = no
@@ -35,17 +34,6 @@ tells_pointer (sort.Set base) = no
 tells_pointer sort.Pointer = yes
 tells_pointer sort.Nil = no
 tells_pointer sort.Other = no
-
-tells_address : (s : Sort) → Decides (is_address s) (IsAddress s)
-tells_address (sort.Integer r) = no
-tells_address sort.Boolean = no
-tells_address sort.Char = no
-tells_address (sort.Enumeration ty) = no
-tells_address sort.Text = no
-tells_address (sort.Set base) = no
-tells_address sort.Pointer = yes
-tells_address sort.Nil = yes
-tells_address sort.Other = no
 
 tells_held : (slot : Slot) (s : Sort) → Decides (holds slot s) (Holds slot s)
 tells_held Ordinal s = tells_ordinal s
@@ -74,7 +62,7 @@ module _ (types : List TypeDef) (place : Place) where
   lawful_taken : (slot : Slot) (e : Expression) → Lawful (taken types place slot e)
   unfolding taken
   lawful_taken (Value want) e = lawful_rule (broken place rules.Called) (fits want (sort_of types e)) (Fits want (sort_of types e)) (handed types (is_for_text want) e) (tells_fits want (sort_of types e))
-  lawful_taken Pointer e = lawful_rule (broken place rules.Called) (is_address (sort_of types e)) (IsAddress (sort_of types e)) (value e) (tells_address (sort_of types e))
+  lawful_taken Pointer e = lawful_rule (broken place rules.Called) (is_pointer (sort_of types e)) (IsPointer (sort_of types e)) (value e) (tells_pointer (sort_of types e))
   lawful_taken Ordinal e = lawful_variable Ordinal e
   lawful_taken Whole e = lawful_variable Whole e
   lawful_taken Line e = lawful_variable Line e

@@ -1,27 +1,26 @@
 -- Calls of standard procedures.
-use Rattle.std.specs.Prelude.{ℕ, Bool, true, false, cond, List, [], ◌∷◌, ◌++◌, length, Option, Some, None}
+use Rattle.std.specs.Prelude.{ℕ, ◌==◌, Bool, true, false, ◌&&◌, cond, List, [], ◌∷◌, ◌++◌, length, Option, Some, None}
 use Rattle.type_layout.specs.declared.definitions.TypeDef.{TypeDef}
 use Rattle.type_layout.specs.declared.texts.Place.{Place}
 use Rattle.typed_tree.specs.Expressions.{Expression, Load, Std}
 use Rattle.typed_tree.specs.Statements.{Written}
-use Rattle.typing_rules.specs.declared.faults.Rule.{Rule}
+use Rattle.typing_rules.specs.declared.faults.Fault.{Fault}
 use Rattle.typing_rules.specs.declared.faults.Rule.TheVariants as rules
 use Rattle.typing_rules.specs.declared.sorts.Sort.{Sort}
 use Rattle.typing_rules.specs.declared.sorts.Sort.TheVariants as sort
-use Rattle.typing_rules.specs.Faults.{broken}
+use Rattle.typing_rules.specs.Faults.{broken, not_yet}
 use Rattle.standard_rules.specs.declared.signatures.Want.TheVariants.{Integer}
 use Rattle.typing_rules.specs.Judgements.{Judgement, makes, refuses, rule, part, parts}
 use Rattle.typing_rules.specs.Sorts.{sort_of_type, sort_of}
 use Rattle.typing_rules.specs.Plans.{IsInteger, is_integer}
 use Rattle.typing_rules.specs.Assignments.{IsString, is_string}
-use Rattle.typing_rules.specs.Joins.{is_address}
 use Rattle.call_rules.specs.Casts.{IsOrdinal, is_ordinal}
 use Rattle.call_rules.specs.Given.{Handed, value, place_of, arguments_of}
 use Rattle.standard_rules.specs.Standard.{Fits, fits, is_for_text, handed}
 use Rattle.procedure_rules.specs.declared.rows.Slot.{Slot}
 use Rattle.procedure_rules.specs.declared.rows.Slot.TheVariants.{Value, Pointer, Ordinal, Whole, Line, Link}
 use Rattle.procedure_rules.specs.declared.rows.Slots.{Slots}
-use Rattle.procedure_rules.specs.Rows.{listed, slots_of, is_procedure}
+use Rattle.procedure_rules.specs.Rows.{listed, slots_of, is_procedure, is_allocation}
 
 -- ---- one argument
 
@@ -32,12 +31,6 @@ IsPointer _ = ⊥
 abbrev pub is_pointer : Sort → Bool
 is_pointer sort.Pointer = true
 is_pointer _ = false
-
--- a pointer, or nil, which is one of no type in particular
-abbrev pub IsAddress : Sort → Type 0
-IsAddress sort.Pointer = Unit {0}
-IsAddress sort.Nil = Unit {0}
-IsAddress _ = ⊥
 
 -- what a variable holds that is taken: an ordinal, an integer, a string or a pointer
 abbrev pub Holds : Slot → Sort → Type 0
@@ -62,7 +55,7 @@ variable types place slot e = refuses (broken place rules.Called)
 -- an argument by what is asked of it
 unfoldable pub taken : List TypeDef → Place → Slot → Expression → Judgement Handed
 taken types place (Value want) e = rule (broken place rules.Called) (fits want (sort_of types e)) (Fits want (sort_of types e)) (handed types (is_for_text want) e)
-taken types place Pointer e = rule (broken place rules.Called) (is_address (sort_of types e)) (IsAddress (sort_of types e)) (value e)
+taken types place Pointer e = rule (broken place rules.Called) (is_pointer (sort_of types e)) (IsPointer (sort_of types e)) (value e)
 taken types place slot e = variable types place slot e
 
 -- ---- all arguments
@@ -74,12 +67,14 @@ by_slots types place _ _ = refuses (broken place rules.Called)
 
 -- ---- calls
 
--- a procedure has other arguments; a function stands for a value alone
-abbrev pub unlisted : ℕ → Rule
-unlisted number = cond (is_procedure number) rules.Called rules.Stands
+-- What is told where no row has so many arguments: a procedure is called with others, and a function stands for a value alone. A
+-- constructor or a destructor behind the pointer has rules of its own; to these it is a form that they don't have.
+abbrev pub unlisted : Place → ℕ → ℕ → Fault
+unlisted place number count =
+    cond (is_allocation number && count == 2) (not_yet place) (broken place (cond (is_procedure number) rules.Called rules.Stands))
 
 abbrev pub performed_by : List TypeDef → Place → ℕ → Option Slots → List Expression → Judgement Expression
-performed_by types place number None es = refuses (broken place (unlisted number))
+performed_by types place number None es = refuses (unlisted place number (length es))
 performed_by types place number (Some slots) es = part (by_slots types place (listed slots) es) (λ all. makes (Std None number (arguments_of all)))
 
 -- the call of a standard procedure at a place

@@ -7,8 +7,8 @@ use Rattle.procedure_rules.specs.declared.rows.Slots.{Slots}
 use Rattle.procedure_rules.specs.declared.rows.Slots.TheVariants.{One, Pair, Triple}
 
 -- The standard procedures by their numbers, once for each count of arguments. Str, whose first argument may have a width, has a
--- judgement of its own; Write, WriteLn, Read, ReadLn, Halt and Exit are statements of their own; constructors and destructors in
--- New and Dispose are not built yet.
+-- judgement of its own; Write, WriteLn, Read, ReadLn, Halt and Exit are statements of their own; New and Dispose with a constructor
+-- or a destructor have rules of their own.
 unfoldable pub rows : List (ℕ × Slots)
 rows =
     -- Inc, Dec
@@ -56,3 +56,7 @@ is_listed (one ∷ all) number = one == number || is_listed all number
 -- whether a standard routine is a procedure
 abbrev pub is_procedure : ℕ → Bool
 is_procedure number = is_listed procedures number
+
+-- New and Dispose, which may name a constructor or a destructor behind the pointer
+abbrev pub is_allocation : ℕ → Bool
+is_allocation number = number == 28 || number == 29

@@ -6,17 +6,18 @@ ghost use Rattle.typed_tree.specs.Expressions.{Load, view_expr, view_place};
 ghost use Rattle.typed_tree.specs.Statements.{view_written};
 ghost use Rattle.typing_rules.specs.Judgements.{Gives};
 ghost use Rattle.call_rules.specs.Given.{view_handed};
-ghost use Rattle.typing_rules.specs.Joins.{is_address};
 ghost use Rattle.procedure_rules.specs.Procedures.{is_pointer, holds, variable, taken, by_slots, unlisted, standard_performed, whole, told_number, told_into, told};
 ghost use Rattle.procedure_rules.specs.Rows.{listed};
 
-use crate::rows::{Slot, Slots, is_procedure, slots_of};
+use crate::rows::{Slot, Slots, is_allocation, is_procedure, slots_of};
 use call_rules::is_ordinal;
 use standard_rules::{Want, fits, handed, is_for_text};
 use std::alloc::Global;
 use type_layout::{Place, TypeId, Types};
 use typed_tree::{Arg, Expr, PlaceExpr, WriteItem};
-use typing_rules::{Refusal, Rule, Sort, broken, is_integer, is_string, sort_of, sort_of_type};
+use typing_rules::{
+    Fault, Refusal, Rule, Sort, broken, is_integer, is_string, not_yet, sort_of, sort_of_type,
+};
 
 // The number of Str among the predeclared names.
 const STR: u32 = 20;
@@ -25,13 +26,6 @@ fn is_pointer(sort: Sort) -> bool
     ensures { result ≡ is_pointer sort }
 {
     matches!(sort, Sort::Pointer)
-}
-
-// A pointer, or nil.
-fn is_address(sort: Sort) -> bool
-    ensures { result ≡ is_address sort }
-{
-    matches!(sort, Sort::Pointer | Sort::Nil)
 }
 
 fn holds(slot: Slot, sort: Sort) -> bool
@@ -79,7 +73,7 @@ fn taken(
         Slot::Value(want) if fits(*want, sort_of(types, &value)) => {
             handed(alloc, types, is_for_text(*want), value)
         }
-        Slot::Pointer if is_address(sort_of(types, &value)) => Ok(Arg::Value(value)),
+        Slot::Pointer if is_pointer(sort_of(types, &value)) => Ok(Arg::Value(value)),
         Slot::Value(_) | Slot::Pointer => Err(Refusal::Because(broken(place, Rule::Called))),
         _ => variable(types, place, *slot, value),
     }
@@ -128,13 +122,16 @@ fn by_count(
     }
 }
 
-fn unlisted(number: u32) -> Rule
-    ensures { result ≡ unlisted number }
+// What is told of a call with a number of arguments for which the table has no row.
+fn unlisted(place: Place, number: u32, count: usize) -> Fault
+    ensures { result ≡ unlisted place number count }
 {
-    if is_procedure(number) {
-        Rule::Called
+    if is_allocation(number) && count == 2 {
+        not_yet(place)
+    } else if is_procedure(number) {
+        broken(place, Rule::Called)
     } else {
-        Rule::Stands
+        broken(place, Rule::Stands)
     }
 }
 
@@ -149,8 +146,9 @@ pub fn standard_performed(
 ) -> Result<Expr, Refusal>
     ensures { Gives view_expr result (standard_performed types.now.types place number (map view_expr values.items)).run }
 {
-    let Some(slots) = slots_of(number, values.len()) else {
-        return Err(Refusal::Because(broken(place, unlisted(number))));
+    let count = values.len();
+    let Some(slots) = slots_of(number, count) else {
+        return Err(Refusal::Because(unlisted(place, number, count)));
     };
     let args = by_count(alloc, types, place, slots, values)?;
     Ok(Expr::Std {

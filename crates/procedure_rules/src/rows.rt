@@ -1,12 +1,12 @@
 //! The table of the standard procedures.
 
 ghost use Rattle.std.specs.Prelude.{◌≡◌};
-ghost use Rattle.procedure_rules.specs.Rows.{count_of, slots_in, slots_of, is_listed, is_procedure};
+ghost use Rattle.procedure_rules.specs.Rows.{count_of, slots_in, slots_of, is_listed, is_procedure, is_allocation};
 
 use standard_rules::Want;
 
-/// What is asked of an argument: a value, a pointer or nil, or a variable of an ordinal type, of an integer type, that is a
-/// string, or that is a pointer.
+/// What is asked of an argument: a value, a pointer, or a variable of an ordinal type, of an integer type, that is a string, or
+/// that is a pointer.
 #[derive(Clone, Copy, Debug, PartialEq, Eq)]
 pub enum Slot {
     Value(Want),
@@ -93,4 +93,11 @@ pub(crate) fn is_procedure(number: u32) -> bool
     ensures { result ≡ is_procedure number }
 {
     is_listed(&PROCEDURES, number)
+}
+
+/// New and Dispose, which may name a constructor or a destructor behind the pointer.
+pub(crate) fn is_allocation(number: u32) -> bool
+    ensures { result ≡ is_allocation number }
+{
+    number == 28 || number == 29
 }

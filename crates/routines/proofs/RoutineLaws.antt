@@ -38,7 +38,7 @@ use Rattle.routines.specs.declared.drafts.Awaited.{Awaited}
 use Rattle.routines.specs.declared.drafts.Begun.{Begun}
 use Rattle.routines.specs.Trees.{Work, Works, forward, plain, method, no_works, and_part, and_work}
 use Rattle.routines.specs.Drafts.{Numbered, Drafted, knowing, next_number, announcing, Stage, stage, progress_of, with_progress, next_for, depth_of}
-use Rattle.routines.specs.Headings.{name_of, begins, announced_by, routine_entry, announced, heading, awaited_of, same_kind, is_bare, kind_repeated, whole_repeated, half_repeated, repeated, begun, with_params, Opened, opened, opened_by, opened_of}
+use Rattle.routines.specs.Headings.{name_of, begins, is_far, announced_by, routine_entry, announced, heading, awaited_of, same_kind, is_bare, kind_repeated, whole_repeated, half_repeated, repeated, begun, with_params, Opened, opened, opened_by, opened_of}
 use Rattle.routines.specs.Insides.{site_in, params_entered, inside, IsMet, is_met, all_met, shallow, statements_of, closed, ended}
 use Rattle.routines.specs.Blocks.{without_methods, taken, part_judged, method_place, judged, all_judged}
 use Rattle.routines.proofs.HeaderTests.{tells_kind, tells_header, tells_met}
@@ -51,9 +51,9 @@ lawful_asking j k l m = lawful_part j (λ u. k) l (λ u. m)
 
 lawful_announced : (far : Bool) (site : Site) (d : Drafted) (one : RoutineHeader) (header : Header) → Lawful (announced far site d one header)
 lawful_announced far site d one header =
-    lawful_part (entered d.scope (name_of one).position.place (name_of one).name (routine_entry site (next_number d) header))
+    lawful_part (entered d.scope (name_of one).position.place (name_of one).name (routine_entry (is_far far one) site (next_number d) header))
     (λ g. makes (announcing (knowing d g) (announced_by far site one header)))
-    (lawful_entered d.scope (name_of one).position.place (name_of one).name (routine_entry site (next_number d) header))
+    (lawful_entered d.scope (name_of one).position.place (name_of one).name (routine_entry (is_far far one) site (next_number d) header))
     (λ g. lawful_makes (announcing (knowing d g) (announced_by far site one header)))
 
 pub lawful_heading : (far : Bool) (site : Site) (d : Drafted) (one : RoutineHeader) → Lawful (heading far site d one)

@@ -38,7 +38,11 @@ begins (h.Function here name groups result) = here
 
 -- ---- headers that announce a routine
 
--- what is known of a routine by its first header; it is far where that is asked, or where the switch says so there
+-- a routine is far where that is asked, or where the switch says so at its first header
+abbrev pub is_far : Bool → RoutineHeader → Bool
+is_far far one = far || (begins one).switches.f
+
+-- what is known of a routine by its first header
 abbrev pub announced_by : Bool → Site → RoutineHeader → Header → Announced
 announced_by far site one header = record {
   place = (begins one).place;
@@ -46,16 +50,16 @@ announced_by far site one header = record {
   header = header;
   owner = None;
   outer = site.outer;
-  far = far || (begins one).switches.f;
+  far = is_far far one;
 }
 
-abbrev pub routine_entry : Site → ℕ → Header → Entry
-routine_entry site number header = entry.Code (record { unit = 0; number = number }) (depth_of site) header
+abbrev pub routine_entry : Bool → Site → ℕ → Header → Entry
+routine_entry far site number header = entry.Code (record { unit = 0; number = number }) (depth_of site) header far
 
 -- A routine with a header that was judged, whose name is put into the innermost block.
 abbrev pub announced : Bool → Site → Drafted → RoutineHeader → Header → Judgement Drafted
 announced far site d one header =
-    part (entered d.scope (name_of one).position.place (name_of one).name (routine_entry site (next_number d) header))
+    part (entered d.scope (name_of one).position.place (name_of one).name (routine_entry (is_far far one) site (next_number d) header))
     (λ g. makes (announcing (knowing d g) (announced_by far site one header)))
 
 -- A header that repeats no other. Its types are those that are visible outside the routine.
@@ -77,7 +81,7 @@ awaited_code count routines block routine header =
     cond (block + 1 == count && (routine.unit == 0 && is_left (slice_get routines routine.number))) (Some (awaited routine.number header)) None
 
 abbrev pub awaited_by : ℕ → List Numbered → Option Meaning → Option Awaited
-awaited_by count routines (Some (named n (entry.Code routine level header))) = awaited_code count routines n routine header
+awaited_by count routines (Some (named n (entry.Code routine level header far))) = awaited_code count routines n routine header
 awaited_by count routines _ = None
 
 unfoldable pub awaited_of : Drafted → List ℕ → Option Awaited

@@ -56,6 +56,7 @@ pub(crate) fn announced(
         routine,
         level: depth_of(site.home),
         header: header.copied(alloc)?,
+        far: far || here.switches.f,
     };
     entered(scope, name.position.place, &name.name, entry)?;
     let first = Announced {

@@ -7,7 +7,8 @@ use type_layout::{Header, RoutineId, TypeId};
 use typed_tree::Value;
 
 /// What a name means. The `unit` of a variable or a routine is a place among the units of the scope. `level` is the
-/// nesting depth of the declaration, 0 for a global. The number of `Std` is that of a standard routine.
+/// nesting depth of the declaration, 0 for a global. A routine that is `far` is called by far calls. The number of `Std`
+/// is that of a standard routine.
 #[derive(Debug, Drop)]
 pub enum Entry {
     Const {
@@ -27,6 +28,7 @@ pub enum Entry {
         routine: RoutineId,
         level: u32,
         header: Header,
+        far: bool,
     },
     Std {
         number: u32,
@@ -96,10 +98,12 @@ impl Entry {
                 routine,
                 level,
                 header,
+                far,
             } => Entry::Code {
                 routine: *routine,
                 level: *level,
                 header: header.copied(alloc)?,
+                far: *far,
             },
             Entry::Std { number } => Entry::Std { number: *number },
         })

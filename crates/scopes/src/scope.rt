@@ -206,6 +206,13 @@ impl Scope {
         })
     }
 
+    /// The types and the names of the units, for the unit that is made of them.
+    pub fn into_parts(self) -> (Types, Names)
+        ensures { result ≡ (self.types, self.units) }
+    {
+        (self.types, self.units)
+    }
+
     /// The types.
     pub fn types(&self) -> &Types
         ensures { result.now ≡ self.now.types }

@@ -71,27 +71,32 @@ fn selectors(designator: &Designator) -> &'static str {
 
 fn shape_of_value(value: &Expression) -> &'static str {
     match value {
-        Expression::Simple(
-            SimpleExpression::Sum {
-                left,
-                adder: Adder::Plus,
-                sign: None,
-                ..
-            },
-        ) => match &**left {
+        Expression::Simple(simple) => shape_of_simple(simple),
+        Expression::Relation { .. } => "relation",
+    }
+}
+
+fn shape_of_simple(simple: &SimpleExpression) -> &'static str {
+    match simple {
+        SimpleExpression::Sum {
+            left,
+            adder: Adder::Plus,
+            sign: None,
+            ..
+        } => match &**left {
             SimpleExpression::Signed(..) => "signed term and term",
             _ => "sum",
         },
-        Expression::Simple(
-            SimpleExpression::Term(
-                Term::Product {
-                    left,
-                    sign: Some(placed),
-                    ..
-                },
-            ),
+        SimpleExpression::Term(
+            Term::Product {
+                left,
+                sign: Some(placed),
+                ..
+            },
         ) => match (&**left, placed.sign) {
-            (Term::Factor(Factor::Designator(_)), Sign::Minus) => "factor and signed factor",
+            (Term::Factor(one), Sign::Minus) if matches!(&**one, Factor::Designator(_)) => {
+                "factor and signed factor"
+            }
             (_, _) => "product",
         },
         _ => "another value",

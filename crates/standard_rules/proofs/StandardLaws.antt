@@ -3,14 +3,14 @@ use Rattle.std.proofs.Common.{ℕ, List, [], ◌∷◌, Option, Some, None, map,
 use Rattle.std.proofs.lemmas.Bool.Decides.{Decides-and, Decides-not, Decides-eqb}
 use Rattle.type_layout.specs.declared.definitions.TypeDef.{TypeDef}
 use Rattle.type_layout.specs.declared.texts.Place.{Place}
-use Rattle.typed_tree.specs.Expressions.{Expression, Std}
+use Rattle.typed_tree.specs.Expressions.{Expression, Const, RoutineValue, Load, Unary, Binary, Convert, Range, SetOf, Call, CallVirtual, CallThrough, Std, Make}
 use Rattle.typing_rules.specs.declared.faults.Rule.TheVariants as rules
 use Rattle.typing_rules.specs.declared.sorts.Sort.{Sort}
 use Rattle.typing_rules.specs.declared.sorts.Sort.TheVariants as sort
 use Rattle.typing_rules.specs.Faults.{broken}
 use Rattle.typing_rules.specs.Sorts.{holding_type, long_int, sort_of}
 use Rattle.typing_rules.specs.Laws.{Lawful}
-use Rattle.typing_rules.proofs.JudgementLaws.{lawful_refuses, lawful_rule}
+use Rattle.typing_rules.proofs.JudgementLaws.{lawful_makes, lawful_refuses, lawful_rule}
 use Rattle.typing_rules.proofs.PlanLaws.{yes, no, tells_integer, tells_text}
 use Rattle.call_rules.proofs.CallLaws.{tells_ordinal}
 use Rattle.standard_rules.specs.declared.signatures.Want.{Want}
@@ -21,6 +21,7 @@ use Rattle.standard_rules.specs.declared.signatures.Signature.{Signature}
 use Rattle.standard_rules.specs.Signatures.{signature_of}
 use Rattle.standard_rules.specs.Standard.{IsShort, is_short, IsChar, is_char, Fits, fits, AreTexts, are_texts, Accepts, accepts, takes_text, handed, result_type, by_signature, standard}
 use Rattle.call_rules.specs.Given.{arguments_of}
+use Rattle.standard_rules.specs.Sizes.{variable_sized}
 
 tells_short : (s : Sort) → Decides (is_short s) (IsShort s)
 tells_short (sort.Integer r) = Decides-not _ (Decides-eqb (holding_type r).0 long_int.0)
@@ -84,3 +85,20 @@ module _ (types : List TypeDef) (place : Place) (number : ℕ) where
   pub lawful_standard : (es : List Expression) → Lawful (standard types place number es)
   unfolding standard
   lawful_standard es = lawful_signature (signature_of number) es
+
+module _ (types : List TypeDef) (place : Place) where
+  pub lawful_sized : (e : Expression) → Lawful (variable_sized types place e)
+  unfolding variable_sized
+  lawful_sized (Load ty at) = lawful_makes _
+  lawful_sized (Const ty v) = lawful_refuses _
+  lawful_sized (RoutineValue ty routine) = lawful_refuses _
+  lawful_sized (Unary ty op operand) = lawful_refuses _
+  lawful_sized (Binary ty op left right early) = lawful_refuses _
+  lawful_sized (Convert ty operand) = lawful_refuses _
+  lawful_sized (Range ty operand low high) = lawful_refuses _
+  lawful_sized (SetOf ty listed) = lawful_refuses _
+  lawful_sized (Call ty routine own args) = lawful_refuses _
+  lawful_sized (CallVirtual ty own number checked args) = lawful_refuses _
+  lawful_sized (CallThrough ty through args) = lawful_refuses _
+  lawful_sized (Std ty number args) = lawful_refuses _
+  lawful_sized (Make ty routine args) = lawful_refuses _

@@ -1,3 +1,4 @@
 pub mod Signatures
 pub mod Standard
+pub mod Sizes
 pub mod Laws

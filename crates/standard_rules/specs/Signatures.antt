@@ -9,7 +9,7 @@ use Rattle.standard_rules.specs.declared.signatures.Outcome.{Outcome}
 use Rattle.standard_rules.specs.declared.signatures.Outcome.TheVariants.{Held, Stored, Is}
 use Rattle.standard_rules.specs.declared.signatures.Signature.{Signature}
 
--- the standard functions by their numbers; SizeOf and New are not built yet
+-- the standard functions by their numbers; SizeOf has a judgement of its own, New as a function is not built yet
 unfoldable pub signatures : List (ℕ × Shape × Outcome)
 signatures =
     -- Abs, Sqr

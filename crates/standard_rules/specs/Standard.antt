@@ -125,7 +125,7 @@ of_signature types place number one es =
     rule (broken place rules.Called) (accepts one.shape (map (sort_of types) es)) (Accepts one.shape (map (sort_of types) es))
     (Std (Some (result_type types one.outcome es)) number (arguments_of (map (handed types (takes_text one.shape)) es)))
 
--- SizeOf and New, which take types, are not built yet
+-- SizeOf and New, whose arguments are no values of a row of the table
 abbrev pub is_special : ℕ → Bool
 is_special number = (number == 12) || (number == 28)
 

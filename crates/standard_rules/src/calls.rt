@@ -163,7 +163,7 @@ fn result_type(types: &Types, outcome: Outcome, values: &[Expr]) -> TypeId
     }
 }
 
-/// Whether a standard routine takes types, which is not built yet.
+/// SizeOf and New, whose arguments are no values of a row of the table.
 pub fn is_special(number: u32) -> bool
     ensures { result ≡ is_special number }
 {

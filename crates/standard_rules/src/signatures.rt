@@ -42,7 +42,7 @@ pub struct Signature {
     pub outcome: Outcome,
 }
 
-// The functions by the numbers of the predeclared names; SizeOf and New are not built yet.
+// The functions by the numbers of the predeclared names. SizeOf has a judgement of its own, New as a function is not built yet.
 const SIGNATURES: [(u32, Shape, Outcome); 17] = [
     (0, Shape::One(Want::Integer), Outcome::Held),
     (1, Shape::One(Want::Integer), Outcome::Held),

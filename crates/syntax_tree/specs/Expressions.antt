@@ -61,8 +61,8 @@ selector q ts = of p.more_selectors (of q ts ∷ [])
 -- A chain to the left is taken apart from its end: the last argument is what comes behind it.
 abbrev mutual
   pub of_expression : Expression → Parsed
-  of_expression (e.Simple s) = of p.expression (of_simple s (of p.no_terms []) ∷ of p.no_relation [] ∷ [])
-  of_expression (e.Relation s op here u) = of p.expression (of_simple s (of p.no_terms []) ∷ of p.relation (leaf (v.relator op here) ∷ of_simple u (of p.no_terms []) ∷ []) ∷ [])
+  of_expression (e.Simple' q s) = of p.expression (of_simple s (of p.no_terms []) ∷ of p.no_relation [] ∷ [])
+  of_expression (e.Relation' q s op here r u) = of p.expression (of_simple s (of p.no_terms []) ∷ of p.relation (leaf (v.relator op here) ∷ of_simple u (of p.no_terms []) ∷ []) ∷ [])
 
   pub of_simple : SimpleExpression → Parsed → Parsed
   of_simple (s.Term t) more = of p.unsigned (of_term t (of p.no_factors []) ∷ more ∷ [])
@@ -70,8 +70,8 @@ abbrev mutual
   of_simple (s.Sum' q l op here sign t) more = of_simple l (of p.more_terms (of p.added (leaf (v.adder op here) ∷ signs sign ∷ of_term t (of p.no_factors []) ∷ more ∷ []) ∷ []))
 
   pub of_term : Term → Parsed → Parsed
-  of_term (t.Factor f) more = of p.term (of_factor f ∷ more ∷ [])
-  of_term (t.Product' q l op here sign f) more = of_term l (of p.more_factors (of p.multiplied (leaf (v.multiplier op here) ∷ signs sign ∷ of_factor f ∷ more ∷ []) ∷ []))
+  of_term (t.Factor' q f) more = of p.term (of_factor f ∷ more ∷ [])
+  of_term (t.Product' q l op here sign o f) more = of_term l (of p.more_factors (of p.multiplied (leaf (v.multiplier op here) ∷ signs sign ∷ of_factor f ∷ more ∷ []) ∷ []))
 
   pub of_factor : Factor → Parsed
   of_factor (f.Number n here) = closed p.number (leaf (v.number n here) ∷ [])

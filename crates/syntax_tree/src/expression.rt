@@ -15,12 +15,12 @@ pub struct PlacedSign {
 #[cycle(expression)]
 #[derive(Drop)]
 pub enum Expression {
-    Simple(SimpleExpression),
+    Simple(Box<SimpleExpression>),
     Relation {
-        left: SimpleExpression,
+        left: Box<SimpleExpression>,
         relator: Relator,
         position: Position,
-        right: SimpleExpression,
+        right: Box<SimpleExpression>,
     },
 }
 
@@ -43,13 +43,13 @@ pub enum SimpleExpression {
 #[cycle(expression)]
 #[derive(Drop)]
 pub enum Term {
-    Factor(Factor),
+    Factor(Box<Factor>),
     Product {
         left: Box<Term>,
         multiplier: Multiplier,
         position: Position,
         sign: Option<PlacedSign>,
-        right: Factor,
+        right: Box<Factor>,
     },
 }
 

@@ -17,7 +17,7 @@ use Rattle.typing_rules.specs.Judgements.{makes, refuses}
 use Rattle.typing_rules.specs.Laws.{Lawful}
 use Rattle.typing_rules.proofs.JudgementLaws.{lawful_makes, lawful_refuses, lawful_either, lawful_part, lawful_parts}
 use Rattle.typing_rules.proofs.OperatorLaws.{lawful_combined, lawful_signed, lawful_negated}
-use Rattle.typing_rules.proofs.SelectorLaws.{lawful_loaded, lawful_selected, lawful_indexed, lawful_followed}
+use Rattle.typing_rules.proofs.SelectorLaws.{lawful_selected, lawful_indexed, lawful_followed}
 use Rattle.expression_tree.specs.Trees.{Tree, Listed, Elements, single, span, no_elements, and_element, Operand, Operands, plain, wide, no_operands, and_operand, number, text, control, nil, set, call, signed, negated, combined, name, field, index, followed, of_sign}
 use Rattle.call_rules.proofs.CallLaws.{lawful_cast, lawful_called}
 use Rattle.standard_rules.specs.Standard.{is_special, standard}
@@ -31,8 +31,8 @@ module _ (g : Environment) (here : Position) where
   lawful_entered : (one : Entry) → Lawful (entered g here one)
   lawful_entered (entry.Const ty v) = lawful_makes _
   lawful_entered (entry.Ty ty) = lawful_refuses _
-  lawful_entered (entry.Var unit level n ty) = lawful_loaded g.types.types here.place ty (Var (variable g unit level n))
-  lawful_entered (entry.Code routine level header) = lawful_called g.types.types here.place here.switches.r routine header []
+  lawful_entered (entry.Var unit level n ty) = lawful_makes _
+  lawful_entered (entry.Code routine level header far) = lawful_called g.types.types here.place here.switches.r routine header []
   lawful_entered (entry.Std n) =
       lawful_either (is_special n) (refuses (not_yet here.place)) (standard g.types.types here.place n [])
       (lawful_refuses _) (lawful_standard g.types.types here.place n [])
@@ -56,7 +56,7 @@ module _ (g : Environment) (here : Position) where
   lawful_callable_entry place (entry.Const ty v) = lawful_refuses _
   lawful_callable_entry place (entry.Ty ty) = lawful_makes _
   lawful_callable_entry place (entry.Var unit level n ty) = lawful_refuses _
-  lawful_callable_entry place (entry.Code routine level header) = lawful_makes _
+  lawful_callable_entry place (entry.Code routine level header far) = lawful_makes _
   lawful_callable_entry place (entry.Std n) = lawful_either (is_special n) (refuses (not_yet place)) (makes (entry.Std n)) (lawful_refuses _) (lawful_makes _)
 
   lawful_callable_meant : (place : Place) (feature : Option Feature) (one : Option Meaning) → Lawful (callable_meant place feature one)
@@ -87,7 +87,7 @@ module _ (g : Environment) (here : Position) where
   lawful_with (entry.Const ty v) es = lawful_refuses _
   lawful_with (entry.Ty ty) es = lawful_cast g.types.types here.place ty es
   lawful_with (entry.Var unit level n ty) es = lawful_refuses _
-  lawful_with (entry.Code routine level header) es = lawful_called g.types.types here.place here.switches.r routine header es
+  lawful_with (entry.Code routine level header far) es = lawful_called g.types.types here.place here.switches.r routine header es
   lawful_with (entry.Std n) es = lawful_standard g.types.types here.place n es
 
 lawful_marked : (types : List TypeDef) (mark : Option PlacedSign) (x : Expression) → Lawful (marked types mark x)

@@ -41,6 +41,6 @@ callable g place _ = refuses (not_yet place)
 -- a type converts its operand, and a function is called
 abbrev pub called_with : List TypeDef → Position → Entry → List Expression → Judgement Expression
 called_with types here (entry.Ty ty) es = cast types here.place ty es
-called_with types here (entry.Code routine level header) es = called types here.place here.switches.r routine header es
+called_with types here (entry.Code routine level header far) es = called types here.place here.switches.r routine header es
 called_with types here (entry.Std number) es = standard types here.place number es
 called_with types here _ es = refuses (broken here.place rule.Stands)

@@ -81,9 +81,9 @@ named_constant types ty v = Const ty v
 -- what is declared under a name; a routine is called without arguments
 abbrev pub entered : Environment → Position → Entry → Judgement Expression
 entered g here (entry.Const ty v) = makes (named_constant g.types.types ty v)
-entered g here (entry.Var unit level number ty) = loaded g.types.types here.place ty (Var (variable g unit level number))
+entered g here (entry.Var unit level number ty) = loaded ty (Var (variable g unit level number))
 entered g here (entry.Ty ty) = refuses (broken here.place rule.Stands)
-entered g here (entry.Code routine level header) = called g.types.types here.place here.switches.r routine header []
+entered g here (entry.Code routine level header far) = called g.types.types here.place here.switches.r routine header []
 entered g here (entry.Std number) = either (is_special number) (refuses (not_yet here.place)) (standard g.types.types here.place number [])
 
 abbrev pub meant : Environment → Position → List ℕ → Option Feature → Option Meaning → Judgement Expression

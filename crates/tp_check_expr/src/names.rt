@@ -159,7 +159,7 @@ fn entered(alloc: Global, scope: &Scope, here: Position, entry: &Entry) -> Resul
             ty,
         } => {
             let at = PlaceExpr::Var(variable(scope, *unit, *level, *number));
-            loaded(alloc, scope.types(), place, *ty, at)
+            loaded(alloc, *ty, at)
         }
         Entry::Ty { .. } => Err(Refusal::Because(broken(place, Rule::Stands))),
         Entry::Code {

@@ -160,7 +160,7 @@ module _ (g : Environment) where
   lawful_meant place one (Some (named n (entry.Const ty v))) = lawful_held_target one
   lawful_meant place one (Some (named n (entry.Ty ty))) = lawful_held_target one
   lawful_meant place one (Some (named b (entry.Var unit level n ty))) = lawful_held_target one
-  lawful_meant place one (Some (named n (entry.Code routine level header))) = lawful_result place routine level header header.result
+  lawful_meant place one (Some (named n (entry.Code routine level header far))) = lawful_result place routine level header header.result
   lawful_meant place one (Some (named b (entry.Std n))) = lawful_refuses _
 
   lawful_target : (one : Tree) → Lawful (target g one)
@@ -214,7 +214,7 @@ module _ (types : List TypeDef) where
   lawful_entry here (entry.Ty ty) es = lawful_refuses _
   lawful_entry here (entry.Var unit level n ty) es =
       lawful_either (is_procedural (definition types ty)) (refuses (not_yet here.place)) (refuses (broken here.place rules.Stands)) (lawful_refuses _) (lawful_refuses _)
-  lawful_entry here (entry.Code routine level header) es =
+  lawful_entry here (entry.Code routine level header far) es =
       lawful_part (performed types here.place here.switches.r routine header es) _ (lawful_performed types here.place here.switches.r routine header es) (λ e. lawful_makes _)
   lawful_entry here (entry.Std n) es = lawful_refuses _
 
@@ -288,7 +288,7 @@ module _ (g : Environment) where
   lawful_run_entry here (entry.Const ty v) all = lawful_called here (entry.Const ty v) all
   lawful_run_entry here (entry.Ty ty) all = lawful_called here (entry.Ty ty) all
   lawful_run_entry here (entry.Var unit level n ty) all = lawful_called here (entry.Var unit level n ty) all
-  lawful_run_entry here (entry.Code routine level header) all = lawful_called here (entry.Code routine level header) all
+  lawful_run_entry here (entry.Code routine level header far) all = lawful_called here (entry.Code routine level header far) all
   lawful_run_entry here (entry.Std n) all = lawful_standard here n (standard_of n) all
 
   lawful_run_meant : (here : Position) (feature : Option Feature) (one : Option Meaning) (all : Operands) → Lawful (run_meant g here feature one all)
@@ -350,7 +350,7 @@ module _ (g : Environment) where
   lawful_counter_entry place (entry.Const ty v) = lawful_refuses _
   lawful_counter_entry place (entry.Ty ty) = lawful_refuses _
   lawful_counter_entry place (entry.Var unit level n ty) = lawful_counter_of place (variable g unit level n) ty
-  lawful_counter_entry place (entry.Code routine level header) = lawful_refuses _
+  lawful_counter_entry place (entry.Code routine level header far) = lawful_refuses _
   lawful_counter_entry place (entry.Std n) = lawful_refuses _
 
   lawful_counter_meant : (place : Place) (feature : Option Feature) (one : Option Meaning) → Lawful (counter_meant g place feature one)

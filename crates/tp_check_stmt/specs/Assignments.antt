@@ -60,7 +60,7 @@ result_target g place routine level header (Some ty) =
     either (is_inside g routine) (makes (result_spot g level header ty)) (refuses (broken place rules.Target))
 
 abbrev pub meant_target : Environment → Place → Tree → Option Meaning → Judgement Spot
-meant_target g place tree (Some (named n (entry.Code routine level header))) = result_target g place routine level header header.result
+meant_target g place tree (Some (named n (entry.Code routine level header far))) = result_target g place routine level header header.result
 meant_target g place tree (Some (named n (entry.Std number))) = refuses (broken place rules.Target)
 meant_target g place tree meaning = held_target g tree
 

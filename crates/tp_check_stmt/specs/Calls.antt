@@ -25,7 +25,7 @@ is_procedural _ = false
 
 -- a call of what is declared; a call through a variable is not built yet, and nothing else is one
 abbrev pub performed_entry : List TypeDef → Position → Entry → List Expression → Judgement Statement
-performed_entry types here (entry.Code routine level header) es = part (performed types here.place here.switches.r routine header es) (λ e. makes (Run e))
+performed_entry types here (entry.Code routine level header far) es = part (performed types here.place here.switches.r routine header es) (λ e. makes (Run e))
 performed_entry types here (entry.Var unit level n ty) es = either (is_procedural (definition types ty)) (refuses (not_yet here.place)) (refuses (broken here.place rules.Stands))
 performed_entry types here one es = refuses (broken here.place rules.Stands)
 

@@ -105,6 +105,7 @@ pub(crate) fn target(alloc: Global, tree: &Designator, scope: &Scope) -> Result<
                     routine,
                     level,
                     header,
+                    ..
                 },
                 ..
             },

@@ -38,7 +38,7 @@ use Rattle.headers.proofs.HeaderLaws.{tells_not, lawful_type_named, lawful_proce
 use Rattle.type_denoters.specs.Trees.{Denoter, Denoters, Fields, named, range, enumeration, pointer, string, sized, procedure, function, object, array, record_of, set, no_denoters, and_denoter, no_fields, and_fields}
 use Rattle.type_denoters.specs.Places.{first_place}
 use Rattle.type_denoters.specs.Additions.{is_addable, with_type_of, Denoted, denoted, bytes_of, added, entered}
-use Rattle.type_denoters.specs.Denoters.{host_of, range_by, range_of, values_entered, enumerated, with_set, enumeration_of, Ground, promise_of, promised, target_of, pointer_to, IsSize, is_size, string_of, IsIndex, is_index, array_of, arrays_of, has_field, is_new, field, names_onto, Listed, Indexes, judged, indexes_judged, fields_judged}
+use Rattle.type_denoters.specs.Denoters.{host_of, set_base_of, with_set, followed, range_by, range_of, values_entered, enumerated, enumeration_of, Ground, promise_of, promised, target_of, pointer_to, IsSize, is_size, string_of, IsIndex, is_index, array_of, arrays_of, has_field, is_new, field, names_onto, Listed, Indexes, judged, indexes_judged, fields_judged}
 use Rattle.type_denoters.proofs.Addable.{tells_rising, tells_within, tells_addable}
 
 -- ---- what is added and entered
@@ -57,12 +57,29 @@ lawful_entered g place name one = lawful_rule (broken place rules.Duplicate) (no
 
 -- ---- subranges and enumerations
 
+module _ (unit : List ℕ) where
+  lawful_with_set : (g : Environment) (place : Place) (base : TypeId) → Lawful (with_set unit g place base)
+  lawful_with_set g place base =
+      lawful_part (added unit g place rules.SetBase (SetOf base)) (λ over. makes over.scope) (lawful_added unit g place rules.SetBase (SetOf base)) (λ over. lawful_makes over.scope)
+
+  lawful_followed : (place : Place) (base : TypeId) (one : Denoted) → Lawful (followed unit place base one)
+  lawful_followed place base one =
+      lawful_part (with_set unit one.scope place base) (λ h. makes (denoted one.ty h)) (lawful_with_set one.scope place base) (λ h. lawful_makes (denoted one.ty h))
+
 module _ (unit : List ℕ) (g : Environment) (place : Place) where
+  abbrev ranged : Sort → ℤ → ℤ → Judgement Denoted
+  ranged s low high = part (added unit g place rules.Constant (Ordinal (host_of s low high) low high)) (λ one. followed unit place (set_base_of s) one)
+
+  lawful_ranged : (s : Sort) (low high : ℤ) → Lawful (ranged s low high)
+  lawful_ranged s low high =
+      lawful_part (added unit g place rules.Constant (Ordinal (host_of s low high) low high)) (λ one. followed unit place (set_base_of s) one)
+      (lawful_added unit g place rules.Constant (Ordinal (host_of s low high) low high)) (λ one. lawful_followed unit place (set_base_of s) one)
+
   lawful_range_by : (s t : Sort) (low high : ℤ) → Lawful (range_by unit g place s t low high)
   lawful_range_by s t low high =
-      lawful_part (rule (broken place rules.Constant) (are_of_one_host s t) (AreOfOneHost s t) tt) (λ u. added unit g place rules.Constant (Ordinal (host_of s low high) low high))
+      lawful_part (rule (broken place rules.Constant) (are_of_one_host s t) (AreOfOneHost s t) tt) (λ u. ranged s low high)
       (lawful_rule (broken place rules.Constant) (are_of_one_host s t) (AreOfOneHost s t) tt (tells_one_host s t))
-      (λ u. lawful_added unit g place rules.Constant (Ordinal (host_of s low high) low high))
+      (λ u. lawful_ranged s low high)
 
   lawful_range : (low high : Constant) → Lawful (range_of unit g place low high)
   unfolding range_of
@@ -75,17 +92,13 @@ lawful_values g ty number (one ∷ rest) =
     (lawful_entered g one.position.place one.name (entry.Const ty (value.Number (pos number)))) (λ h. lawful_values h ty (number + 1) rest)
 
 module _ (unit : List ℕ) where
-  lawful_with_set : (place : Place) (one : Denoted) → Lawful (with_set unit place one)
-  lawful_with_set place one =
-      lawful_part (added unit one.scope place rules.SetBase (SetOf one.ty)) (λ over. makes over.scope) (lawful_added unit one.scope place rules.SetBase (SetOf one.ty)) (λ over. lawful_makes over.scope)
-
   -- what follows the type of an enumeration
   abbrev finished : Place → List Identifier → Denoted → Judgement Denoted
-  finished place names one = part (with_set unit place one) (λ h. part (values_entered h one.ty 0 names) (λ k. makes (denoted one.ty k)))
+  finished place names one = part (with_set unit one.scope place one.ty) (λ h. part (values_entered h one.ty 0 names) (λ k. makes (denoted one.ty k)))
 
   lawful_finished : (place : Place) (names : List Identifier) (one : Denoted) → Lawful (finished place names one)
   lawful_finished place names one =
-      lawful_part (with_set unit place one) (λ h. part (values_entered h one.ty 0 names) (λ k. makes (denoted one.ty k))) (lawful_with_set place one)
+      lawful_part (with_set unit one.scope place one.ty) (λ h. part (values_entered h one.ty 0 names) (λ k. makes (denoted one.ty k))) (lawful_with_set unit one.scope place one.ty)
       (λ h. lawful_part (values_entered h one.ty 0 names) (λ k. makes (denoted one.ty k)) (lawful_values h one.ty 0 names) (λ k. lawful_makes (denoted one.ty k)))
 
   lawful_enumeration : (g : Environment) (place : Place) (names : List Identifier) → Lawful (enumeration_of unit g place names)

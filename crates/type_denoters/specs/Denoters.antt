@@ -13,6 +13,7 @@ use Rattle.type_layout.specs.Words.{same_bytes}
 use Rattle.typed_tree.specs.declared.expressions.Value.TheVariants as value
 use Rattle.syntax_tree.specs.declared.identifier.Identifier.{Identifier}
 use Rattle.scopes.specs.declared.entries.Entry.TheVariants as entry
+use Rattle.scopes.specs.Predeclared.{type_id}
 use Rattle.scopes.specs.Environment.{Environment}
 use Rattle.typing_rules.specs.declared.faults.Rule.TheVariants as rules
 use Rattle.typing_rules.specs.declared.sorts.Sort.{Sort}
@@ -43,10 +44,27 @@ host_of sort.Boolean low high = host.Boolean
 host_of (sort.Enumeration ty) low high = host.Enumeration
 host_of _ low high = integer_storage low high
 
+-- what sets whose elements are of a sort are over: all of the host, of integers 0..255
+abbrev pub set_base_of : Sort → TypeId
+set_base_of sort.Char = sorts.char
+set_base_of sort.Boolean = sorts.boolean
+set_base_of (sort.Enumeration ty) = ty
+set_base_of _ = type_id 1
+
+-- a set, of which nothing but its place in the table is asked
+abbrev pub with_set : List ℕ → Environment → Place → TypeId → Judgement Environment
+with_set unit g place base = part (added unit g place rules.SetBase (SetOf base)) (λ over. makes over.scope)
+
+-- a type with the set behind it
+abbrev pub followed : List ℕ → Place → TypeId → Denoted → Judgement Denoted
+followed unit place base one = part (with_set unit one.scope place base) (λ h. makes (denoted one.ty h))
+
+-- The set that set constructors of its values have follows a subrange in the table, as one follows an enumeration: by it the
+-- enumeration is known that a subrange is of.
 abbrev pub range_by : List ℕ → Environment → Place → Sort → Sort → ℤ → ℤ → Judgement Denoted
 range_by unit g place s t low high =
     asking (rule (broken place rules.Constant) (are_of_one_host s t) (AreOfOneHost s t) tt)
-    (added unit g place rules.Constant (Ordinal (host_of s low high) low high))
+    (part (added unit g place rules.Constant (Ordinal (host_of s low high) low high)) (λ one. followed unit place (set_base_of s) one))
 
 -- bounds of one host, of which the first is not above the last
 unfoldable pub range_of : List ℕ → Environment → Place → Constant → Constant → Judgement Denoted
@@ -64,16 +82,12 @@ values_entered g ty number (one ∷ rest) =
 abbrev pub enumerated : List ℕ → Environment → Place → ℤ → Judgement Denoted
 enumerated unit g place high = added unit g place rules.Constant (Ordinal host.Enumeration (pos 0) high)
 
--- the set over an enumeration, of which set constructors are
-abbrev pub with_set : List ℕ → Place → Denoted → Judgement Environment
-with_set unit place one = part (added unit one.scope place rules.SetBase (SetOf one.ty)) (λ over. makes over.scope)
-
 -- At most 256 values, whose names are constants of the type. The set over it follows in the table.
 unfoldable pub enumeration_of : List ℕ → Environment → Place → List Identifier → Judgement Denoted
 enumeration_of unit g place names =
     asking (rule (broken place rules.Constant) (nat_le (length names) 256) (length names ≤ 256) tt)
     (part (enumerated unit g place (pos (length names) -ℤ pos 1)) (λ one.
-    part (with_set unit place one) (λ h.
+    part (with_set unit one.scope place one.ty) (λ h.
     part (values_entered h one.ty 0 names) (λ k. makes (denoted one.ty k)))))
 
 -- ---- pointers

@@ -3,6 +3,7 @@
 ghost use Rattle.std.specs.Prelude.{◌≡◌, ◌==◌, cond};
 ghost use Rattle.typing_rules.specs.Judgements.{Gives};
 ghost use Rattle.type_denoters.specs.Additions.{count_of, denoted, added, entered};
+ghost use Rattle.type_denoters.specs.Denoters.{with_set};
 
 use scopes::{Entry, Scope};
 use type_layout::{Name, Place, TypeDef, TypeError, TypeId, Types};
@@ -48,6 +49,19 @@ pub fn added(
         Err(TypeError::TooLarge { bytes }) => Err(Refusal::Because(too_large(place, bytes))),
         Err(TypeError::NoMemory) => Err(Refusal::NoMemory),
     }
+}
+
+/// Adds the set over a type, for a type that begins at a place and stands in front of it.
+pub(crate) fn with_set(
+    scope: &mut Scope,
+    unit: &Name,
+    place: Place,
+    base: TypeId,
+) -> Result<(), Refusal>
+    ensures { Gives (λ _. scope.new) result (with_set unit.now scope.old place base).run }
+{
+    let _over = added(scope, unit, place, Rule::SetBase, TypeDef::SetOf { base })?;
+    Ok(())
 }
 
 /// Puts a name into the innermost block, which doesn't have it yet. Where no block is open, nothing is put anywhere.

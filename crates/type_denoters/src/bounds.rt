@@ -5,11 +5,11 @@ ghost use Rattle.type_layout.specs.Storage.{integer_storage};
 ghost use Rattle.typing_rules.specs.Judgements.{Gives};
 ghost use Rattle.constant_expressions.specs.Values.{number_of};
 ghost use Rattle.type_denoters.specs.Additions.{denoted};
-ghost use Rattle.type_denoters.specs.Denoters.{host_of, range_of, is_size, string_of, is_index, array_of, arrays_of};
+ghost use Rattle.type_denoters.specs.Denoters.{host_of, set_base_of, range_of, is_size, string_of, is_index, array_of, arrays_of};
 
-use crate::additions::added;
+use crate::additions::{added, with_set};
 use constant_expressions::Constant;
-use scopes::Scope;
+use scopes::{BOOLEAN, BYTE, CHAR, Scope};
 use type_layout::{Host, Name, Place, TypeDef, TypeId, storage_of};
 use typed_tree::Value;
 use typing_rules::{
@@ -36,7 +36,20 @@ fn host_of(sort: Sort, low: i32, high: i32) -> Host
     }
 }
 
-/// A subrange that begins at a place: its bounds are of one host, and the first is not above the last.
+// What sets whose elements are of a sort are over: all of the host, of integers 0..255.
+fn set_base_of(sort: Sort) -> TypeId
+    ensures { result ≡ set_base_of sort }
+{
+    match sort {
+        Sort::Char => CHAR,
+        Sort::Boolean => BOOLEAN,
+        Sort::Enumeration(ty) => ty,
+        _ => BYTE,
+    }
+}
+
+/// A subrange that begins at a place: its bounds are of one host, and the first is not above the last. The set that set constructors
+/// of its values have follows it in the table.
 #[tactic(auto, unfolding(crate::specs::Denoters::range_of))]
 pub(crate) fn range_of(
     scope: &mut Scope,
@@ -55,13 +68,10 @@ pub(crate) fn range_of(
     let low = number_of(low);
     let high = number_of(high);
     let host = host_of(first, low, high);
-    added(
-        scope,
-        unit,
-        place,
-        Rule::Constant,
-        TypeDef::Ordinal { host, low, high },
-    )
+    let one = TypeDef::Ordinal { host, low, high };
+    let ty = added(scope, unit, place, Rule::Constant, one)?;
+    with_set(scope, unit, place, set_base_of(first))?;
+    Ok(ty)
 }
 
 fn is_size(sort: Sort, number: i32) -> bool

@@ -3,9 +3,9 @@
 ghost use Rattle.std.specs.Prelude.{◌+◌, ◌≤◌, length};
 ghost use Rattle.typing_rules.specs.Judgements.{Gives};
 ghost use Rattle.type_denoters.specs.Additions.{denoted};
-ghost use Rattle.type_denoters.specs.Denoters.{values_entered, enumerated, with_set, enumeration_of};
+ghost use Rattle.type_denoters.specs.Denoters.{values_entered, enumerated, enumeration_of};
 
-use crate::additions::{added, entered};
+use crate::additions::{added, entered, with_set};
 use scopes::{Entry, Scope};
 use syntax_tree::Identifier;
 use type_layout::{Host, Name, Place, TypeDef, TypeId};
@@ -34,14 +34,6 @@ fn enter_values(
             enter_values(scope, ty, number + 1, rest)
         }
     }
-}
-
-fn with_set(scope: &mut Scope, unit: &Name, place: Place, ty: TypeId) -> Result<(), Refusal>
-    ensures { Gives (λ _. scope.new) result (with_set unit.now place (denoted ty scope.old)).run }
-{
-    let over = TypeDef::SetOf { base: ty };
-    let _over = added(scope, unit, place, Rule::SetBase, over)?;
-    Ok(())
 }
 
 /// An enumeration that begins at a place. It has at most 256 values, whose names are put into the innermost block; the set over it

@@ -14,11 +14,11 @@ use Rattle.type_denoters.specs.Trees as tree
 use Rattle.type_denoters.specs.Trees.{Denoter, Denoters, Fields, view_denoter}
 use Rattle.type_denoters.specs.Denoters.{promise_of}
 
--- how many types are added for a type, of which it is the last, but for an enumeration, which its set follows
+-- how many types are added for a type, of which it is the last, but for an enumeration and a subrange, which a set follows
 abbrev mutual
   pub adds : Denoter → ℕ
   adds (tree.named one) = 0
-  adds (tree.range low high) = 1
+  adds (tree.range low high) = 2
   adds (tree.enumeration place names) = 2
   adds (tree.pointer one) = 1
   adds tree.string = 0
@@ -54,6 +54,7 @@ abbrev pub promised_id : Environment → List Promise → ℕ → Denoter → Ty
 promised_id g before next (tree.named one) = alias_of g before one
 promised_id g before next tree.string = sorts.string
 promised_id g before next (tree.enumeration place names) = type_id next
+promised_id g before next (tree.range low high) = type_id next
 promised_id g before next one = type_id (narrow (next + adds one) - 1)
 
 abbrev pub promise : List ℕ → TypeId → Promise

@@ -15,9 +15,8 @@ pub(crate) fn adds(tree: &TypeDenoter) -> u32
 {
     match tree {
         TypeDenoter::Name(_) => 0,
-        TypeDenoter::Enumeration { .. } => 2,
-        TypeDenoter::Range(..)
-        | TypeDenoter::Pointer { .. }
+        TypeDenoter::Range(..) | TypeDenoter::Enumeration { .. } => 2,
+        TypeDenoter::Pointer { .. }
         | TypeDenoter::Procedure { .. }
         | TypeDenoter::Function { .. } => 1,
         TypeDenoter::String { length, .. } => match length {

@@ -59,7 +59,7 @@ fn promised_id(scope: &Scope, before: &[Promise], next: u32, tree: &TypeDenoter)
     match tree {
         TypeDenoter::Name(one) => alias_of(scope, before, one),
         TypeDenoter::String { length: None, .. } => STRING,
-        TypeDenoter::Enumeration { .. } => TypeId(next),
+        TypeDenoter::Range(..) | TypeDenoter::Enumeration { .. } => TypeId(next),
         _ => TypeId(next.saturating_add(adds(tree)).saturating_sub(1)),
     }
 }

@@ -1,6 +1,6 @@
 //! The stack that an activation takes, and the weight of a unit.
 
-ghost use Rattle.std.specs.Prelude.{◌≡◌, ◌<◌, ◌≤◌, length, slice_get, sum_by};
+ghost use Rattle.std.specs.Prelude.{◌≡◌, ◌<◌, ◌≤◌, ◌+◌, length, slice_get, sum_by};
 ghost use Rattle.typed_tree.specs.Slots.{capped};
 ghost use Rattle.typed_tree.specs.Frames.{param_bytes, copy_bytes, is_copied, is_string, even_size, class_argument, result_argument, result_bytes, argument_bytes, local_bytes, need_of, frame_of, routine_weight, weight_of, at_routine, HoldsItsParts, StaysWithinNeed};
 
@@ -202,6 +202,14 @@ pub fn frame_of(unit: &Unit, routine: u32) -> u64
 {
     let routine = &unit.routines.as_slice()[routine as usize];
     frame_of_routine(&unit.types, routine)
+}
+
+/// The bytes that a routine takes for itself, or the greatest u64 where they pass it: its variables, its copies of
+/// arguments, a result that is no string, and its evaluation stack.
+pub fn own_bytes(types: &Types, routine: &Routine) -> u64
+    ensures { result ≡ capped (local_bytes types.now.types routine.now + need_of types.now.types routine.now) }
+{
+    local_bytes(types, routine).saturating_add(need_of_stmt(types, &routine.body))
 }
 
 /// A bound on the bytes of code of a unit, or the greatest u64 where it passes that.

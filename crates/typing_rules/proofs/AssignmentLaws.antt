@@ -9,13 +9,12 @@ use Rattle.well_formed.specs.Fits.{definition}
 use Rattle.typing_rules.specs.declared.faults.Rule.TheVariants as rules
 use Rattle.typing_rules.specs.declared.sorts.Sort.{Sort}
 use Rattle.typing_rules.specs.declared.sorts.Sort.TheVariants as sort
-use Rattle.typing_rules.specs.Faults.{broken, not_yet}
-use Rattle.typing_rules.specs.Judgements.{refuses, rule}
+use Rattle.typing_rules.specs.Faults.{broken}
 use Rattle.typing_rules.specs.Sorts.{sort_of_type, sort_of}
 use Rattle.typing_rules.specs.Wanted.{stored_of}
-use Rattle.typing_rules.specs.Assignments.{IsString, is_string, IsLike, is_like, IsAssignable, is_assignable, is_procedural, assigned_by, assigned_to, assigned}
+use Rattle.typing_rules.specs.Assignments.{IsString, is_string, IsLike, is_like, IsAssignable, is_assignable, assigned_by, assigned_to, assigned}
 use Rattle.typing_rules.specs.Laws.{Lawful}
-use Rattle.typing_rules.proofs.JudgementLaws.{lawful_refuses, lawful_rule, lawful_either}
+use Rattle.typing_rules.proofs.JudgementLaws.{lawful_rule}
 use Rattle.typing_rules.proofs.PlanLaws.{yes, no, tells_one_host, tells_text, tells_sets}
 use Rattle.typing_rules.proofs.JoinLaws.{tells_below, tells_type, tells_nil}
 
@@ -40,10 +39,7 @@ tells_assignable types target s ty own = Decides-or _ _ (tells_like target s) (D
 module _ (types : List TypeDef) (place : Place) (ty : TypeId) (checked : Bool) where
   lawful_to : (target s : Sort) (e : Expression) → Lawful (assigned_to types place ty checked target s e)
   lawful_to target s e =
-      lawful_either (is_procedural (definition types ty)) (refuses (not_yet place))
-      (rule (broken place rules.Assigned) (is_assignable types target s ty (type_of e)) (IsAssignable types target s ty (type_of e)) (assigned_by ty (definition types ty) (stored_of types e) checked e))
-      (lawful_refuses (not_yet place))
-      (lawful_rule (broken place rules.Assigned) (is_assignable types target s ty (type_of e)) (IsAssignable types target s ty (type_of e)) (assigned_by ty (definition types ty) (stored_of types e) checked e) (tells_assignable types target s ty (type_of e)))
+      lawful_rule (broken place rules.Assigned) (is_assignable types target s ty (type_of e)) (IsAssignable types target s ty (type_of e)) (assigned_by ty (definition types ty) (stored_of types e) checked e) (tells_assignable types target s ty (type_of e))
 
   pub lawful_assigned : (e : Expression) → Lawful (assigned types place ty checked e)
   unfolding assigned

@@ -11,38 +11,23 @@ use Rattle.well_formed.specs.Fits.{definition}
 use Rattle.scopes.specs.declared.members.Member.{Member}
 use Rattle.scopes.specs.Members.{member_of}
 use Rattle.typing_rules.specs.declared.faults.Rule.TheVariants as rules
-use Rattle.typing_rules.specs.Faults.{broken, not_yet}
+use Rattle.typing_rules.specs.Faults.{broken}
 use Rattle.typing_rules.specs.Judgements.{refuses, rule}
 use Rattle.typing_rules.specs.Sorts.{char, sort_of_type, sort_of}
 use Rattle.typing_rules.specs.Plans.{AreOfOneHost, are_of_one_host, IsInteger, is_integer}
-use Rattle.typing_rules.specs.Selectors.{loaded_by, loaded, field_at, field_named, own_field, member_named, selected_by, selected, indexed_by, indexed, target_of, followed_to, followed}
+use Rattle.typing_rules.specs.Selectors.{loaded, field_at, field_named, own_field, member_named, selected_by, selected, indexed_by, indexed, target_of, followed_to, followed}
 use Rattle.typing_rules.specs.Laws.{Lawful}
 use Rattle.typing_rules.proofs.JudgementLaws.{lawful_makes, lawful_refuses, lawful_rule, lawful_either, lawful_part}
 use Rattle.typing_rules.proofs.PlanLaws.{tells_integer, tells_one_host}
 
 module _ (types : List TypeDef) (place : Place) where
-  loaded_at : (ty : TypeId) (at : tree.Place) (one : Option TypeDef) → Lawful (loaded_by place ty at one)
-  loaded_at ty at None = lawful_makes _
-  loaded_at ty at (Some (type.Ordinal host low high)) = lawful_makes _
-  loaded_at ty at (Some (type.Str max)) = lawful_makes _
-  loaded_at ty at (Some (type.SetOf base)) = lawful_makes _
-  loaded_at ty at (Some (type.ArrayOf index element)) = lawful_makes _
-  loaded_at ty at (Some (type.RecordOf fields)) = lawful_makes _
-  loaded_at ty at (Some (type.PointerTo target)) = lawful_makes _
-  loaded_at ty at (Some (type.ObjectOf parent dynamic fields methods)) = lawful_makes _
-  loaded_at ty at (Some (type.Procedural header)) = lawful_refuses _
-
-  pub lawful_loaded : (ty : TypeId) (at : tree.Place) → Lawful (loaded types place ty at)
-  unfolding loaded
-  lawful_loaded ty at = loaded_at ty at (definition types ty)
-
   -- ---- fields
 
-  lawful_field : (at : tree.Place) (number : ℕ) (one : Option Field) → Lawful (field_at types place at number one)
+  lawful_field : (at : tree.Place) (number : ℕ) (one : Option Field) → Lawful (field_at place at number one)
   lawful_field at number None = lawful_refuses _
-  lawful_field at number (Some one) = lawful_loaded one.ty (FieldOf at number)
+  lawful_field at number (Some one) = lawful_makes _
 
-  lawful_named : (at : tree.Place) (fields : List Field) (one : Option Member) → Lawful (field_named types place at fields one)
+  lawful_named : (at : tree.Place) (fields : List Field) (one : Option Member) → Lawful (field_named place at fields one)
   lawful_named at fields None = lawful_refuses _
   lawful_named at fields (Some one) = lawful_field at one.number (slice_get fields one.number)
 
@@ -50,7 +35,7 @@ module _ (types : List TypeDef) (place : Place) where
   lawful_member at name None = lawful_refuses _
   lawful_member at name (Some one) =
       let field = own_field (definition types one.class) name in
-      lawful_either one.method (refuses (not_yet place)) (field_at types place at one.number field) (lawful_refuses _) (lawful_field at one.number field)
+      lawful_either one.method (refuses (broken place rules.Selected)) (field_at place at one.number field) (lawful_refuses _) (lawful_field at one.number field)
 
   selected_at : (ty : TypeId) (at : tree.Place) (one : Option TypeDef) (name : List ℕ) → Lawful (selected_by types place ty at one name)
   selected_at ty at None name = lawful_refuses _
@@ -84,9 +69,9 @@ module _ (types : List TypeDef) (place : Place) where
   module _ (checked : Bool) (i : Expression) where
     lawful_element : (at : tree.Place) (over element : TypeId) → Lawful (indexed_by types place checked at (Some (type.ArrayOf over element)) i)
     lawful_element at over element =
-        lawful_part (rule (broken place rules.Indexed) (are_of_one_host (sort_of_type types over) (sort_of types i)) (AreOfOneHost (sort_of_type types over) (sort_of types i)) tt) (λ u. loaded types place element (Index at i checked))
+        lawful_part (rule (broken place rules.Indexed) (are_of_one_host (sort_of_type types over) (sort_of types i)) (AreOfOneHost (sort_of_type types over) (sort_of types i)) tt) (λ u. loaded element (Index at i checked))
         (lawful_rule (broken place rules.Indexed) (are_of_one_host (sort_of_type types over) (sort_of types i)) (AreOfOneHost (sort_of_type types over) (sort_of types i)) tt (tells_one_host (sort_of_type types over) (sort_of types i)))
-        (λ u. lawful_loaded element (Index at i checked))
+        (λ u. lawful_makes (Load element (Index at i checked)))
 
     indexed_at : (at : tree.Place) (one : Option TypeDef) → Lawful (indexed_by types place checked at one i)
     indexed_at at None = lawful_refuses _
@@ -119,7 +104,7 @@ module _ (types : List TypeDef) (place : Place) where
 
   lawful_to : (target : Option TypeId) (e : Expression) → Lawful (followed_to types place target e)
   lawful_to None e = lawful_refuses _
-  lawful_to (Some target) e = lawful_loaded target (Deref e)
+  lawful_to (Some target) e = lawful_makes _
 
   pub lawful_followed : (e : Expression) → Lawful (followed types place e)
   unfolding followed

@@ -12,8 +12,8 @@ use Rattle.well_formed.specs.Fits.{definition}
 use Rattle.typing_rules.specs.declared.faults.Rule.TheVariants as rules
 use Rattle.typing_rules.specs.declared.sorts.Sort.{Sort}
 use Rattle.typing_rules.specs.declared.sorts.Sort.TheVariants as sort
-use Rattle.typing_rules.specs.Faults.{broken, not_yet}
-use Rattle.typing_rules.specs.Judgements.{Judgement, refuses, rule, either}
+use Rattle.typing_rules.specs.Faults.{broken}
+use Rattle.typing_rules.specs.Judgements.{Judgement, rule}
 use Rattle.typing_rules.specs.Sorts.{sort_of_type, sort_of}
 use Rattle.typing_rules.specs.Wanted.{stored_of, converted, as_text, as_pointer}
 use Rattle.typing_rules.specs.Plans.{AreOfOneHost, are_of_one_host, IsText, is_text, AreSets, are_sets}
@@ -43,7 +43,7 @@ IsAssignable types target s ty own = IsLike target s ⊎ (IsOfType ty own ⊎ Is
 abbrev pub is_assignable : List TypeDef → Sort → Sort → TypeId → Option TypeId → Bool
 is_assignable types target s ty own = is_like target s || (is_of_type ty own || is_below types ty own)
 
--- routines as values are not built yet
+-- variables of such a type hold routines
 abbrev pub is_procedural : Option TypeDef → Bool
 is_procedural (Some (type.Procedural header)) = true
 is_procedural _ = false
@@ -80,9 +80,8 @@ assigned_by ty _ stored checked e = e
 
 abbrev pub assigned_to : List TypeDef → Place → TypeId → Bool → Sort → Sort → Expression → Judgement Expression
 assigned_to types place ty checked target s e =
-    either (is_procedural (definition types ty)) (refuses (not_yet place))
-    (rule (broken place rules.Assigned) (is_assignable types target s ty (type_of e)) (IsAssignable types target s ty (type_of e))
-    (assigned_by ty (definition types ty) (stored_of types e) checked e))
+    rule (broken place rules.Assigned) (is_assignable types target s ty (type_of e)) (IsAssignable types target s ty (type_of e))
+    (assigned_by ty (definition types ty) (stored_of types e) checked e)
 
 -- A value of an assignment at a place, to a target of a type. With `checked` it must lie within the bounds of an ordinal type.
 unfoldable pub assigned : List TypeDef → Place → TypeId → Bool → Expression → Judgement Expression

@@ -6,13 +6,12 @@ use Rattle.type_layout.specs.declared.definitions.TypeId.{TypeId}
 use Rattle.type_layout.specs.declared.definitions.TypeDef.{TypeDef}
 use Rattle.typed_tree.specs.declared.expressions.UnaryOp.{UnaryOp}
 use Rattle.typed_tree.specs.declared.expressions.BinaryOp.{BinaryOp}
-use Rattle.typed_tree.specs.Expressions as tree
 use Rattle.typed_tree.specs.Expressions.{Expression}
 use Rattle.typing_rules.specs.declared.faults.Fault.{Fault}
 use Rattle.typing_rules.specs.Judgements.{Judgement}
 use Rattle.typing_rules.specs.Operators.{combined, signed, negated}
 use Rattle.typing_rules.specs.Assignments.{assigned}
-use Rattle.typing_rules.specs.Selectors.{loaded, selected, indexed, followed}
+use Rattle.typing_rules.specs.Selectors.{selected, indexed, followed}
 
 pub record Found {C : Type 0} (P : C → Type 0) (F : Fault → Type 0) (c : C) : Type 0 where
   pub holds : P c
@@ -41,7 +40,6 @@ pub record AreLawful : Type 0 where
   pub combined : (types : List TypeDef) (place : Place) (op : BinaryOp) (early : Bool) (a b : Expression) → Lawful (combined types place op early a b)
   pub signed : (types : List TypeDef) (place : Place) (op : UnaryOp) (a : Expression) → Lawful (signed types place op a)
   pub negated : (types : List TypeDef) (place : Place) (a : Expression) → Lawful (negated types place a)
-  pub loaded : (types : List TypeDef) (place : Place) (ty : TypeId) (at : tree.Place) → Lawful (loaded types place ty at)
   pub selected : (types : List TypeDef) (place : Place) (e : Expression) (name : List ℕ) → Lawful (selected types place e name)
   pub indexed : (types : List TypeDef) (place : Place) (checked : Bool) (e i : Expression) → Lawful (indexed types place checked e i)
   pub followed : (types : List TypeDef) (place : Place) (e : Expression) → Lawful (followed types place e)

@@ -12,28 +12,24 @@ use Rattle.well_formed.specs.Fits.{definition}
 use Rattle.scopes.specs.declared.members.Member.{Member}
 use Rattle.scopes.specs.Members.{member_of}
 use Rattle.typing_rules.specs.declared.faults.Rule.TheVariants as rules
-use Rattle.typing_rules.specs.Faults.{broken, not_yet}
+use Rattle.typing_rules.specs.Faults.{broken}
 use Rattle.typing_rules.specs.Judgements.{Judgement, makes, refuses, rule, either, part}
 use Rattle.typing_rules.specs.Sorts.{char, sort_of_type, sort_of}
 use Rattle.typing_rules.specs.Plans.{AreOfOneHost, are_of_one_host, IsInteger, is_integer}
 
--- What a place of a type holds. A procedural variable is a call, which is not built yet.
-abbrev pub loaded_by : Place → TypeId → tree.Place → Option TypeDef → Judgement Expression
-loaded_by place ty at (Some (type.Procedural header)) = refuses (not_yet place)
-loaded_by place ty at _ = makes (Load ty at)
-
-unfoldable pub loaded : List TypeDef → Place → TypeId → tree.Place → Judgement Expression
-loaded types place ty at = loaded_by place ty at (definition types ty)
+-- what a place of a type holds
+abbrev pub loaded : TypeId → tree.Place → Judgement Expression
+loaded ty at = makes (Load ty at)
 
 -- ---- fields
 
-abbrev pub field_at : List TypeDef → Place → tree.Place → ℕ → Option Field → Judgement Expression
-field_at types place at number None = refuses (broken place rules.Selected)
-field_at types place at number (Some field) = loaded types place field.ty (FieldOf at number)
+abbrev pub field_at : Place → tree.Place → ℕ → Option Field → Judgement Expression
+field_at place at number None = refuses (broken place rules.Selected)
+field_at place at number (Some field) = loaded field.ty (FieldOf at number)
 
-abbrev pub field_named : List TypeDef → Place → tree.Place → List Field → Option Member → Judgement Expression
-field_named types place at fields None = refuses (broken place rules.Selected)
-field_named types place at fields (Some one) = field_at types place at one.number (slice_get fields one.number)
+abbrev pub field_named : Place → tree.Place → List Field → Option Member → Judgement Expression
+field_named place at fields None = refuses (broken place rules.Selected)
+field_named place at fields (Some one) = field_at place at one.number (slice_get fields one.number)
 
 -- the field of this name that an object type declares itself
 abbrev pub field_in : List Field → Option ℕ → Option Field
@@ -47,14 +43,14 @@ abbrev pub own_field : Option TypeDef → List ℕ → Option Field
 own_field (Some (type.ObjectOf parent dynamic fields methods)) name = declared_field fields name
 own_field _ name = None
 
--- a field of an object's line; methods are not built yet
+-- a field of an object's line; a method is none
 abbrev pub member_named : List TypeDef → Place → tree.Place → List ℕ → Option Member → Judgement Expression
 member_named types place at name None = refuses (broken place rules.Selected)
 member_named types place at name (Some one) =
-    either one.method (refuses (not_yet place)) (field_at types place at one.number (own_field (definition types one.class) name))
+    either one.method (refuses (broken place rules.Selected)) (field_at place at one.number (own_field (definition types one.class) name))
 
 abbrev pub selected_by : List TypeDef → Place → TypeId → tree.Place → Option TypeDef → List ℕ → Judgement Expression
-selected_by types place ty at (Some (type.RecordOf fields)) name = field_named types place at fields (member_of types (Some ty) name)
+selected_by types place ty at (Some (type.RecordOf fields)) name = field_named place at fields (member_of types (Some ty) name)
 selected_by types place ty at (Some (type.ObjectOf parent dynamic fields methods)) name = member_named types place at name (member_of types (Some ty) name)
 selected_by types place ty at _ name = refuses (broken place rules.Selected)
 
@@ -75,7 +71,7 @@ asking j k = part j (λ u. k)
 abbrev pub indexed_by : List TypeDef → Place → Bool → tree.Place → Option TypeDef → Expression → Judgement Expression
 indexed_by types place checked at (Some (type.ArrayOf index element)) i =
     asking (rule (broken place rules.Indexed) (are_of_one_host (sort_of_type types index) (sort_of types i)) (AreOfOneHost (sort_of_type types index) (sort_of types i)) tt)
-    (loaded types place element (Index at i checked))
+    (loaded element (Index at i checked))
 indexed_by types place checked at (Some (type.Str max)) i =
     rule (broken place rules.Indexed) (is_integer (sort_of types i)) (IsInteger (sort_of types i)) (Load char (Index at i checked))
 indexed_by types place checked at _ i = refuses (broken place rules.Indexed)
@@ -105,7 +101,7 @@ target_of types e = target_in types (type_of e)
 
 abbrev pub followed_to : List TypeDef → Place → Option TypeId → Expression → Judgement Expression
 followed_to types place None e = refuses (broken place rules.Dereferenced)
-followed_to types place (Some target) e = loaded types place target (Deref e)
+followed_to types place (Some target) e = loaded target (Deref e)
 
 -- what a pointer leads to
 unfoldable pub followed : List TypeDef → Place → Expression → Judgement Expression

@@ -1,5 +1,5 @@
 -- What operators look at in an operand: which kind of value it is, and between which bounds an integer lies.
-use Rattle.std.specs.Prelude.{ℤ, ◌&&◌, Bool, cond, List, [], Option, Some, None}
+use Rattle.std.specs.Prelude.{◌+◌, ℤ, ◌&&◌, Bool, true, false, cond, List, [], Option, Some, None}
 use Rattle.type_layout.specs.declared.definitions.TypeId.{TypeId}
 use Rattle.type_layout.specs.declared.definitions.Host.{Host}
 use Rattle.type_layout.specs.declared.definitions.Host.TheVariants as host
@@ -68,6 +68,26 @@ common_type r s = cond (are_within host.Integer r s) integer (cond (are_within h
 abbrev pub number_type : ℤ → TypeId
 number_type n = holding_type (only n)
 
+-- ---- enumerations
+
+-- what a set is over
+abbrev pub set_base : Option TypeDef → Option TypeId
+set_base (Some (type.SetOf base)) = Some base
+set_base _ = None
+
+abbrev pub is_enumeration : Option TypeDef → Bool
+is_enumeration (Some (type.Ordinal host.Enumeration low high)) = true
+is_enumeration _ = false
+
+abbrev pub host_by : List TypeDef → TypeId → Option TypeId → TypeId
+host_by types ty None = ty
+host_by types ty (Some base) = cond (is_enumeration (definition types base)) base ty
+
+-- The enumeration that the values of an ordinal type are of. In a table an enumeration and each subrange of it are followed by the
+-- set over all of the enumeration.
+abbrev pub host_in : List TypeDef → TypeId → TypeId
+host_in types ty = host_by types ty (set_base (definition types (type_id (ty.0 + 1))))
+
 -- ---- sorts
 
 abbrev pub sort_stored : TypeId → Host → Sort
@@ -86,11 +106,11 @@ base_stored ty None = over.Any
 
 -- what the elements of sets over a type are
 abbrev pub base_of : List TypeDef → TypeId → SetBase
-base_of types ty = base_stored ty (stored_as (definition types ty))
+base_of types ty = base_stored (host_in types ty) (stored_as (definition types ty))
 
 -- what the values of a type are
 abbrev pub sort_by : List TypeDef → TypeId → Option TypeDef → Sort
-sort_by types ty (Some (type.Ordinal host low high)) = sort_stored ty (storage_of host low high)
+sort_by types ty (Some (type.Ordinal host low high)) = sort_stored (host_in types ty) (storage_of host low high)
 sort_by types ty (Some (type.Str max)) = Text
 sort_by types ty (Some (type.SetOf base)) = Set (base_of types base)
 sort_by types ty (Some (type.PointerTo target)) = Pointer

@@ -5,7 +5,7 @@ ghost use Rattle.typed_tree.specs.Expressions.{view_expr};
 ghost use Rattle.typing_rules.specs.Judgements.{Gives};
 ghost use Rattle.typing_rules.specs.Assignments.{is_string, is_like, is_assignable, is_procedural, ranged, constant_in, tested, stored_in, assigned_by, assigned};
 
-use crate::faults::{Refusal, Rule, broken, not_yet};
+use crate::faults::{Refusal, Rule, broken};
 use crate::joins::{is_below, is_nil_for, is_of_type};
 use crate::plans::{are_of_one_host, are_sets, is_text};
 use crate::sorts::{Sort, definition, sort_of, sort_of_type, type_of};
@@ -44,7 +44,7 @@ pub fn is_assignable(
     is_like(target, sort) || (is_of_type(ty, own) || is_below(types, ty, own))
 }
 
-/// Whether it is a procedural type, whose values are not built yet.
+/// Whether it is a procedural type, whose variables hold routines.
 pub fn is_procedural(one: Option<&TypeDef>) -> bool
     ensures { result ≡ is_procedural (option_copied one.entry) }
 {
@@ -175,10 +175,6 @@ pub fn assigned(
 ) -> Result<Expr, Refusal>
     ensures { Gives view_expr result (assigned types.now.types place ty checked (view_expr expr)).run }
 {
-    let one = definition(types, ty);
-    if is_procedural(one) {
-        return Err(Refusal::Because(not_yet(place)));
-    }
     let own = type_of(&expr);
     if !is_assignable(
         types,
@@ -190,5 +186,5 @@ pub fn assigned(
         return Err(Refusal::Because(broken(place, Rule::Assigned)));
     }
     let stored = stored_of_type(types, own);
-    assigned_by(alloc, ty, one, stored, checked, expr)
+    assigned_by(alloc, ty, definition(types, ty), stored, checked, expr)
 }

@@ -7,7 +7,7 @@ ghost use Rattle.well_formed.specs.Fits.{definition};
 ghost use Rattle.typing_rules.specs.Judgements.{Gives};
 ghost use Rattle.typing_rules.specs.Selectors.{loaded, field_at, field_in, declared_field, own_field, member_named, selected_by, selected, indexed_by, indexed, target_of, followed};
 
-use crate::faults::{Refusal, Rule, broken, not_yet};
+use crate::faults::{Refusal, Rule, broken};
 use crate::plans::{are_of_one_host, is_integer};
 use crate::sorts::{definition, sort_of, sort_of_type, type_of};
 use scopes::{CHAR, Member, member_of};
@@ -15,36 +15,25 @@ use std::alloc::Global;
 use type_layout::{Field, Name, Place, TypeDef, TypeId, Types};
 use typed_tree::{Expr, PlaceExpr};
 
-/// What a place of a type holds. A procedural variable is not built yet.
-#[tactic(auto, unfolding(crate::specs::Selectors::loaded))]
-pub fn loaded(
-    alloc: Global,
-    types: &Types,
-    place: Place,
-    ty: TypeId,
-    at: PlaceExpr,
-) -> Result<Expr, Refusal>
-    ensures { Gives view_expr result (loaded types.now.types place ty (view_place at)).run }
+/// What a place of a type holds.
+pub fn loaded(alloc: Global, ty: TypeId, at: PlaceExpr) -> Result<Expr, Refusal>
+    ensures { Gives view_expr result (loaded ty (view_place at)).run }
 {
-    match definition(types, ty) {
-        Some(TypeDef::Procedural { .. }) => Err(Refusal::Because(not_yet(place))),
-        _ => Ok(Expr::Load {
-            ty,
-            place: Box::new(alloc, at)?,
-        }),
-    }
+    Ok(Expr::Load {
+        ty,
+        place: Box::new(alloc, at)?,
+    })
 }
 
 // The field with this number of those of a record.
 fn field_at(
     alloc: Global,
-    types: &Types,
     place: Place,
     at: PlaceExpr,
     number: u32,
     field: Option<&Field>,
 ) -> Result<Expr, Refusal>
-    ensures { Gives view_expr result (field_at types.now.types place (view_place at) number (option_copied field.entry)).run }
+    ensures { Gives view_expr result (field_at place (view_place at) number (option_copied field.entry)).run }
 {
     match field {
         Some(field) => {
@@ -52,7 +41,7 @@ fn field_at(
                 place: Box::new(alloc, at)?,
                 number,
             };
-            loaded(alloc, types, place, field.ty, at)
+            loaded(alloc, field.ty, at)
         }
         None => Err(Refusal::Because(broken(place, Rule::Selected))),
     }
@@ -103,10 +92,10 @@ fn member_named(
 {
     match member {
         None => Err(Refusal::Because(broken(place, Rule::Selected))),
-        Some(one) if one.method => Err(Refusal::Because(not_yet(place))),
+        Some(one) if one.method => Err(Refusal::Because(broken(place, Rule::Selected))),
         Some(one) => {
             let field = own_field(definition(types, one.class), name);
-            field_at(alloc, types, place, at, one.number, field)
+            field_at(alloc, place, at, one.number, field)
         }
     }
 }
@@ -126,7 +115,7 @@ fn selected_by(
         Some(TypeDef::RecordOf { fields }) => match member_of(types, Some(ty), name) {
             Some(one) => {
                 let field = fields.as_slice().get(one.number as usize);
-                field_at(alloc, types, place, at, one.number, field)
+                field_at(alloc, place, at, one.number, field)
             }
             None => Err(Refusal::Because(broken(place, Rule::Selected))),
         },
@@ -197,7 +186,7 @@ fn indexed_by(
             },
         ) if are_of_one_host(sort_of_type(types, *over), sort) => {
             let at = index_of(alloc, at, index, checked)?;
-            loaded(alloc, types, place, *element, at)
+            loaded(alloc, *element, at)
         }
         Some(TypeDef::Str { .. }) if is_integer(sort) => {
             let at = index_of(alloc, at, index, checked)?;
@@ -256,7 +245,7 @@ pub fn followed(alloc: Global, types: &Types, place: Place, pointer: Expr) -> Re
             let at = PlaceExpr::Deref {
                 pointer: Box::new(alloc, pointer)?,
             };
-            loaded(alloc, types, place, target, at)
+            loaded(alloc, target, at)
         }
         None => Err(Refusal::Because(broken(place, Rule::Dereferenced))),
     }

@@ -1,9 +1,10 @@
 //! What operators look at in an operand.
 
-ghost use Rattle.std.specs.Prelude.{◌≡◌, Some, option_copied};
+ghost use Rattle.std.specs.Prelude.{◌≡◌, ◌+◌, Some, option_copied};
 ghost use Rattle.typed_tree.specs.Expressions.{view_expr, view_elements, type_of};
+ghost use Rattle.scopes.specs.Predeclared.{type_id};
 ghost use Rattle.well_formed.specs.Fits.{definition};
-ghost use Rattle.typing_rules.specs.Sorts.{range_of, only, is_within, are_within, holding_type, common_type, number_type, sort_stored, base_stored, base_of, sort_by, sort_of_type, known, sort_of_constant, sort_of_set, sort_of_result, sort_of};
+ghost use Rattle.typing_rules.specs.Sorts.{range_of, only, is_within, are_within, holding_type, common_type, number_type, set_base, is_enumeration, host_by, host_in, sort_stored, base_stored, base_of, sort_by, sort_of_type, known, sort_of_constant, sort_of_set, sort_of_result, sort_of};
 
 use scopes::{INTEGER, LONG_INT, WORD};
 use type_layout::{Host, TypeDef, TypeId, Types, storage_of};
@@ -98,6 +99,52 @@ pub fn number_type(number: i32) -> TypeId
     holding_type(only(number))
 }
 
+// What a set is over.
+fn set_base(one: Option<&TypeDef>) -> Option<TypeId>
+    ensures { result ≡ set_base (option_copied one.entry) }
+{
+    match one {
+        Some(TypeDef::SetOf { base }) => Some(*base),
+        _ => None,
+    }
+}
+
+fn is_enumeration(one: Option<&TypeDef>) -> bool
+    ensures { result ≡ is_enumeration (option_copied one.entry) }
+{
+    match one {
+        Some(TypeDef::Ordinal { host, .. }) => matches!(host, Host::Enumeration),
+        _ => false,
+    }
+}
+
+fn host_by(types: &Types, ty: TypeId, base: Option<TypeId>) -> TypeId
+    ensures { result ≡ host_by types.now.types ty base }
+{
+    match base {
+        Some(base) if is_enumeration(definition(types, base)) => base,
+        _ => ty,
+    }
+}
+
+// The type behind one in the table.
+fn behind(types: &Types, ty: TypeId) -> Option<&TypeDef>
+    ensures { option_copied result ≡ definition types.now.types (type_id (ty.0 + 1)) }
+{
+    if ty.0 < types.count() {
+        definition(types, TypeId(ty.0 + 1))
+    } else {
+        None
+    }
+}
+
+// The enumeration that the values of an ordinal type are of: what the set over them, which follows, is over.
+fn host_in(types: &Types, ty: TypeId) -> TypeId
+    ensures { result ≡ host_in types.now.types ty }
+{
+    host_by(types, ty, set_base(behind(types, ty)))
+}
+
 fn sort_stored(ty: TypeId, stored: Host) -> Sort
     ensures { result ≡ sort_stored ty stored }
 {
@@ -136,7 +183,7 @@ fn base_of(types: &Types, ty: TypeId) -> SetBase
 {
     match definition(types, ty) {
         Some(TypeDef::Ordinal { host, low, high }) => base_stored(
-            ty,
+            host_in(types, ty),
             storage_of(*host, *low, *high),
         ),
         _ => SetBase::Any,
@@ -147,7 +194,9 @@ fn sort_by(types: &Types, ty: TypeId, one: &TypeDef) -> Sort
     ensures { result ≡ sort_by types.now.types ty (Some one.now) }
 {
     match one {
-        TypeDef::Ordinal { host, low, high } => sort_stored(ty, storage_of(*host, *low, *high)),
+        TypeDef::Ordinal { host, low, high } => {
+            sort_stored(host_in(types, ty), storage_of(*host, *low, *high))
+        }
         TypeDef::Str { .. } => Sort::Text,
         TypeDef::SetOf { base } => Sort::Set(base_of(types, *base)),
         TypeDef::PointerTo { .. } => Sort::Pointer,

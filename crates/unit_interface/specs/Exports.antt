@@ -7,6 +7,7 @@ use Rattle.type_layout.specs.declared.definitions.Param.{Param}
 use Rattle.type_layout.specs.declared.definitions.Header.{Header}
 use Rattle.type_layout.specs.declared.definitions.Field.{Field}
 use Rattle.type_layout.specs.declared.definitions.Method.{Method}
+use Rattle.type_layout.specs.declared.definitions.Host.TheVariants as host
 use Rattle.type_layout.specs.declared.definitions.TypeDef.{TypeDef}
 use Rattle.type_layout.specs.declared.definitions.TypeDef.TheVariants.{Ordinal, Str, SetOf, ArrayOf, RecordOf, PointerTo, ObjectOf, Procedural}
 use Rattle.type_layout.specs.Layouts.{size_over}
@@ -63,16 +64,27 @@ abbrev pub in_found : Option TypeDef → List ℕ
 in_found None = []
 in_found (Some one) = in_type one
 
+-- The type behind an ordinal type of an enumeration is the set over the enumeration. It goes with the ordinal type, by which it is
+-- known what that is a part of.
+abbrev pub behind : ℕ → TypeDef → List ℕ
+behind number (Ordinal host.Enumeration low high) = (number + 1) ∷ []
+behind number _ = []
+
+-- the types that go with a type of a number: those that it names, and what is behind it
+abbrev pub with_type : ℕ → Option TypeDef → List ℕ
+with_type number None = []
+with_type number (Some one) = in_type one ++ behind number one
+
 abbrev pub is_in : List ℕ → ℕ → Bool
 is_in numbers number = list_any (nat_eq number) numbers
 
 -- ---- reached
 
--- a type of the table that the items reach in at most so many steps: an item names it, or a type that is reached does
+-- a type of the table that the items reach in at most so many steps: an item names it, or it goes with a type that is reached
 abbrev pub ReachedWithin : ℕ → List TypeDef → List Item → ℕ → Type 0
 ReachedWithin zero types items number = (is_in (in_items items) number ≡ true) × (number < length types)
 ReachedWithin (suc steps) types items number =
-    (by : ℕ) × ReachedWithin steps types items by × (is_in (in_found (slice_get types by)) number ≡ true) × (number < length types)
+    (by : ℕ) × ReachedWithin steps types items by × (is_in (with_type by (slice_get types by)) number ≡ true) × (number < length types)
 
 -- the items reach a type of the table
 pub record IsReached (types : List TypeDef) (items : List Item) (number : ℕ) : Type 0 where
@@ -83,9 +95,14 @@ pub record IsReached (types : List TypeDef) (items : List Item) (number : ℕ) :
 abbrev pub known : ℕ → List ℕ → List ℕ
 known count numbers = filter (λ number. nat_lt number count) numbers
 
--- the types that each type names, and behind them those that the items name
+-- the types that go with each type, of those from a number on
+abbrev pub edges_from : ℕ → ℕ → List TypeDef → List (List ℕ)
+edges_from count number [] = []
+edges_from count number (one ∷ types) = known count (with_type number (Some one)) ∷ edges_from count (number + 1) types
+
+-- the types that go with each type, and behind them those that the items name
 abbrev pub type_edges : List TypeDef → List Item → List (List ℕ)
-type_edges types items = map (λ one. known (length types) (in_type one)) types ++ known (length types) (in_items items) ∷ []
+type_edges types items = edges_from (length types) 0 types ++ known (length types) (in_items items) ∷ []
 
 -- the types that a walk from the items meets, and behind them the number that stands for the items
 unfoldable pub reached : List TypeDef → List Item → List ℕ

@@ -1,5 +1,5 @@
 -- How the types and items of an interface come into a scope.
-use Rattle.std.specs.Prelude.{ℕ, zero, suc, ◌&&◌, not, Bool, nat_eq, nat_lt, slice_get, cond, is_some, List, [], ◌∷◌, ◌++◌, Option, Some, map, length, get_or, position, unwrap_or, option_map}
+use Rattle.std.specs.Prelude.{ℕ, zero, suc, ◌&&◌, not, Bool, true, nat_eq, nat_lt, slice_get, cond, is_some, List, [], ◌∷◌, ◌++◌, Option, Some, map, length, get_or, position, unwrap_or, option_map}
 use Rattle.type_layout.specs.declared.definitions.TypeId.{TypeId}
 use Rattle.type_layout.specs.declared.definitions.Origin.{Origin}
 use Rattle.type_layout.specs.declared.definitions.Param.{Param}
@@ -125,12 +125,12 @@ name_of (item.Ty name ty) = name
 name_of (item.Var name ty number) = name
 name_of (item.Code name header number) = name
 
--- what an item of the unit at this place means
+-- what an item of the unit at this place means; the routines of an interface are far
 abbrev pub entry_of : List TypeId → ℕ → Item → Entry
 entry_of ids unit (item.Const name ty value) = entry.Const (new_id ids ty) value
 entry_of ids unit (item.Ty name ty) = entry.Ty (new_id ids ty)
 entry_of ids unit (item.Var name ty number) = entry.Var unit 0 number (new_id ids ty)
-entry_of ids unit (item.Code name header number) = entry.Code (record { unit = unit; number = number }) 0 (renumbered_header ids header)
+entry_of ids unit (item.Code name header number) = entry.Code (record { unit = unit; number = number }) 0 (renumbered_header ids header) true
 
 -- a name at the end, where it is new
 abbrev pub with_new : SymbolList → List ℕ → Entry → SymbolList

@@ -150,7 +150,7 @@ fn name_of(item: &Item) -> Name
     }
 }
 
-// What an item of the unit at this place means.
+// What an item of the unit at this place means. The routines of an interface are far.
 fn entry_of(alloc: Global, ids: &[TypeId], unit: u32, item: &Item) -> Result<Entry, AllocError>
     ensures { IfOk result (λ entry. entry ≡ entry_of ids.now unit item.now) }
 {
@@ -175,6 +175,7 @@ fn entry_of(alloc: Global, ids: &[TypeId], unit: u32, item: &Item) -> Result<Ent
             },
             level: 0,
             header: header_of(alloc, ids, header)?,
+            far: true,
         },
     })
 }

@@ -1,12 +1,12 @@
 //! The types that the items of a unit reach.
 
-ghost use Rattle.std.specs.Prelude.{◌≡◌, ◌++◌, ◌∷◌, [], IfOk, OnOk, length};
-ghost use Rattle.unit_interface.specs.Exports.{in_option, in_params, in_header, in_fields, in_methods, in_type, in_item, in_items, known, type_edges, reached};
+ghost use Rattle.std.specs.Prelude.{◌≡◌, ◌++◌, ◌∷◌, [], Some, IfOk, OnOk, length};
+ghost use Rattle.unit_interface.specs.Exports.{in_option, in_params, in_header, in_fields, in_methods, in_type, behind, with_type, in_item, in_items, known, type_edges, reached};
 
 use crate::edges::Places;
 use crate::visits::{Progress, visit};
 use std::alloc::{AllocError, Global};
-use type_layout::{Field, Header, Method, Param, TypeDef, TypeId, Types};
+use type_layout::{Field, Header, Host, Method, Param, TypeDef, TypeId, Types};
 use typed_tree::Item;
 
 fn add_number(ty: TypeId, numbers: &mut Places) -> Result<(), AllocError>
@@ -119,11 +119,30 @@ fn known(alloc: Global, count: usize, numbers: &[usize]) -> Result<Places, Alloc
     Ok(some)
 }
 
-fn edges_of_type(alloc: Global, count: usize, one: &TypeDef) -> Result<Places, AllocError>
-    ensures { IfOk result (λ places. places ≡ known count (in_type one.now)) }
+// Adds the type behind an ordinal type of an enumeration.
+fn add_behind(number: u32, one: &TypeDef, numbers: &mut Places) -> Result<(), AllocError>
+    ensures { OnOk result (numbers.new ≡ numbers.old ++ behind number one.now) }
+{
+    match one {
+        TypeDef::Ordinal { host, .. } if matches!(host, Host::Enumeration) => {
+            numbers.push(number as usize + 1)
+        }
+        _ => Ok(()),
+    }
+}
+
+// The types that go with a type of a number.
+fn edges_of_type(
+    alloc: Global,
+    count: usize,
+    number: u32,
+    one: &TypeDef,
+) -> Result<Places, AllocError>
+    ensures { IfOk result (λ places. places ≡ known count (with_type number (Some one.now))) }
 {
     let mut numbers = Places::new(alloc);
     add_type(one, &mut numbers)?;
+    add_behind(number, one, &mut numbers)?;
     known(alloc, count, numbers.as_slice())
 }
 
@@ -135,14 +154,14 @@ fn edges_of_items(alloc: Global, count: usize, items: &[Item]) -> Result<Places,
     known(alloc, count, numbers.as_slice())
 }
 
-// The types that each type names, and behind them those that the items name.
+// The types that go with each type, and behind them those that the items name.
 fn type_edges(alloc: Global, types: &Types, items: &[Item]) -> Result<Vec<Places>, AllocError>
     ensures { IfOk result (λ edges. edges.items ≡ type_edges types.now.types items.now) }
 {
     let count = types.count() as usize;
     let mut edges = Vec::new(alloc);
     for number in 0..types.count() {
-        let named = edges_of_type(alloc, count, types.get(TypeId(number)))?;
+        let named = edges_of_type(alloc, count, number, types.get(TypeId(number)))?;
         edges.push(named)?;
     }
     let named = edges_of_items(alloc, count, items)?;

@@ -151,21 +151,22 @@ pub record AreSameHeaders (one other : Header) : Type 0 where
 -- ---- values
 
 -- a value of one definition, as it is, is one of the other
-abbrev pub JoinBy : (alike : Type 0) → Option TypeDef → Option TypeDef → Type 0
-JoinBy alike (Some (type.Ordinal host low high)) other = AreStoredAlike (Some (type.Ordinal host low high)) other
-JoinBy alike (Some (type.Str max)) other = IsString other
-JoinBy alike (Some (type.SetOf base)) other = IsSet other
-JoinBy alike (Some (type.PointerTo target)) other = IsPointer other
-JoinBy alike (Some (type.Procedural header)) (Some (type.Procedural given)) = AreSameHeaders header given
-JoinBy alike (Some (type.ArrayOf index element)) other = alike
-JoinBy alike (Some (type.RecordOf fields)) other = alike
-JoinBy alike (Some (type.ObjectOf parent dynamic fields methods)) other = alike
-JoinBy alike _ _ = ⊥
+abbrev pub JoinBy : List TypeDef → (alike : Type 0) → Option TypeDef → Option TypeDef → Type 0
+JoinBy types alike (Some (type.Ordinal host low high)) other = AreStoredAlike (Some (type.Ordinal host low high)) other
+JoinBy types alike (Some (type.Str max)) other = IsString other
+JoinBy types alike (Some (type.SetOf base)) other = IsSet other
+JoinBy types alike (Some (type.PointerTo target)) (Some (type.PointerTo given)) = Descends types given target
+JoinBy types alike (Some (type.Procedural header)) (Some (type.Procedural given)) = AreSameHeaders header given
+JoinBy types alike (Some (type.ArrayOf index element)) other = alike
+JoinBy types alike (Some (type.RecordOf fields)) other = alike
+JoinBy types alike (Some (type.ObjectOf parent dynamic fields methods)) other = alike
+JoinBy types alike _ _ = ⊥
 
--- A value of the second type, as it is, is stored where the first is: an ordinal that is stored alike, any string, set or
--- pointer, a routine with the same header, an array or record of the same type, an object of the type or of a descendant.
+-- A value of the second type, as it is, is stored where the first is: an ordinal that is stored alike, any string or
+-- set, a pointer to the same type or to a descendant of it, a routine with the same header, an array or record of the same
+-- type, an object of the type or of a descendant.
 abbrev pub Joins : List TypeDef → TypeId → TypeId → Type 0
-Joins types ty given = JoinBy (Descends types given ty) (definition types ty) (definition types given)
+Joins types ty given = JoinBy types (Descends types given ty) (definition types ty) (definition types given)
 
 -- elements rise, and lie within the bounds
 abbrev pub AreElements : ℤ → ℤ → List ℕ → Type 0

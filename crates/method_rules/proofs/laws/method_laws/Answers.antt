@@ -3,8 +3,8 @@ use Rattle.method_rules.proofs.laws.method_laws.Goals as goal
 
 pub returns : goal.returns
 returns c = record {
-  bound = λ types place e name. lawful_bound types place e name;
-  inherited = λ types here place class at ancestor name. lawful_inherited types place here class at ancestor name;
+  bound = λ g place e name. lawful_bound g place e name;
+  inherited = λ g here place class at ancestor name. lawful_inherited g place here class at ancestor name;
   called_on = λ types place checked one es. lawful_called types place checked one es;
   performed_on = λ types place checked one es. lawful_performed types place checked one es;
 }

@@ -5,6 +5,6 @@ use Rattle.procedure_rules.proofs.calls.standard_performed.Goals as goal
 
 pub returns : goal.returns
 returns c =
-    let m : c.len.result ≡ length c.args.values.items = omega (arith, c.len.ensures) in
-    let h : slots_of c.args.number c.len.result ≡ Some c.in-Some.slots = cc (c.slots_of.ensures, c.in-Some.is) in
-    performed_gives c.args.types.now.types c.args.place c.args.number c.args.values.items c.len.result c.in-Some.slots c.in_ok-args.args m h c.in_ok-args.ensures
+    let m : c.len-count.result ≡ length c.args.values.items = omega (arith, c.len-count.ensures) in
+    let h : slots_of c.args.number c.len-count.result ≡ Some c.in-Some.slots = cc (c.slots_of.ensures, c.in-Some.is) in
+    performed_gives c.args.types.now.types c.args.place c.args.number c.args.values.items c.len-count.result c.in-Some.slots c.in_ok-args.args m h c.in_ok-args.ensures

@@ -1,5 +1,5 @@
 use Rattle.typing_rules.proofs.OperatorLaws.{lawful_combined, lawful_signed, lawful_negated}
-use Rattle.typing_rules.proofs.SelectorLaws.{lawful_loaded, lawful_selected, lawful_indexed, lawful_followed}
+use Rattle.typing_rules.proofs.SelectorLaws.{lawful_selected, lawful_indexed, lawful_followed}
 use Rattle.typing_rules.proofs.AssignmentLaws.{lawful_assigned}
 use Rattle.typing_rules.proofs.laws.rule_laws.Goals as goal
 
@@ -8,7 +8,6 @@ returns c = record {
   combined = lawful_combined;
   signed = lawful_signed;
   negated = lawful_negated;
-  loaded = lawful_loaded;
   selected = lawful_selected;
   indexed = lawful_indexed;
   followed = lawful_followed;

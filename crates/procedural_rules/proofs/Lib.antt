@@ -1,0 +1,3 @@
+pub mod HeaderTests
+pub mod ProceduralLaws
+mod Nodes

@@ -1,0 +1,11 @@
+pub mod Among
+pub mod Lists
+pub mod Sound
+pub mod Rows
+pub mod Links
+pub mod Finding
+pub mod Holding
+pub mod Making
+pub mod Disposing
+pub mod Places
+pub mod Few

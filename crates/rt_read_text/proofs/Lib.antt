@@ -1,0 +1,4 @@
+pub mod Peeking
+pub mod InputLemmas
+pub mod InputReading
+pub mod LineReading
