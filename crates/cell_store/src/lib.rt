@@ -5,8 +5,6 @@ mod cells;
 mod contents;
 mod laws;
 mod objects;
-#[cfg(test)]
-mod tests;
 mod traps;
 
 pub use cells::Tree;

@@ -7,6 +7,3 @@ mod transfer;
 
 pub use event::finish_step;
 pub use runner::{RunEnd, run};
-
-#[cfg(test)]
-mod tests;

@@ -14,8 +14,6 @@ ghost use Rattle.flat_code.specs.Weights.{code_weight};
 ghost use Rattle.flat_code.specs.Plain.{HasPlaces, program_of, choice_of};
 
 mod memory;
-#[cfg(test)]
-mod tests;
 mod tree;
 mod unit;
 mod weights;

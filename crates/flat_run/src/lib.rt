@@ -9,8 +9,6 @@ mod program;
 mod start;
 mod state;
 mod statements;
-#[cfg(test)]
-mod tests;
 mod value;
 
 pub use context::Interpreter;

@@ -6,6 +6,3 @@ mod terminal;
 mod word;
 
 pub use terminal::lexemes_of;
-
-#[cfg(test)]
-mod tests;

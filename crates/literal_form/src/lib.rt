@@ -17,6 +17,3 @@ pub use error::ReadError;
 pub use law::one_meaning;
 pub use program::LiteralProgram;
 pub use reading::{LONGEST_SOURCE, read_program};
-
-#[cfg(test)]
-mod tests;

@@ -12,6 +12,3 @@ pub use executable::{Block, Exe, FarList, Segments};
 pub use loading::{LoadError, load};
 pub use reading::{check_exe, read_exe};
 pub use writing::write_exe;
-
-#[cfg(test)]
-mod tests;

@@ -6,8 +6,6 @@ mod class;
 mod dispatch;
 mod faults;
 mod rules;
-#[cfg(test)]
-mod tests;
 
 pub use building::classes;
 pub use class::Class;

@@ -7,8 +7,6 @@ mod laws;
 mod matching;
 mod opening;
 mod stubs;
-#[cfg(test)]
-mod tests;
 
 pub use error::OpenError;
 pub use laws::one_reason;

@@ -7,8 +7,6 @@ mod laws;
 mod overlay;
 mod reading;
 mod stubs;
-#[cfg(test)]
-mod tests;
 mod writing;
 
 pub use error::OvrError;

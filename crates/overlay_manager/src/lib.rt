@@ -6,14 +6,10 @@ mod laws;
 mod loading;
 mod ovr;
 mod program;
-#[cfg(test)]
-mod run_tests;
 mod serving;
 mod stubbing;
 mod tables;
 mod tally;
-#[cfg(test)]
-mod tests;
 mod traps;
 
 pub use filling::LoadStop;

@@ -6,8 +6,6 @@ mod living;
 mod pairs;
 mod repairing;
 mod table;
-#[cfg(test)]
-mod tests;
 mod topmost;
 
 pub use living::live;

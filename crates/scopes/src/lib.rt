@@ -8,8 +8,6 @@ mod predeclared;
 mod scope;
 mod searches;
 mod symbols;
-#[cfg(test)]
-mod tests;
 
 pub use entries::{BlockKind, Entry, Found};
 pub use members::{Member, member_of};

@@ -19,8 +19,6 @@ mod reader;
 mod shape;
 mod state;
 mod symbol;
-#[cfg(test)]
-mod tests;
 mod token;
 mod value;
 mod word;

@@ -25,6 +25,3 @@ pub use real_sink::RealSink;
 pub use real_source::RealSource;
 pub use sinks::{Sink, write_all};
 pub use sources::Source;
-
-#[cfg(test)]
-mod tests;

@@ -8,8 +8,6 @@ mod lists;
 mod sizes;
 mod storage;
 mod table;
-#[cfg(test)]
-mod tests;
 mod texts;
 mod wanted;
 mod words;

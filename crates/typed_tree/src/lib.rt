@@ -1,21 +1,13 @@
 //! Typed trees, and the memory and code that they ask for.
 #![tactic(auto)]
 
-#[cfg(test)]
-mod expression_tests;
 mod expressions;
 mod frames;
 mod needs;
-#[cfg(test)]
-mod samples;
 mod slots;
 mod statement_needs;
-#[cfg(test)]
-mod statement_tests;
 mod statement_weights;
 mod statements;
-#[cfg(test)]
-mod tests;
 mod units;
 mod weights;
 

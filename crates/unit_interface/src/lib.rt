@@ -3,8 +3,6 @@
 
 mod circles;
 mod edges;
-#[cfg(test)]
-mod export_tests;
 mod exports;
 mod interfaces;
 mod keys;
@@ -13,13 +11,7 @@ mod order;
 mod overlay;
 mod reach;
 mod renumber;
-#[cfg(test)]
-mod resolve_tests;
 mod resolving;
-#[cfg(test)]
-mod samples;
-#[cfg(test)]
-mod tests;
 mod visits;
 
 pub use edges::UsesOf;

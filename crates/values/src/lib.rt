@@ -10,6 +10,4 @@ pub mod numerals;
 pub mod ordinals;
 pub mod sets;
 pub mod strings;
-#[cfg(test)]
-mod tests;
 pub mod written;

@@ -10,14 +10,10 @@ mod instr;
 mod label;
 mod laws;
 mod line;
-#[cfg(test)]
-mod line_tests;
 mod operand;
 mod read;
 mod relaxation;
 mod row;
-#[cfg(test)]
-mod tests;
 
 pub use assembly::{AsmError, Code, assemble, is_small};
 pub use decoding::decode;
