@@ -59,46 +59,65 @@ fn error_of(alloc: Global, lines: &[Line]) -> Option<AsmError> {
     }
 }
 
-#[test]
-fn reach(rt: HostRuntime) -> Result<(), Fail> {
-    let alloc = rt.alloc();
-    let jump = Line::JumpShort(Cond::Always, 1);
-    assert_eq!(rt;
-        error_of(alloc, over(alloc, &[jump], 127)?.as_slice()),
-        None
-    );
-    let far = AsmError::JumpTooFar {
-        line: 0,
-        distance: 128,
-    };
-    assert_eq!(rt;
-        error_of(alloc, over(alloc, &[jump], 128)?.as_slice()),
-        Some(far)
-    );
-    assert_eq!(rt; error_of(alloc, back(alloc, jump, 126)?.as_slice()), None);
-    let far = AsmError::JumpTooFar {
-        line: 128,
-        distance: -129,
-    };
-    assert_eq!(rt;
-        error_of(alloc, back(alloc, jump, 127)?.as_slice()),
-        Some(far)
-    );
-    Ok(())
+const SHORT: Line = Line::JumpShort(Cond::Always, 1);
+
+const NEAR: Line = Line::JumpNear(1);
+
+/// Whether a short jump goes ahead, the bytes between, and the error, if any.
+const REACHES: [(bool, u32, Option<AsmError>); 4] = [
+    (true, 127, None),
+    (
+        true,
+        128,
+        Some(AsmError::JumpTooFar {
+            line: 0,
+            distance: 128,
+        }),
+    ),
+    (false, 126, None),
+    (
+        false,
+        127,
+        Some(AsmError::JumpTooFar {
+            line: 128,
+            distance: -129,
+        }),
+    ),
+];
+
+fn jump(alloc: Global, ahead: bool, bytes: u32) -> Result<Vec<Line>, AllocError> {
+    if ahead {
+        over(alloc, &[SHORT], bytes)
+    } else {
+        back(alloc, SHORT, bytes)
+    }
 }
 
 #[test]
-fn relaxes(rt: HostRuntime) -> Result<(), Fail> {
-    let alloc = rt.alloc();
-    let near = Line::JumpNear(1);
-    let short = Line::JumpShort(Cond::Always, 1);
-    let list = relax(alloc, over(alloc, &[near], 127)?.as_slice())?;
-    assert!(rt; list.as_slice() == over(alloc, &[short], 127)?.as_slice());
-    let list = relax(alloc, over(alloc, &[near], 128)?.as_slice())?;
-    assert!(rt; list.as_slice() == over(alloc, &[near], 128)?.as_slice());
+fn reach(rt: HostRuntime) -> Result<(), Fail> {
+    for (ahead, bytes, error) in &REACHES {
+        let lines = jump(rt.alloc(), *ahead, *bytes)?;
+        assert!(rt; error_of(rt.alloc(), lines.as_slice()) == *error, "{bytes}");
+    }
+    Ok(())
+}
+
+/// Jumps ahead over some bytes, and what they become.
+const JUMPS: &[(&[Line], u32, &[Line])] = &[
+    (&[NEAR], 127, &[SHORT]),
+    (&[NEAR], 128, &[NEAR]),
     // The first jump fits only once the second is short.
-    let list = relax(alloc, over(alloc, &[near, near], 125)?.as_slice())?;
-    assert!(rt; list.as_slice() == over(alloc, &[short, short], 125)?.as_slice());
+    (&[NEAR, NEAR], 125, &[SHORT, SHORT]),
+];
+
+#[test]
+fn relaxes(rt: HostRuntime) -> Result<(), Fail> {
+    for (before, bytes, after) in JUMPS {
+        let lines = over(rt.alloc(), before, *bytes)?;
+        let list = relax(rt.alloc(), lines.as_slice())?;
+        let wanted = over(rt.alloc(), after, *bytes)?;
+        assert!(rt; list.as_slice() == wanted.as_slice(), "{bytes}");
+    }
     Ok(())
 }
 

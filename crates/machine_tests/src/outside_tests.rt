@@ -78,21 +78,28 @@ fn memory_copies(rt: HostRuntime) -> Result<(), Fail> {
     Ok(())
 }
 
+/// What is written, in turn, to a sink with room for three bytes whose second call fails, and what it takes.
+const SINK_ROWS: [(&[u8], Result<usize, Failed>); 5] = [
+    (b"ab", Ok(2)),
+    (b"cd", Err(Failed)),
+    (b"cd", Ok(1)),
+    // It is full.
+    (b"d", Err(Failed)),
+    (b"", Ok(0)),
+];
+
 #[test]
 fn memory_fails_where_it_was_asked_to(rt: HostRuntime) -> Result<(), Fail> {
     let mut source = MemorySource::new(rt.alloc(), b"ab", &[1, 3])?;
     let mut buffer = [0; 4];
-    assert_eq!(rt; source.read(&mut buffer), Err(Failed));
-    assert_eq!(rt; source.read(&mut buffer), Ok(2));
-    assert_eq!(rt; source.read(&mut buffer), Err(Failed));
-    assert_eq!(rt; source.read(&mut buffer), Ok(0));
+    for given in [Err(Failed), Ok(2), Err(Failed), Ok(0)] {
+        assert_eq!(rt; source.read(&mut buffer), given);
+    }
 
     let mut sink = MemorySink::new(rt.alloc(), 3, &[2])?;
-    assert_eq!(rt; sink.write(b"ab"), Ok(2));
-    assert_eq!(rt; sink.write(b"cd"), Err(Failed));
-    assert_eq!(rt; sink.write(b"cd"), Ok(1));
-    assert_eq!(rt; sink.write(b"d"), Err(Failed), "it is full");
-    assert_eq!(rt; sink.write(b""), Ok(0));
+    for (bytes, taken) in SINK_ROWS {
+        assert_eq!(rt; sink.write(bytes), taken);
+    }
     assert_eq!(rt; sink.bytes(), b"abc".as_slice());
     Ok(())
 }

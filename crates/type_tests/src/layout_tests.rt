@@ -71,50 +71,56 @@ fn object_of(
     )
 }
 
+/// An ordinal type and its bytes.
+const ORDINALS: [(Host, i32, i32, u32); 20] = [
+    (Host::ShortInt, -128, 127, 1),
+    (Host::Byte, 0, 255, 1),
+    (Host::Integer, -32_768, 32_767, 2),
+    (Host::Word, 0, 65_535, 2),
+    (Host::LongInt, i32::MIN, i32::MAX, 4),
+    (Host::Char, 0, 255, 1),
+    (Host::Boolean, 0, 1, 1),
+    (Host::Enumeration, 0, 6, 1),
+    (Host::Integer, 0, 200, 1),
+    (Host::Integer, -1, 200, 2),
+    (Host::Integer, -100, 100, 1),
+    (Host::Integer, 0, 256, 2),
+    (Host::Integer, -128, 128, 2),
+    (Host::Word, 0, 40_000, 2),
+    (Host::LongInt, 0, 65_535, 2),
+    (Host::LongInt, -1, 40_000, 4),
+    (Host::LongInt, 0, 65_536, 4),
+    (Host::LongInt, -32_769, 0, 4),
+    (Host::Char, 65, 90, 1),
+    (Host::Enumeration, 2, 3, 1),
+];
+
 #[test]
 fn ordinals_take_the_first_type_that_holds_them(rt: HostRuntime) {
     let mut types = Types::new(rt.alloc());
-    for (host, low, high, bytes) in [
-        (Host::ShortInt, -128, 127, 1),
-        (Host::Byte, 0, 255, 1),
-        (Host::Integer, -32_768, 32_767, 2),
-        (Host::Word, 0, 65_535, 2),
-        (Host::LongInt, i32::MIN, i32::MAX, 4),
-        (Host::Char, 0, 255, 1),
-        (Host::Boolean, 0, 1, 1),
-        (Host::Enumeration, 0, 6, 1),
-        (Host::Integer, 0, 200, 1),
-        (Host::Integer, -1, 200, 2),
-        (Host::Integer, -100, 100, 1),
-        (Host::Integer, 0, 256, 2),
-        (Host::Integer, -128, 128, 2),
-        (Host::Word, 0, 40_000, 2),
-        (Host::LongInt, 0, 65_535, 2),
-        (Host::LongInt, -1, 40_000, 4),
-        (Host::LongInt, 0, 65_536, 4),
-        (Host::LongInt, -32_769, 0, 4),
-        (Host::Char, 65, 90, 1),
-        (Host::Enumeration, 2, 3, 1),
-    ] {
+    for (host, low, high, bytes) in ORDINALS {
         let id = ordinal(&mut types, host, low, high);
         assert_eq!(rt; size(&types, id), Some(bytes), "{low}..{high}");
     }
 }
 
+/// The base of a set, and the bytes of the set.
+const SETS: [(Host, i32, i32, u32); 9] = [
+    (Host::Byte, 0, 255, 32),
+    (Host::Byte, 7, 8, 2),
+    (Host::Byte, 0, 7, 1),
+    (Host::Byte, 8, 15, 1),
+    (Host::Byte, 0, 8, 2),
+    (Host::Byte, 250, 255, 1),
+    (Host::Integer, 100, 200, 14),
+    (Host::Char, 65, 90, 4),
+    (Host::Boolean, 0, 1, 1),
+];
+
 #[test]
 fn sets_take_the_bytes_from_the_least_to_the_greatest(rt: HostRuntime) {
     let mut types = Types::new(rt.alloc());
-    for (host, low, high, bytes) in [
-        (Host::Byte, 0, 255, 32),
-        (Host::Byte, 7, 8, 2),
-        (Host::Byte, 0, 7, 1),
-        (Host::Byte, 8, 15, 1),
-        (Host::Byte, 0, 8, 2),
-        (Host::Byte, 250, 255, 1),
-        (Host::Integer, 100, 200, 14),
-        (Host::Char, 65, 90, 4),
-        (Host::Boolean, 0, 1, 1),
-    ] {
+    for (host, low, high, bytes) in SETS {
         let id = set_of(&mut types, host, low, high);
         assert_eq!(rt; size(&types, id), Some(bytes), "{low}..{high}");
     }
@@ -229,6 +235,15 @@ fn class_field(types: &Types, id: TypeId) -> Option<u32> {
     }
 }
 
+/// A field of the third type, and its offset, if the type has it.
+const OFFSETS: [(u32, Option<u32>); 5] = [
+    (0, Some(0)),
+    (1, Some(2)),
+    (2, Some(5)),
+    (3, Some(7)),
+    (4, None),
+];
+
 #[test]
 fn a_class_field_follows_the_first_dynamic_type(rt: HostRuntime) {
     let alloc = rt.alloc();
@@ -239,29 +254,16 @@ fn a_class_field_follows_the_first_dynamic_type(rt: HostRuntime) {
     let first = object_of(alloc, &mut types, Some(plain), true, &[byte]).unwrap_or(byte);
     let next = object_of(alloc, &mut types, Some(first), true, &[word, byte]).unwrap_or(byte);
     let bare = object_of(alloc, &mut types, None, true, &[]).unwrap_or(byte);
-    assert_eq!(rt;
-        (size(&types, Ok(plain)), class_field(&types, plain)),
-        (Some(2), None)
-    );
-    assert_eq!(rt;
-        (size(&types, Ok(first)), class_field(&types, first)),
-        (Some(5), Some(3))
-    );
-    assert_eq!(rt;
-        (size(&types, Ok(next)), class_field(&types, next)),
-        (Some(8), Some(3))
-    );
-    assert_eq!(rt;
-        (size(&types, Ok(bare)), class_field(&types, bare)),
-        (Some(2), Some(0))
-    );
-    for (field, at) in [
-        (0, Some(0)),
-        (1, Some(2)),
-        (2, Some(5)),
-        (3, Some(7)),
-        (4, None),
+    for (id, bytes, at) in [
+        (plain, 2, None),
+        (first, 5, Some(3)),
+        (next, 8, Some(3)),
+        (bare, 2, Some(0)),
     ] {
+        assert_eq!(rt; size(&types, Ok(id)), Some(bytes), "{id:?}");
+        assert_eq!(rt; class_field(&types, id), at, "{id:?}");
+    }
+    for (field, at) in OFFSETS {
         assert_eq!(rt; offset(&types, next, field), at);
     }
 }

@@ -63,7 +63,10 @@ fn told(alloc: Global, units: &[UsesOf]) -> Result<String, AllocError> {
     Ok(text)
 }
 
-fn ordered(alloc: Global, list: &[(&[u8], &[u8], &[u8])]) -> Result<String, AllocError> {
+/// A unit, the units that its interface uses, and those that its implementation uses.
+type Uses = (&'static [u8], &'static [u8], &'static [u8]);
+
+fn ordered(alloc: Global, list: &[Uses]) -> Result<String, AllocError> {
     let mut units = Vec::new(alloc);
     for (letter, interface, implementation) in list {
         units.push(unit(alloc, letter, interface, implementation)?)?;
@@ -71,99 +74,93 @@ fn ordered(alloc: Global, list: &[(&[u8], &[u8], &[u8])]) -> Result<String, Allo
     told(alloc, units.as_slice())
 }
 
-fn is_order(alloc: Global, list: &[(&[u8], &[u8], &[u8])], wanted: &str) -> bool {
+fn is_order(alloc: Global, list: &[Uses], wanted: &str) -> bool {
     match ordered(alloc, list) {
         Ok(order) => order.as_str() == wanted,
         Err(_) => false,
     }
 }
 
+/// The units of a program, and their order.
+type Row = (&'static [Uses], &'static str);
+
+const ORDERS: &[Row] = &[
+    (&[(b"P", b"", b"")], "P"),
+    (
+        &[(b"P", b"AB", b""), (b"B", b"", b""), (b"A", b"", b"")],
+        "ABP",
+    ),
+    (
+        &[
+            (b"P", b"AB", b""),
+            (b"A", b"D", b""),
+            (b"B", b"D", b""),
+            (b"D", b"", b""),
+        ],
+        "DABP",
+    ),
+    (
+        &[
+            (b"P", b"A", b""),
+            (b"A", b"D", b"C"),
+            (b"C", b"", b""),
+            (b"D", b"", b""),
+        ],
+        "DCAP",
+    ),
+    (
+        &[(b"P", b"OAA", b""), (b"A", b"", b"O"), (b"X", b"", b"")],
+        "AP",
+    ),
+];
+
 #[test]
 fn used_units_come_first(rt: HostRuntime) {
-    let alloc = rt.alloc();
-    assert!(rt; is_order(alloc, &[(b"P", b"", b"")], "P"));
-    assert!(rt;
-        is_order(
-            alloc,
-            &[(b"P", b"AB", b""), (b"B", b"", b""), (b"A", b"", b"")],
-            "ABP"
-        )
-    );
-    assert!(rt;
-        is_order(
-            alloc,
-            &[
-                (b"P", b"AB", b""),
-                (b"A", b"D", b""),
-                (b"B", b"D", b""),
-                (b"D", b"", b"")
-            ],
-            "DABP"
-        )
-    );
-    assert!(rt;
-        is_order(
-            alloc,
-            &[
-                (b"P", b"A", b""),
-                (b"A", b"D", b"C"),
-                (b"C", b"", b""),
-                (b"D", b"", b"")
-            ],
-            "DCAP"
-        )
-    );
-    assert!(rt;
-        is_order(
-            alloc,
-            &[(b"P", b"OAA", b""), (b"A", b"", b"O"), (b"X", b"", b"")],
-            "AP"
-        )
-    );
+    for (list, wanted) in ORDERS {
+        assert!(rt; is_order(rt.alloc(), list, wanted), "{wanted}");
+    }
 }
+
+const CIRCLES_THROUGH_IMPLEMENTATIONS: &[Row] = &[
+    (
+        &[(b"P", b"A", b""), (b"A", b"B", b""), (b"B", b"", b"A")],
+        "BAP",
+    ),
+    (
+        &[(b"P", b"BA", b""), (b"A", b"B", b""), (b"B", b"", b"A")],
+        "ABP",
+    ),
+    (&[(b"P", b"", b"P")], "P"),
+];
 
 #[test]
 fn a_unit_that_is_not_finished_is_passed_over(rt: HostRuntime) {
-    let alloc = rt.alloc();
-    assert!(rt;
-        is_order(
-            alloc,
-            &[(b"P", b"A", b""), (b"A", b"B", b""), (b"B", b"", b"A")],
-            "BAP"
-        )
-    );
-    assert!(rt;
-        is_order(
-            alloc,
-            &[(b"P", b"BA", b""), (b"A", b"B", b""), (b"B", b"", b"A")],
-            "ABP"
-        )
-    );
-    assert!(rt; is_order(alloc, &[(b"P", b"", b"P")], "P"));
+    for (list, wanted) in CIRCLES_THROUGH_IMPLEMENTATIONS {
+        assert!(rt; is_order(rt.alloc(), list, wanted), "{wanted}");
+    }
 }
+
+const CIRCLES: &[Row] = &[
+    (
+        &[(b"P", b"A", b""), (b"A", b"B", b""), (b"B", b"A", b"")],
+        "!A",
+    ),
+    (&[(b"P", b"A", b""), (b"A", b"A", b"")], "!A"),
+    (
+        &[
+            (b"P", b"A", b""),
+            (b"A", b"B", b""),
+            (b"B", b"C", b""),
+            (b"C", b"D", b""),
+            (b"D", b"B", b""),
+        ],
+        "!B",
+    ),
+];
 
 #[test]
 fn a_circle_of_interface_uses_is_told(rt: HostRuntime) {
-    let alloc = rt.alloc();
-    assert!(rt;
-        is_order(
-            alloc,
-            &[(b"P", b"A", b""), (b"A", b"B", b""), (b"B", b"A", b"")],
-            "!A"
-        )
-    );
-    assert!(rt; is_order(alloc, &[(b"P", b"A", b""), (b"A", b"A", b"")], "!A"));
-    assert!(rt;
-        is_order(
-            alloc,
-            &[
-                (b"P", b"A", b""),
-                (b"A", b"B", b""),
-                (b"B", b"C", b""),
-                (b"C", b"D", b""),
-                (b"D", b"B", b"")
-            ],
-            "!B"
-        )
-    );
+    for (list, wanted) in CIRCLES {
+        assert!(rt; is_order(rt.alloc(), list, wanted), "{wanted}");
+    }
 }

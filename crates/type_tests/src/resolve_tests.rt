@@ -96,16 +96,22 @@ fn is_told(alloc: Global, uses: &[&[u8]], wanted: (u8, u8)) -> bool {
     }
 }
 
+/// A list of used units, and what resolving says of it.
+const USES: &[(&[&[u8]], (u8, u8))] = &[
+    (&[], (b'+', b'+')),
+    (&[b"A", b"B", b"T"], (b'+', b'+')),
+    (&[b"OVERLAY", b"A"], (b'+', b'+')),
+    (&[b"A", b"B", b"A"], (b'D', b'A')),
+    (&[b"OVERLAY", b"OVERLAY"], (b'D', b'O')),
+    (&[b"SYSTEM"], (b'D', b'S')),
+    (&[b"A", b"C"], (b'M', b'C')),
+];
+
 #[test]
 fn used_units_are_there_and_distinct(rt: HostRuntime) {
-    let alloc = rt.alloc();
-    assert!(rt; is_told(alloc, &[], (b'+', b'+')));
-    assert!(rt; is_told(alloc, &[b"A", b"B", b"T"], (b'+', b'+')));
-    assert!(rt; is_told(alloc, &[b"OVERLAY", b"A"], (b'+', b'+')));
-    assert!(rt; is_told(alloc, &[b"A", b"B", b"A"], (b'D', b'A')));
-    assert!(rt; is_told(alloc, &[b"OVERLAY", b"OVERLAY"], (b'D', b'O')));
-    assert!(rt; is_told(alloc, &[b"SYSTEM"], (b'D', b'S')));
-    assert!(rt; is_told(alloc, &[b"A", b"C"], (b'M', b'C')));
+    for (uses, wanted) in USES {
+        assert!(rt; is_told(rt.alloc(), uses, *wanted), "{uses:?}");
+    }
 }
 
 // The block in which a variable or type is found, and its type.

@@ -2,6 +2,7 @@
 
 use object_vmt::{ClassError, Classes, classes};
 use std::alloc::{AllocError, Global};
+use std::test::Fail;
 use type_layout::{
     Field, Fields, Header, Host, Kind, Method, Methods, Name, Param, Params, RoutineId, TypeDef,
     TypeId, Types,
@@ -101,25 +102,47 @@ fn with_integer(alloc: Global) -> Result<Types, AllocError> {
     Ok(types)
 }
 
-// Three types. The first has Init and, virtual, Show and Done; the second Go, Hide and an override of Show; the third
-// overrides of Hide, Done and Show.
+// Init and, virtual, Show and Done.
+fn first_methods(alloc: Global) -> Result<Methods, AllocError> {
+    let mut methods = Methods::new(alloc);
+    methods.push(method(alloc, b"INIT", Kind::Constructor, false, 1, 0)?)?;
+    methods.push(procedure(alloc, b"SHOW", true, 1)?)?;
+    methods.push(method(alloc, b"DONE", Kind::Destructor, true, 0, 2)?)?;
+    Ok(methods)
+}
+
+// Go, Hide and an override of Show.
+fn second_methods(alloc: Global) -> Result<Methods, AllocError> {
+    let mut methods = Methods::new(alloc);
+    methods.push(procedure(alloc, b"GO", false, 3)?)?;
+    methods.push(procedure(alloc, b"HIDE", true, 4)?)?;
+    methods.push(procedure(alloc, b"SHOW", true, 5)?)?;
+    Ok(methods)
+}
+
+// Overrides of Hide, Done and Show.
+fn third_methods(alloc: Global) -> Result<Methods, AllocError> {
+    let mut methods = Methods::new(alloc);
+    methods.push(procedure(alloc, b"HIDE", true, 6)?)?;
+    methods.push(method(alloc, b"DONE", Kind::Destructor, true, 0, 7)?)?;
+    methods.push(procedure(alloc, b"SHOW", true, 8)?)?;
+    Ok(methods)
+}
+
+// Three types, each the parent of the next.
 fn line(alloc: Global) -> Result<Types, AllocError> {
     let mut types = with_integer(alloc)?;
-    let mut first = Methods::new(alloc);
-    first.push(method(alloc, b"INIT", Kind::Constructor, false, 1, 0)?)?;
-    first.push(procedure(alloc, b"SHOW", true, 1)?)?;
-    first.push(method(alloc, b"DONE", Kind::Destructor, true, 0, 2)?)?;
-    add_object(&mut types, alloc, None, Some(b"A"), first)?;
-    let mut second = Methods::new(alloc);
-    second.push(procedure(alloc, b"GO", false, 3)?)?;
-    second.push(procedure(alloc, b"HIDE", true, 4)?)?;
-    second.push(procedure(alloc, b"SHOW", true, 5)?)?;
-    add_object(&mut types, alloc, Some(TypeId(1)), Some(b"B"), second)?;
-    let mut third = Methods::new(alloc);
-    third.push(procedure(alloc, b"HIDE", true, 6)?)?;
-    third.push(method(alloc, b"DONE", Kind::Destructor, true, 0, 7)?)?;
-    third.push(procedure(alloc, b"SHOW", true, 8)?)?;
-    add_object(&mut types, alloc, Some(TypeId(2)), None, third)?;
+    add_object(&mut types, alloc, None, Some(b"A"), first_methods(alloc)?)?;
+    let parent = Some(TypeId(1));
+    add_object(
+        &mut types,
+        alloc,
+        parent,
+        Some(b"B"),
+        second_methods(alloc)?,
+    )?;
+    let parent = Some(TypeId(2));
+    add_object(&mut types, alloc, parent, None, third_methods(alloc)?)?;
     Ok(types)
 }
 
@@ -136,30 +159,30 @@ fn routine(classes: &Classes, class: u32, slot: u32) -> Option<u32> {
     }
 }
 
+/// A class, a slot of it, and the routine that answers it, if there is one.
+const SLOTS: [(u32, u32, Option<u32>); 12] = [
+    (0, 0, None),
+    (1, 0, Some(1)),
+    (1, 1, Some(2)),
+    (1, 2, None),
+    (2, 0, Some(5)),
+    (2, 1, Some(2)),
+    (2, 2, Some(4)),
+    (2, 3, None),
+    (3, 0, Some(8)),
+    (3, 1, Some(7)),
+    (3, 2, Some(6)),
+    (3, 3, None),
+];
+
 #[test]
 fn an_override_keeps_its_slot(rt: HostRuntime) {
     let Ok(classes) = of_types(rt.alloc(), line(rt.alloc())) else {
         panic!(rt; "no classes");
     };
-    for (class, slot, number) in [
-        (0, 0, None),
-        (1, 0, Some(1)),
-        (1, 1, Some(2)),
-        (1, 2, None),
-        (2, 0, Some(5)),
-        (2, 1, Some(2)),
-        (2, 2, Some(4)),
-        (2, 3, None),
-        (3, 0, Some(8)),
-        (3, 1, Some(7)),
-        (3, 2, Some(6)),
-        (3, 3, None),
-    ] {
-        assert_eq!(rt;
-            routine(&classes, class, slot),
-            number,
-            "class {class}, slot {slot}"
-        );
+    for (class, slot, number) in SLOTS {
+        let found = routine(&classes, class, slot);
+        assert_eq!(rt; found, number, "class {class}, slot {slot}");
     }
 }
 
@@ -176,12 +199,44 @@ fn over(alloc: Global, field: Option<&[u8]>, own: Method) -> Result<Types, Alloc
     Ok(types)
 }
 
-fn told(alloc: Global, field: Option<&[u8]>, own: Result<Method, AllocError>) -> &'static str {
-    let types = match own {
-        Ok(own) => over(alloc, field, own),
-        Err(error) => Err(error),
-    };
-    match of_types(alloc, types) {
+/// The second type's field, the name, kind, virtuality and parameters of its method, and what is told of both.
+type Row = (
+    Option<&'static [u8]>,
+    &'static [u8],
+    Kind,
+    bool,
+    u8,
+    &'static str,
+);
+
+const ROWS: [Row; 9] = [
+    (Some(b"B"), b"SHOW", Kind::Procedure, true, 0, "classes"),
+    (None, b"GO", Kind::Procedure, false, 0, "classes"),
+    (None, b"GO", Kind::Procedure, true, 0, "classes"),
+    (None, b"SHOW", Kind::Procedure, true, 1, "BadOverride"),
+    (None, b"SHOW", Kind::Destructor, true, 0, "BadOverride"),
+    (None, b"SHOW", Kind::Procedure, false, 0, "MissingVirtual"),
+    (None, b"A", Kind::Procedure, false, 0, "DuplicateField"),
+    (
+        Some(b"A"),
+        b"GO",
+        Kind::Procedure,
+        false,
+        0,
+        "DuplicateField",
+    ),
+    (
+        Some(b"SHOW"),
+        b"GO",
+        Kind::Procedure,
+        false,
+        0,
+        "DuplicateField",
+    ),
+];
+
+fn told(classes: &Result<Classes, ClassError>) -> &'static str {
+    match classes {
         Ok(_) => "classes",
         Err(ClassError::BadOverride { .. }) => "BadOverride",
         Err(ClassError::MissingVirtual { .. }) => "MissingVirtual",
@@ -190,28 +245,17 @@ fn told(alloc: Global, field: Option<&[u8]>, own: Result<Method, AllocError>) ->
     }
 }
 
+fn told_of(alloc: Global, row: &Row) -> Result<&'static str, AllocError> {
+    let (field, name, kind, is_virtual, params, _) = *row;
+    let own = method(alloc, name, kind, is_virtual, params, 2)?;
+    Ok(told(&of_types(alloc, over(alloc, field, own))))
+}
+
 #[test]
-fn rules_on_overrides_and_fields(rt: HostRuntime) {
-    let alloc = rt.alloc();
-    let same = procedure(alloc, b"SHOW", true, 2);
-    assert_eq!(rt; told(alloc, Some(b"B"), same), "classes");
-    let fresh = procedure(alloc, b"GO", false, 2);
-    assert_eq!(rt; told(alloc, None, fresh), "classes");
-    let becomes_virtual = procedure(alloc, b"GO", true, 2);
-    assert_eq!(rt; told(alloc, None, becomes_virtual), "classes");
-    let longer = method(alloc, b"SHOW", Kind::Procedure, true, 1, 2);
-    assert_eq!(rt; told(alloc, None, longer), "BadOverride");
-    let other_kind = method(alloc, b"SHOW", Kind::Destructor, true, 0, 2);
-    assert_eq!(rt; told(alloc, None, other_kind), "BadOverride");
-    let fixed = procedure(alloc, b"SHOW", false, 2);
-    assert_eq!(rt; told(alloc, None, fixed), "MissingVirtual");
-    let as_field = procedure(alloc, b"A", false, 2);
-    assert_eq!(rt; told(alloc, None, as_field), "DuplicateField");
-    let again = procedure(alloc, b"GO", false, 2);
-    assert_eq!(rt; told(alloc, Some(b"A"), again), "DuplicateField");
-    let field_as_method = procedure(alloc, b"GO", false, 2);
-    assert_eq!(rt;
-        told(alloc, Some(b"SHOW"), field_as_method),
-        "DuplicateField"
-    );
+fn rules_on_overrides_and_fields(rt: HostRuntime) -> Result<(), Fail> {
+    for number in 0..ROWS.len() {
+        let row = &ROWS[number];
+        assert_eq!(rt; told_of(rt.alloc(), row)?, row.5, "row {number}");
+    }
+    Ok(())
 }

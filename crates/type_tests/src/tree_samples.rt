@@ -281,14 +281,3 @@ pub(crate) fn measured(alloc: Global, stmt: Stmt) -> Result<(u64, u64), AllocErr
     };
     Ok((need, weight_of(&unit).saturating_sub(160)))
 }
-
-/// The rows, or none where memory ran out.
-pub(crate) fn rows_of<T>(alloc: Global, rows: Result<Vec<T>, AllocError>) -> Vec<T>
-where
-    T: Drop,
-{
-    match rows {
-        Ok(rows) => rows,
-        Err(_) => Vec::new(alloc),
-    }
-}
