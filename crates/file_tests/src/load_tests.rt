@@ -4,8 +4,7 @@ use cpu_8086::{Far, Machine, Reg};
 use mz_file::{Block, Segments};
 use overlay_file::{OvrEntry, OvrIndex};
 use overlay_manager::{LoadStop, Ovr, clear_buffer, load_overlay};
-use std::alloc::Global;
-use std::process::Abort;
+use std::alloc::{AllocError, Global};
 use std::test::Fail;
 use tp_outside::MemoryFiles;
 use type_layout::{FileName, Name};
@@ -39,31 +38,29 @@ fn loaded(machine: &Machine) -> [u8; 6] {
     ]
 }
 
+/// A folder with the first bytes of the overlay file, in which the calls that are listed fail.
+fn folder(alloc: Global, failing: &[u64], bytes: &[u8]) -> Result<MemoryFiles, AllocError> {
+    let mut files = MemoryFiles::new(alloc, failing)?;
+    files.put("a.ovr", bytes)?;
+    Ok(files)
+}
+
+/// Loads the overlay to segment 9000h.
+fn load(machine: &mut Machine, files: &mut MemoryFiles, entry: &OvrEntry) -> Result<(), LoadStop> {
+    let mut block = [0; 512];
+    load_overlay(machine, files, "a.ovr", entry, 0x9000, &mut block)
+}
+
 #[test]
 fn loads_code_and_makes_fixups(rt: HostRuntime) -> Result<(), Fail> {
-    let mut files = MemoryFiles::new(rt.alloc(), &[2])?;
-    files.put("a.ovr", &FILE)?;
+    let mut files = folder(rt.alloc(), &[2], &FILE)?;
     let entry = entry().ok_or("it has a name")?;
     let mut machine = Machine::new(rt.alloc())?;
-    let mut block = [0; 512];
-    let failed = load_overlay(
-        &mut machine,
-        &mut files,
-        "a.ovr",
-        &entry,
-        0x9000,
-        &mut block,
+    assert_eq!(rt;
+        load(&mut machine, &mut files, &entry),
+        Err(LoadStop::Failed)
     );
-    assert_eq!(rt; failed, Err(LoadStop::Failed));
-    let done = load_overlay(
-        &mut machine,
-        &mut files,
-        "a.ovr",
-        &entry,
-        0x9000,
-        &mut block,
-    );
-    assert_eq!(rt; done, Ok(()));
+    assert_eq!(rt; load(&mut machine, &mut files, &entry), Ok(()));
     assert_eq!(rt; loaded(&machine), [0x9A, 0x00, 0x00, 0x75, 0x00, 0xCB]);
     assert_eq!(rt; machine.load_byte(0x9000, 6), 0);
     Ok(())
@@ -71,20 +68,13 @@ fn loads_code_and_makes_fixups(rt: HostRuntime) -> Result<(), Fail> {
 
 #[test]
 fn a_file_that_ends_before(rt: HostRuntime) -> Result<(), Fail> {
-    let mut files = MemoryFiles::new(rt.alloc(), &[])?;
-    files.put("a.ovr", &FILE[..21])?;
+    let mut files = folder(rt.alloc(), &[], &FILE[..21])?;
     let entry = entry().ok_or("it has a name")?;
     let mut machine = Machine::new(rt.alloc())?;
-    let mut block = [0; 512];
-    let short = load_overlay(
-        &mut machine,
-        &mut files,
-        "a.ovr",
-        &entry,
-        0x9000,
-        &mut block,
+    assert_eq!(rt;
+        load(&mut machine, &mut files, &entry),
+        Err(LoadStop::Short)
     );
-    assert_eq!(rt; short, Err(LoadStop::Short));
     Ok(())
 }
 

@@ -3,7 +3,6 @@
 use file_parts::PartError;
 use object_file::{object_of, push_object};
 use std::alloc::Global;
-use std::process::Abort;
 use std::test::Fail;
 use type_layout::Bytes;
 
@@ -54,34 +53,47 @@ fn prefixes_are_damaged_at_their_end(rt: HostRuntime) {
     }
 }
 
+/// So many globals and routines before the unit, and the place of damage.
+const COUNTS: [(usize, usize, usize); 3] = [(2, 0, 0), (1, 2, 47), (0x1_0000_0000, 0, 0)];
+
 #[test]
 fn numbers_before_it_ask_for_parts(rt: HostRuntime) {
-    assert_eq!(rt; damage(rt.alloc(), 2, 0, &OBJECT), Some(0));
-    assert_eq!(rt; damage(rt.alloc(), 1, 2, &OBJECT), Some(47));
-    assert_eq!(rt; damage(rt.alloc(), 0x1_0000_0000, 0, &OBJECT), Some(0));
+    for (globals, routines, place) in COUNTS {
+        assert_eq!(rt; damage(rt.alloc(), globals, routines, &OBJECT), Some(place));
+    }
+}
+
+/// A place, another byte there, and the place of damage.
+const CHANGES: [(usize, u8, usize); 14] = [
+    (0, 0x02, 35),
+    (8, 0x03, 8),
+    (16, 0xFF, 31),
+    (20, 0x01, 24),
+    (24, 0x06, 24),
+    (25, 0x00, 25),
+    (26, 0x30, 26),
+    (39, 0x02, 53),
+    (47, 0x02, 83),
+    (53, 0x02, 53),
+    (58, 0x05, 58),
+    (61, 0x01, 58),
+    (72, 0x05, 76),
+    (77, 0x40, 77),
+];
+
+/// The object unit with another byte at a place.
+fn changed(at: usize, byte: u8) -> [u8; 83] {
+    let mut bytes = OBJECT;
+    if at < 83 {
+        bytes[at] = byte;
+    }
+    bytes
 }
 
 #[test]
 fn each_rule_has_its_place(rt: HostRuntime) {
-    for (at, byte, place) in [
-        (0, 0x02, 35),
-        (8, 0x03, 8),
-        (16, 0xFF, 31),
-        (20, 0x01, 24),
-        (24, 0x06, 24),
-        (25, 0x00, 25),
-        (26, 0x30, 26),
-        (39, 0x02, 53),
-        (47, 0x02, 83),
-        (53, 0x02, 53),
-        (58, 0x05, 58),
-        (61, 0x01, 58),
-        (72, 0x05, 76),
-        (77, 0x40, 77),
-    ] {
-        assert!(rt; at < 83);
-        let mut bytes = OBJECT;
-        bytes[at] = byte;
+    for (at, byte, place) in CHANGES {
+        let bytes = changed(at, byte);
         assert_eq!(rt; damage(rt.alloc(), 0, 0, &bytes), Some(place), "byte {at}");
     }
 }

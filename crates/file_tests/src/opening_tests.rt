@@ -73,64 +73,107 @@ fn start(opened: &Result<Opened, OpenError>) -> (u16, u16, u16, u16) {
     }
 }
 
+/// The executable opened over a folder without an overlay file or with one of these bytes.
+fn opened(
+    alloc: Global,
+    ovr: Option<&[u8]>,
+    buffer: Option<u16>,
+) -> Result<Result<Opened, OpenError>, Fail> {
+    let mut files = MemoryFiles::new(alloc, &[])?;
+    if let Some(bytes) = ovr {
+        files.put("a.ovr", bytes)?;
+    }
+    let name = FileName::new("a.ovr").ok_or("it is short")?;
+    Ok(open_program(alloc, &EXE, &name, &mut files, buffer))
+}
+
 #[test]
 fn begins_at_the_entry_with_all_overlays_out(rt: HostRuntime) -> Result<(), Fail> {
-    let alloc = rt.alloc();
-    let mut files = MemoryFiles::new(alloc, &[])?;
-    files.put("a.ovr", &OVR)?;
-    let name = FileName::new("a.ovr").ok_or("it is short")?;
-    let opened = open_program(alloc, &EXE, &name, &mut files, None);
-    assert_eq!(rt; start(&opened), (0x72, 5, 0x73, 0));
+    let program = opened(rt.alloc(), Some(&OVR), None)?;
+    assert_eq!(rt; start(&program), (0x72, 5, 0x73, 0));
     Ok(())
+}
+
+/// A place of the executable with another byte there, how many bytes of both files there are, the calls that fail, the
+/// buffer, and the refusal.
+type Row = (
+    (usize, u8),
+    (usize, usize),
+    &'static [u64],
+    Option<u16>,
+    (u8, u64),
+);
+
+/// The executable as it is: its last byte is 0.
+const AS_IT_IS: (usize, u8) = (111, 0);
+
+const REFUSALS: [Row; 8] = [
+    (AS_IT_IS, (112, 15), &[], None, (0, 0)),
+    (AS_IT_IS, (27, 3), &[], None, (1, 0)),
+    ((72, 2), (112, 14), &[], None, (3, 14)),
+    ((72, 2), (112, 15), &[], Some(0), (4, 0)),
+    (AS_IT_IS, (112, 15), &[], Some(0), (5, 1)),
+    (AS_IT_IS, (112, 15), &[], Some(40816), (6, 40963)),
+    (AS_IT_IS, (112, 15), &[], Some(40813), (0, 0)),
+    (AS_IT_IS, (112, 15), &[1], None, (7, 0)),
+];
+
+fn refused(alloc: Global, row: &Row) -> Result<(u8, u64), Fail> {
+    let ((place, byte), (exe, ovr), failing, buffer, _) = *row;
+    let bytes = changed(place, byte);
+    let exe = bytes.get(..exe).ok_or("it is short")?;
+    let ovr = OVR.get(..ovr).ok_or("it is short")?;
+    tried(alloc, exe, ovr, failing, buffer)
 }
 
 #[test]
 fn refuses_in_order(rt: HostRuntime) -> Result<(), Fail> {
-    let alloc = rt.alloc();
-    assert_eq!(rt; tried(alloc, &EXE, &OVR, &[], None)?, (0, 0));
-    assert_eq!(rt; tried(alloc, &EXE[..27], &OVR[..3], &[], None)?, (1, 0));
-    assert_eq!(rt;
-        tried(alloc, &changed(72, 2), &OVR[..14], &[], None)?,
-        (3, 14)
-    );
-    assert_eq!(rt; tried(alloc, &changed(72, 2), &OVR, &[], Some(0))?, (4, 0));
-    assert_eq!(rt; tried(alloc, &EXE, &OVR, &[], Some(0))?, (5, 1));
-    assert_eq!(rt; tried(alloc, &EXE, &OVR, &[], Some(40816))?, (6, 40963));
-    assert_eq!(rt; tried(alloc, &EXE, &OVR, &[], Some(40813))?, (0, 0));
-    assert_eq!(rt; tried(alloc, &EXE, &OVR, &[1], None)?, (7, 0));
+    for row in &REFUSALS {
+        assert_eq!(rt; refused(rt.alloc(), row)?, row.4);
+    }
     Ok(())
 }
 
+/// A place of the stub, and the refusal where another byte stands there.
+const STUB_PLACES: [(usize, (u8, u64)); 13] = [
+    (64, (4, 0)),
+    (66, (4, 0)),
+    (68, (4, 0)),
+    (72, (4, 0)),
+    (74, (4, 0)),
+    (76, (4, 0)),
+    (78, (4, 0)),
+    (80, (4, 0)),
+    (82, (4, 0)),
+    (95, (4, 0)),
+    (96, (4, 0)),
+    (100, (4, 0)),
+    (98, (0, 0)),
+];
+
 #[test]
 fn a_stub_that_is_not_that_of_the_overlay(rt: HostRuntime) -> Result<(), Fail> {
-    let alloc = rt.alloc();
-    let places = [64, 66, 68, 72, 74, 76, 78, 80, 82, 95, 96, 100];
-    for place in places {
+    for (place, wanted) in STUB_PLACES {
+        let exe = changed(place, 0x77);
         assert_eq!(rt;
-            tried(alloc, &changed(place, 0x77), &OVR, &[], None)?,
-            (4, 0)
+            tried(rt.alloc(), &exe, &OVR, &[], None)?,
+            wanted,
+            "{place}"
         );
     }
-    assert_eq!(rt; tried(alloc, &changed(98, 0x77), &OVR, &[], None)?, (0, 0));
     Ok(())
 }
 
 #[test]
 fn the_overlay_file_is_missing(rt: HostRuntime) -> Result<(), Fail> {
-    let alloc = rt.alloc();
-    let mut files = MemoryFiles::new(alloc, &[])?;
-    let name = FileName::new("a.ovr").ok_or("it is short")?;
-    let opened = open_program(alloc, &EXE, &name, &mut files, None);
-    assert_eq!(rt; refusal(&opened), (2, 0));
+    let program = opened(rt.alloc(), None, None)?;
+    assert_eq!(rt; refusal(&program), (2, 0));
     Ok(())
 }
 
 #[test]
 fn without_stubs_the_file_is_not_looked_at(rt: HostRuntime) -> Result<(), Fail> {
-    let alloc = rt.alloc();
-    let mut files = MemoryFiles::new(alloc, &[1, 2])?;
-    let name = FileName::new("a.ovr").ok_or("it is short")?;
-    let opened = open_program(alloc, &changed(32, 0), &name, &mut files, Some(0));
-    assert_eq!(rt; refusal(&opened), (0, 0));
+    let exe = changed(32, 0);
+    assert_eq!(rt; tried(rt.alloc(), &exe, &OVR, &[1, 2], Some(0))?, (0, 0));
     Ok(())
 }

@@ -4,7 +4,6 @@ ghost use Rattle.overlay_file.specs.Format.{AreOverlays};
 use cpu_8086::Machine;
 use overlay_file::{Offsets, OverlayCode8086, OvrError, Stub, read_ovr, stub, write_ovr};
 use std::alloc::{AllocError, Global};
-use std::process::Abort;
 use std::test::Fail;
 use type_layout::{Bytes, Name};
 
@@ -58,31 +57,41 @@ fn two_overlays(rt: HostRuntime) -> Result<(), Fail> {
     Ok(())
 }
 
+/// A place, another byte there, and the place of damage.
+const CHANGES: [(usize, u8, u64); 18] = [
+    (0, 0x53, 0),
+    (3, 0x32, 3),
+    (4, 0x02, 4),
+    (5, 0x01, 4),
+    (6, 0x00, 6),
+    (7, 0x01, 6),
+    (8, 0x00, 8),
+    (8, 0x40, 8),
+    (9, 0x30, 9),
+    (10, 0x61, 10),
+    (11, 0x00, 11),
+    (12, 0xFF, 32),
+    (13, 0x01, 24),
+    (21, 0x05, 21),
+    (23, 0x02, 23),
+    (24, 0x01, 23),
+    (25, 0x00, 25),
+    (6, 0x01, 25),
+];
+
+/// The two overlays with another byte at a place.
+fn changed(at: usize, byte: u8) -> [u8; 32] {
+    let mut bytes = TWO;
+    if at < 32 {
+        bytes[at] = byte;
+    }
+    bytes
+}
+
 #[test]
 fn each_rule_has_its_place(rt: HostRuntime) {
-    for (at, byte, place) in [
-        (0, 0x53, 0),
-        (3, 0x32, 3),
-        (4, 0x02, 4),
-        (5, 0x01, 4),
-        (6, 0x00, 6),
-        (7, 0x01, 6),
-        (8, 0x00, 8),
-        (8, 0x40, 8),
-        (9, 0x30, 9),
-        (10, 0x61, 10),
-        (11, 0x00, 11),
-        (12, 0xFF, 32),
-        (13, 0x01, 24),
-        (21, 0x05, 21),
-        (23, 0x02, 23),
-        (24, 0x01, 23),
-        (25, 0x00, 25),
-        (6, 0x01, 25),
-    ] {
-        assert!(rt; at < 32);
-        let mut bytes = TWO;
-        bytes[at] = byte;
+    for (at, byte, place) in CHANGES {
+        let bytes = changed(at, byte);
         assert_eq!(rt; damage(rt.alloc(), &bytes), Some(place), "byte {at}");
     }
 }
@@ -125,9 +134,25 @@ const OUT: [u8; 42] = [
     0xCD, 0x3F, 0x20, 0x00, 0x00, 0xCD, 0x3F, 0x28, 0x00, 0x00,
 ];
 
+/// The stub at segment 20h, where the machine holds these bytes there.
+fn stub_of(alloc: Global, bytes: &[u8; 42]) -> Result<Option<Stub>, AllocError> {
+    Ok(stub(&holding(alloc, 0x200, bytes)?, 0x20))
+}
+
+/// Places at which each other byte makes it no stub.
+const FIXED: [usize; 9] = [0, 1, 18, 31, 32, 33, 36, 37, 41];
+
+/// The stub with a bit changed at a place.
+fn damaged(at: usize) -> [u8; 42] {
+    let mut bytes = OUT;
+    if at < 42 {
+        bytes[at] ^= 0x10;
+    }
+    bytes
+}
+
 #[test]
 fn shows_a_stub(rt: HostRuntime) -> Result<(), Fail> {
-    let machine = holding(rt.alloc(), 0x200, &OUT)?;
     let shown = Stub {
         saved: 0x35,
         place: 0x1_000E,
@@ -137,25 +162,25 @@ fn shows_a_stub(rt: HostRuntime) -> Result<(), Fail> {
         load: 0,
         next: 0,
     };
-    assert_eq!(rt; stub(&machine, 0x20), Some(shown));
+    assert_eq!(rt; stub_of(rt.alloc(), &OUT)?, Some(shown));
+    let machine = holding(rt.alloc(), 0x200, &OUT)?;
     assert_eq!(rt; stub(&machine, 0x21), None);
-    for at in [0, 1, 18, 31, 32, 33, 36, 37, 41] {
-        let mut bytes = OUT;
-        bytes[at] ^= 0x10;
-        assert_eq!(rt;
-            stub(&holding(rt.alloc(), 0x200, &bytes)?, 0x20),
-            None,
-            "byte {at}"
-        );
+    for at in FIXED {
+        assert_eq!(rt; stub_of(rt.alloc(), &damaged(at))?, None, "byte {at}");
     }
     Ok(())
 }
 
-#[test]
-fn shows_a_loaded_stub(rt: HostRuntime) -> Result<(), Fail> {
+/// The stub with its load segment set and its two entries still trapping.
+fn half_loaded() -> [u8; 42] {
     let mut bytes = OUT;
     bytes[15] = 0x90;
-    assert_eq!(rt; stub(&holding(rt.alloc(), 0x200, &bytes)?, 0x20), None);
+    bytes
+}
+
+/// The stub with both entries leading into the code at its load segment.
+fn fully_loaded() -> [u8; 42] {
+    let mut bytes = half_loaded();
     for at in [32, 37] {
         bytes[at] = 0xEA;
         bytes[at + 1] = bytes[at + 2];
@@ -163,7 +188,13 @@ fn shows_a_loaded_stub(rt: HostRuntime) -> Result<(), Fail> {
         bytes[at + 3] = 0;
         bytes[at + 4] = 0x90;
     }
-    let shown = stub(&holding(rt.alloc(), 0x200, &bytes)?, 0x20).ok_or("it is a stub")?;
+    bytes
+}
+
+#[test]
+fn shows_a_loaded_stub(rt: HostRuntime) -> Result<(), Fail> {
+    assert_eq!(rt; stub_of(rt.alloc(), &half_loaded())?, None);
+    let shown = stub_of(rt.alloc(), &fully_loaded())?.ok_or("it is a stub")?;
     assert_eq!(rt; (shown.load, shown.entries), (0x9000, 2));
     Ok(())
 }

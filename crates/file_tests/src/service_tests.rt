@@ -9,7 +9,6 @@ use mz_file::{Block, Segments};
 use overlay_file::{OvrEntry, OvrIndex, read_ovr};
 use overlay_manager::{Ovr, ServiceStop, Tally, service};
 use std::alloc::{AllocError, Global};
-use std::process::Abort;
 use std::test::Fail;
 use tp_outside::MemoryFiles;
 use type_layout::FileName;
@@ -126,14 +125,62 @@ fn machine_with(alloc: Global, code: &[u8], stubs: &[u16]) -> Result<Machine, Al
     Ok(machine)
 }
 
+/// A machine that runs a program, with its overlays and their file.
+#[derive(Drop)]
+struct Scene {
+    machine: Machine,
+    ovr: Ovr,
+    files: MemoryFiles,
+}
+
+/// A folder with an overlay file, in which the calls that are listed fail.
+fn folder(alloc: Global, failing: &[u64], bytes: &[u8]) -> Result<MemoryFiles, AllocError> {
+    let mut files = MemoryFiles::new(alloc, failing)?;
+    files.put("a.ovr", bytes)?;
+    Ok(files)
+}
+
+/// The manager of the overlays of a file, whose stubs stand at these segments, with a buffer of so many paragraphs.
+fn manager(alloc: Global, bytes: &[u8], stubs: &[u16], room: u16) -> Result<Ovr, Fail> {
+    let index = read_ovr(alloc, bytes)?;
+    let block = block_of(alloc, stubs)?;
+    Ok(overlays(alloc, &index, &block, room)?.ok_or("they fit")?)
+}
+
+const TWO_STUBS: [u16; 2] = [0x0200, 0x0210];
+
+/// The two overlays in a buffer of one paragraph, over an overlay file that is held so.
+fn two(alloc: Global, failing: &[u64], held: &[u8]) -> Result<Scene, Fail> {
+    Ok(Scene {
+        machine: machine_with(alloc, &CALLS_A, &TWO_STUBS)?,
+        ovr: manager(alloc, &TWO, &TWO_STUBS, 1)?,
+        files: folder(alloc, failing, held)?,
+    })
+}
+
+const THREE_STUBS: [u16; 3] = [0x0200, 0x0210, 0x0220];
+
+/// The three overlays in a buffer of three paragraphs.
+fn three(alloc: Global) -> Result<Scene, Fail> {
+    Ok(Scene {
+        machine: machine_with(alloc, &CALLS_A_AND_B, &THREE_STUBS)?,
+        ovr: manager(alloc, &THREE, &THREE_STUBS, 3)?,
+        files: folder(alloc, &[], &THREE)?,
+    })
+}
+
+fn served(scene: &mut Scene) -> Result<(), ServiceStop> {
+    service(&mut scene.machine, &mut scene.ovr, &mut scene.files)
+}
+
 /// Runs up to an interrupt that is no trap, and gives how many traps were served.
-fn run(machine: &mut Machine, ovr: &mut Ovr, files: &mut MemoryFiles) -> Result<u32, ServiceStop> {
+fn run(scene: &mut Scene) -> Result<u32, ServiceStop> {
     let mut traps = 0u32;
     for _ in 0..200 {
-        match machine.step() {
+        match scene.machine.step() {
             Event::Ran => (),
             Event::Service(0x3F) => {
-                service(machine, ovr, files)?;
+                served(scene)?;
                 traps = traps.wrapping_add(1);
             }
             _ => return Ok(traps),
@@ -166,120 +213,83 @@ fn stub_at(machine: &Machine, stub: u16) -> [u16; 5] {
 
 #[test]
 fn two_overlays_take_turns_in_one_place(rt: HostRuntime) -> Result<(), Fail> {
-    let alloc = rt.alloc();
-    let stubs = [0x0200, 0x0210];
-    let mut files = MemoryFiles::new(alloc, &[])?;
-    files.put("a.ovr", &TWO)?;
-    let index = read_ovr(alloc, &TWO)?;
-    let block = block_of(alloc, &stubs)?;
-    let mut ovr = overlays(alloc, &index, &block, 1)?.ok_or("they fit")?;
-    let mut machine = machine_with(alloc, &CALLS_A, &stubs)?;
-    let traps = run(&mut machine, &mut ovr, &mut files);
-    assert_eq!(rt; traps, Ok(5));
+    let mut scene = two(rt.alloc(), &[], &TWO)?;
+    assert_eq!(rt; run(&mut scene), Ok(5));
     assert_eq!(rt;
-        ovr.tally(),
+        scene.ovr.tally(),
         Tally {
             loads: 5,
             patched: 4
         }
     );
-    assert_eq!(rt; state(&machine), [0x0100, 7, 0x0200, 0, 0x1234]);
+    assert_eq!(rt; state(&scene.machine), [0x0100, 7, 0x0200, 0, 0x1234]);
     assert_eq!(rt;
-        stub_at(&machine, 0x0200),
+        stub_at(&scene.machine, 0x0200),
         [0x9FFF, 0, 0x00EA, 0xFF00, 0x9F]
     );
-    assert_eq!(rt; stub_at(&machine, 0x0210), [0, 0, 0x3FCD, 0, 0]);
+    assert_eq!(rt; stub_at(&scene.machine, 0x0210), [0, 0, 0x3FCD, 0, 0]);
     Ok(())
 }
 
-/// Runs the three overlays in a buffer of three paragraphs, with so many for reprieve.
-fn three(alloc: Global, retry: u16) -> Result<(u32, Tally, [u16; 5]), Fail> {
-    let stubs = [0x0200, 0x0210, 0x0220];
-    let mut files = MemoryFiles::new(alloc, &[])?;
-    files.put("a.ovr", &THREE)?;
-    let index = read_ovr(alloc, &THREE)?;
-    let block = block_of(alloc, &stubs)?;
-    let mut ovr = overlays(alloc, &index, &block, 3)?.ok_or("they fit")?;
-    ovr.set_retry(retry);
-    let mut machine = machine_with(alloc, &CALLS_A_AND_B, &stubs)?;
-    let traps = run(&mut machine, &mut ovr, &mut files)?;
-    Ok((traps, ovr.tally(), state(&machine)))
-}
+/// So many paragraphs for reprieve, and how many traps are then served.
+const REPRIEVES: [(u16, u32); 2] = [(0, 4), (1, 3)];
 
 #[test]
 fn a_reprieved_overlay_moves(rt: HostRuntime) -> Result<(), Fail> {
-    let (traps, tally, at_end) = three(rt.alloc(), 0)?;
-    assert_eq!(rt; traps, 4);
-    assert_eq!(rt;
-        tally,
-        Tally {
-            loads: 4,
-            patched: 1
-        }
-    );
-    assert_eq!(rt; at_end, [0x0100, 12, 0x0200, 3, 0x1234]);
-
-    let (traps, tally, at_end) = three(rt.alloc(), 1)?;
-    assert_eq!(rt; traps, 3);
-    assert_eq!(rt;
-        tally,
-        Tally {
-            loads: 4,
-            patched: 1
-        }
-    );
-    assert_eq!(rt; at_end, [0x0100, 12, 0x0200, 3, 0x1234]);
+    for (retry, traps) in REPRIEVES {
+        let mut scene = three(rt.alloc())?;
+        scene.ovr.set_retry(retry);
+        assert_eq!(rt; run(&mut scene), Ok(traps));
+        assert_eq!(rt;
+            scene.ovr.tally(),
+            Tally {
+                loads: 4,
+                patched: 1
+            }
+        );
+        assert_eq!(rt; state(&scene.machine), [0x0100, 12, 0x0200, 3, 0x1234]);
+    }
     Ok(())
 }
 
+/// A machine that stands behind an INT 3Fh, and where that stands. No stub's entry does.
+const NOT_ENTRIES: [(u16, u16, u16); 3] = [(0x0300, 2, 0), (0x0200, 35, 33), (0x0200, 39, 37)];
+
 #[test]
 fn what_stops_a_service(rt: HostRuntime) -> Result<(), Fail> {
-    let alloc = rt.alloc();
-    let stubs = [0x0200, 0x0210];
-    let mut files = MemoryFiles::new(alloc, &[2])?;
-    files.put("a.ovr", &TWO[..28])?;
-    let index = read_ovr(alloc, &TWO)?;
-    let block = block_of(alloc, &stubs)?;
-    let mut ovr = overlays(alloc, &index, &block, 1)?.ok_or("they fit")?;
-    let mut machine = machine_with(alloc, &CALLS_A, &stubs)?;
-    for (cs, ip, at) in [(0x0300, 2, 0), (0x0200, 35, 33), (0x0200, 39, 37)] {
-        machine.set_reg(Reg::Cs, cs);
-        machine.set_reg(Reg::Ip, ip);
-        let stop = service(&mut machine, &mut ovr, &mut files);
-        assert_eq!(rt; stop, Err(ServiceStop::NoStub { cs, ip: at }));
+    let mut scene = two(rt.alloc(), &[2], &TWO[..28])?;
+    for (cs, ip, at) in NOT_ENTRIES {
+        scene.machine.set_reg(Reg::Cs, cs);
+        scene.machine.set_reg(Reg::Ip, ip);
+        assert_eq!(rt; served(&mut scene), Err(ServiceStop::NoStub { cs, ip: at }));
     }
-    machine.set_reg(Reg::Ip, 34);
-    machine.set_reg(Reg::Bp, 0x0110);
-    machine.store_word(0x1000, 0x0110, 0x0108);
-    let stop = service(&mut machine, &mut ovr, &mut files);
-    assert_eq!(rt; stop, Err(ServiceStop::BadChain { bp: 0x0110 }));
-    machine.set_reg(Reg::Bp, 0);
-    let stop = service(&mut machine, &mut ovr, &mut files);
-    assert_eq!(rt; stop, Err(ServiceStop::FilesFault));
-    let mut again = overlays(alloc, &index, &block, 1)?.ok_or("they fit")?;
-    let stop = service(&mut machine, &mut again, &mut files);
-    assert_eq!(rt; stop, Err(ServiceStop::ShortOverlay { overlay: 0 }));
-    assert_eq!(rt; state(&machine), [0x0200, 34, 0x0200, 3, 0x1234]);
-    assert_eq!(rt; stub_at(&machine, 0x0200), [0, 0, 0x3FCD, 0, 0]);
+    scene.machine.set_reg(Reg::Ip, 34);
+    scene.machine.set_reg(Reg::Bp, 0x0110);
+    scene.machine.store_word(0x1000, 0x0110, 0x0108);
+    assert_eq!(rt;
+        served(&mut scene),
+        Err(ServiceStop::BadChain { bp: 0x0110 })
+    );
+    scene.machine.set_reg(Reg::Bp, 0);
+    assert_eq!(rt; served(&mut scene), Err(ServiceStop::FilesFault));
+    scene.ovr = manager(rt.alloc(), &TWO, &TWO_STUBS, 1)?;
+    assert_eq!(rt;
+        served(&mut scene),
+        Err(ServiceStop::ShortOverlay { overlay: 0 })
+    );
+    assert_eq!(rt; state(&scene.machine), [0x0200, 34, 0x0200, 3, 0x1234]);
+    assert_eq!(rt; stub_at(&scene.machine, 0x0200), [0, 0, 0x3FCD, 0, 0]);
     Ok(())
 }
 
 #[test]
 fn a_call_before_the_manager_is_installed(rt: HostRuntime) -> Result<(), Fail> {
-    let alloc = rt.alloc();
-    let stubs = [0x0200, 0x0210];
-    let mut files = MemoryFiles::new(alloc, &[])?;
-    files.put("a.ovr", &TWO)?;
-    let index = read_ovr(alloc, &TWO)?;
-    let block = block_of(alloc, &stubs)?;
-    let mut ovr = overlays(alloc, &index, &block, 1)?.ok_or("they fit")?;
-    let mut machine = machine_with(alloc, &CALLS_A, &stubs)?;
-    machine.store_byte(0x0150, 0, 0);
-    machine.set_reg(Reg::Cs, 0x0200);
-    machine.set_reg(Reg::Ip, 34);
-    let done = service(&mut machine, &mut ovr, &mut files);
-    assert_eq!(rt; done, Ok(()));
-    assert_eq!(rt; state(&machine), [0x0150, 0x10, 0x0200, 208, 0x1234]);
-    assert_eq!(rt; stub_at(&machine, 0x0200), [0, 0, 0x3FCD, 0, 0]);
+    let mut scene = two(rt.alloc(), &[], &TWO)?;
+    scene.machine.store_byte(0x0150, 0, 0);
+    scene.machine.set_reg(Reg::Cs, 0x0200);
+    scene.machine.set_reg(Reg::Ip, 34);
+    assert_eq!(rt; served(&mut scene), Ok(()));
+    assert_eq!(rt; state(&scene.machine), [0x0150, 0x10, 0x0200, 208, 0x1234]);
+    assert_eq!(rt; stub_at(&scene.machine, 0x0200), [0, 0, 0x3FCD, 0, 0]);
     Ok(())
 }

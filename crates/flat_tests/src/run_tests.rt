@@ -4,7 +4,6 @@ use flat_code::{
 };
 use flat_run::{MeanEnd, Meaning, Memory, fits, flat_mean};
 use std::alloc::Global;
-use std::process::Abort;
 use std::test::Fail;
 use type_layout::{Name, RoutineId, Sequence};
 
@@ -118,33 +117,48 @@ fn unit(alloc: Global, name: &[u8], routines: Vec<FlatRoutine>) -> Result<FlatUn
     })
 }
 
-// Runs the routines of a program, of which the first is the main one.
+/// The units of the runtime, without routines, and these.
+fn with_runtime(alloc: Global, own: Vec<FlatUnit>) -> Result<Vec<FlatUnit>, Fail> {
+    let mut units = Vec::new(alloc);
+    for name in [b"TEXT".as_slice(), b"STRINGS", b"OVERLAY"] {
+        units.push(unit(alloc, name, Vec::new(alloc))?)?;
+    }
+    for one in own {
+        units.push(one)?;
+    }
+    Ok(units)
+}
+
+/// What units mean with 1,024 bytes of stack and of heap.
+fn meaning_of(
+    alloc: Global,
+    units: &[FlatUnit],
+    overlaid: &[Name],
+    input: &[u8],
+    turns: u64,
+) -> Result<Meaning, Fail> {
+    if !fits(units) {
+        return Err(Fail::from("the units don't fit"));
+    }
+    Ok(flat_mean(alloc, units, overlaid, 1024, 1024, input, turns)?)
+}
+
+/// Runs the routines of a program, of which the first is the main one.
 fn mean(
-    rt: &impl Abort,
     alloc: Global,
     routines: Vec<FlatRoutine>,
     input: &[u8],
     turns: u64,
 ) -> Result<Meaning, Fail> {
-    let mut units = Vec::new(alloc);
-    units.push(unit(alloc, b"TEXT", Vec::new(alloc))?)?;
-    units.push(unit(alloc, b"STRINGS", Vec::new(alloc))?)?;
-    units.push(unit(alloc, b"OVERLAY", Vec::new(alloc))?)?;
-    units.push(unit(alloc, b"P", routines)?)?;
-    assert!(rt; fits(units.as_slice()));
-    Ok(flat_mean(alloc, units.as_slice(), &[], 1024, 1024, input, turns)?)
+    let own = vec![in alloc; unit(alloc, b"P", routines)?]?;
+    let units = with_runtime(alloc, own)?;
+    meaning_of(alloc, units.as_slice(), &[], input, turns)
 }
 
-// How a program of a main routine alone ends.
-fn end(
-    rt: &impl Abort,
-    alloc: Global,
-    locals: u16,
-    body: FlatList,
-    turns: u64,
-) -> Result<MeanEnd, Fail> {
+/// How a program of a main routine alone ends.
+fn end(alloc: Global, locals: u16, body: FlatList, turns: u64) -> Result<MeanEnd, Fail> {
     let routines = vec![in alloc; routine(0, locals, body)?]?;
-    Ok(mean(rt, alloc, routines, b"", turns)?.end)
+    Ok(mean(alloc, routines, b"", turns)?.end)
 }
 
 fn leave(loops: u16) -> FlatStmt {
@@ -170,36 +184,57 @@ fn sum(alloc: Global) -> Result<FlatList, Fail> {
     Ok(vec![in alloc; first, none, FlatStmt::Loop(body), exit(alloc, word(-4))?]?)
 }
 
+/// A bound of turns, and how the sum ends.
+const TURNS: [(u64, MeanEnd); 2] = [(12, MeanEnd::Ended(55)), (11, MeanEnd::Going)];
+
 #[test]
 fn each_run_of_a_loop_spends_a_turn(rt: HostRuntime) -> Result<(), Fail> {
-    let alloc = rt.alloc();
-    assert_eq!(rt; end(&rt, alloc, 4, sum(alloc)?, 12)?, MeanEnd::Ended(55));
-    assert_eq!(rt; end(&rt, alloc, 4, sum(alloc)?, 11)?, MeanEnd::Going);
+    for (turns, ended) in TURNS {
+        let body = sum(rt.alloc())?;
+        assert_eq!(rt; end(rt.alloc(), 4, body, turns)?, ended);
+    }
     Ok(())
+}
+
+// A loop in a loop, which leaves both.
+fn two_loops(alloc: Global) -> Result<FlatList, Fail> {
+    let inner = FlatStmt::Loop(vec![in alloc; leave(2)]?);
+    let outer = FlatStmt::Loop(vec![in alloc; inner, FlatStmt::Error(1)]?);
+    Ok(vec![in alloc; outer, exit(alloc, FlatExpr::Number(3))?]?)
 }
 
 #[test]
 fn leave_leaves_so_many_loops(rt: HostRuntime) -> Result<(), Fail> {
-    let alloc = rt.alloc();
-    let inner = FlatStmt::Loop(vec![in alloc; leave(2)]?);
-    let outer = FlatStmt::Loop(vec![in alloc; inner, FlatStmt::Error(1)]?);
-    let body = vec![in alloc; outer, exit(alloc, FlatExpr::Number(3))?]?;
-    assert_eq!(rt; end(&rt, alloc, 0, body, 9)?, MeanEnd::Ended(3));
+    let body = two_loops(rt.alloc())?;
+    assert_eq!(rt; end(rt.alloc(), 0, body, 9)?, MeanEnd::Ended(3));
     Ok(())
+}
+
+const FOUR_BYTES: FlatResult = FlatResult {
+    at: Address::Local(-4),
+    bytes: 4,
+};
+
+// Gives 1234h and 5678h.
+fn giver(alloc: Global) -> Result<FlatRoutine, Fail> {
+    let low = set(-4, FlatExpr::Number(0x1234));
+    let high = set(-2, FlatExpr::Number(0x5678));
+    let mut callee = routine(0, 4, vec![in alloc; low, high]?)?;
+    callee.result = Some(FOUR_BYTES);
+    Ok(callee)
+}
+
+// Calls it and writes what it gives.
+fn writer(alloc: Global) -> Result<FlatRoutine, Fail> {
+    let first = call(1, Vec::new(alloc), Some(FOUR_BYTES));
+    routine(0, 4, vec![in alloc; first, write(alloc, -4, 4)?]?)
 }
 
 #[test]
 fn a_call_gives_four_bytes(rt: HostRuntime) -> Result<(), Fail> {
     let alloc = rt.alloc();
-    let at = Address::Local(-4);
-    let result = Some(FlatResult { at, bytes: 4 });
-    let low = set(-4, FlatExpr::Number(0x1234));
-    let high = set(-2, FlatExpr::Number(0x5678));
-    let mut callee = routine(0, 4, vec![in alloc; low, high]?)?;
-    callee.result = result;
-    let body = vec![in alloc; call(1, Vec::new(alloc), result), write(alloc, -4, 4)?]?;
-    let routines = vec![in alloc; routine(0, 4, body)?, callee]?;
-    let meaning = mean(&rt, alloc, routines, b"", 9)?;
+    let routines = vec![in alloc; writer(alloc)?, giver(alloc)?]?;
+    let meaning = mean(alloc, routines, b"", 9)?;
     assert_eq!(rt; meaning.out.as_slice(), b"\x34\x12\x78\x56".as_slice());
     assert_eq!(rt; meaning.end, MeanEnd::Ended(0));
     Ok(())
@@ -217,55 +252,89 @@ fn recursion(alloc: Global, count: u16) -> Result<Vec<FlatRoutine>, Fail> {
     ]?)
 }
 
+/// How many calls, how the recursion ends, and what it writes of it.
+const DEPTHS: [(u16, MeanEnd, &[u8]); 2] = [
+    (83, MeanEnd::Ended(0), b""),
+    (84, MeanEnd::Ended(202), b"Runtime error 202\r\n"),
+];
+
 #[test]
 fn the_frame_sum_stops_a_recursion(rt: HostRuntime) -> Result<(), Fail> {
-    let alloc = rt.alloc();
-    let deepest = mean(&rt, alloc, recursion(alloc, 83)?, b"", 999)?;
-    assert_eq!(rt; deepest.end, MeanEnd::Ended(0));
-    let deeper = mean(&rt, alloc, recursion(alloc, 84)?, b"", 999)?;
-    assert_eq!(rt; deeper.end, MeanEnd::Ended(202));
-    assert_eq!(rt; deeper.err.as_slice(), b"Runtime error 202\r\n".as_slice());
+    for (count, ended, errors) in DEPTHS {
+        let routines = recursion(rt.alloc(), count)?;
+        let meaning = mean(rt.alloc(), routines, b"", 999)?;
+        assert_eq!(rt; meaning.end, ended, "{count}");
+        assert_eq!(rt; meaning.err.as_slice(), errors, "{count}");
+    }
     Ok(())
+}
+
+#[derive(Clone, Copy, Debug)]
+enum Act {
+    CopyUnset,
+    LoadUnset,
+    LoadOutside,
+    CallThroughNull,
+    DivideByZero,
+}
+
+/// An act, the bytes of locals, the turns, and how the run ends.
+const ACTS: [(Act, u16, u64, MeanEnd); 6] = [
+    (Act::CopyUnset, 4, 9, MeanEnd::Ended(9)),
+    (Act::LoadUnset, 4, 9, MeanEnd::Undefined(1)),
+    (Act::LoadOutside, 4, 9, MeanEnd::Undefined(2)),
+    (Act::CallThroughNull, 4, 9, MeanEnd::Undefined(1)),
+    (Act::DivideByZero, 2, 0, MeanEnd::Going),
+    (Act::DivideByZero, 2, 1, MeanEnd::Ended(200)),
+];
+
+// Copies two bytes that are unset, and exits with 9.
+fn copies_unset(alloc: Global) -> Result<FlatList, Fail> {
+    let copy = FlatStmt::Copy {
+        to: Address::Local(-4),
+        from: Address::Local(-2),
+        bytes: 2,
+    };
+    Ok(vec![in alloc; copy, exit(alloc, FlatExpr::Number(9))?]?)
+}
+
+fn calls_through_null(alloc: Global) -> Result<FlatList, Fail> {
+    let through = FlatStmt::CallThrough {
+        pointer: Address::Local(-4),
+        args: Vec::new(alloc),
+        result: None,
+    };
+    let low = set(-4, FlatExpr::Number(0));
+    let high = set(-2, FlatExpr::Number(0));
+    Ok(vec![in alloc; low, high, through]?)
+}
+
+fn divides_by_zero(alloc: Global) -> Result<FlatList, Fail> {
+    let value = op(alloc, FlatOp::Div, FlatExpr::Number(1), FlatExpr::Number(0))?;
+    Ok(vec![in alloc; set(-2, value)]?)
+}
+
+fn body_of(alloc: Global, act: Act) -> Result<FlatList, Fail> {
+    match act {
+        Act::CopyUnset => copies_unset(alloc),
+        Act::LoadUnset => Ok(vec![in alloc; exit(alloc, word(-2))?]?),
+        Act::LoadOutside => Ok(vec![in alloc; exit(alloc, word(-6))?]?),
+        Act::CallThroughNull => calls_through_null(alloc),
+        Act::DivideByZero => divides_by_zero(alloc),
+    }
 }
 
 #[test]
 fn what_is_bad_is_an_undefined_act(rt: HostRuntime) -> Result<(), Fail> {
-    let alloc = rt.alloc();
-    let to = Address::Local(-4);
-    let from = Address::Local(-2);
-    let copy = FlatStmt::Copy { to, from, bytes: 2 };
-    let passed = vec![in alloc; copy, exit(alloc, FlatExpr::Number(9))?]?;
-    assert_eq!(rt; end(&rt, alloc, 4, passed, 9)?, MeanEnd::Ended(9));
-    let unset = vec![in alloc; exit(alloc, word(-2))?]?;
-    assert_eq!(rt; end(&rt, alloc, 4, unset, 9)?, MeanEnd::Undefined(1));
-    let outside = vec![in alloc; exit(alloc, word(-6))?]?;
-    assert_eq!(rt; end(&rt, alloc, 4, outside, 9)?, MeanEnd::Undefined(2));
-    let args = Vec::new(alloc);
-    let through = FlatStmt::CallThrough {
-        pointer: to,
-        args,
-        result: None,
-    };
-    let zero = FlatExpr::Number(0);
-    let none = FlatExpr::Number(0);
-    let bad = vec![in alloc; set(-4, zero), set(-2, none), through]?;
-    assert_eq!(rt; end(&rt, alloc, 4, bad, 9)?, MeanEnd::Undefined(1));
-    let by_zero = op(alloc, FlatOp::Div, FlatExpr::Number(1), FlatExpr::Number(0))?;
-    assert_eq!(rt;
-        end(&rt, alloc, 2, vec![in alloc; set(-2, by_zero)]?, 0)?,
-        MeanEnd::Going
-    );
-    let by_zero = op(alloc, FlatOp::Div, FlatExpr::Number(1), FlatExpr::Number(0))?;
-    assert_eq!(rt;
-        end(&rt, alloc, 2, vec![in alloc; set(-2, by_zero)]?, 1)?,
-        MeanEnd::Ended(200)
-    );
+    for (act, locals, turns, ended) in ACTS {
+        let body = body_of(rt.alloc(), act)?;
+        assert_eq!(rt; end(rt.alloc(), locals, body, turns)?, ended, "{act:?}");
+    }
     Ok(())
 }
 
-#[test]
-fn input_comes_byte_by_byte_to_its_end(rt: HostRuntime) -> Result<(), Fail> {
-    let alloc = rt.alloc();
+// Writes each byte of input, up to its end.
+fn copies_input(alloc: Global) -> Result<FlatRoutine, Fail> {
     let at = Address::Local(-2);
     let read = FlatStmt::Runtime {
         number: 1,
@@ -274,65 +343,78 @@ fn input_comes_byte_by_byte_to_its_end(rt: HostRuntime) -> Result<(), Fail> {
     };
     let ended = op(alloc, FlatOp::Equal, word(-2), FlatExpr::Number(0xffff))?;
     let body = vec![in alloc; read, when(alloc, ended, leave(1))?, write(alloc, -2, 1)?]?;
-    let routines = vec![in alloc; routine(0, 2, vec![in alloc; FlatStmt::Loop(body)]?)?]?;
-    let meaning = mean(&rt, alloc, routines, b"ab", 99)?;
+    routine(0, 2, vec![in alloc; FlatStmt::Loop(body)]?)
+}
+
+#[test]
+fn input_comes_byte_by_byte_to_its_end(rt: HostRuntime) -> Result<(), Fail> {
+    let alloc = rt.alloc();
+    let routines = vec![in alloc; copies_input(alloc)?]?;
+    let meaning = mean(alloc, routines, b"ab", 99)?;
     assert_eq!(rt; meaning.out.as_slice(), b"ab".as_slice());
     Ok(())
 }
 
-#[test]
-fn a_far_pointer_leads_to_its_routine(rt: HostRuntime) -> Result<(), Fail> {
-    let alloc = rt.alloc();
+// Keeps the far pointer of routine 1 and calls through it.
+fn pointing(alloc: Global) -> Result<FlatRoutine, Fail> {
     let to = Address::Local(-4);
-    let routine_one = RoutineId { unit: 0, number: 1 };
     let store = FlatStmt::StoreRoutine {
         to,
-        routine: routine_one,
+        routine: RoutineId { unit: 0, number: 1 },
     };
     let through = FlatStmt::CallThrough {
         pointer: to,
         args: Vec::new(alloc),
         result: None,
     };
+    routine(0, 4, vec![in alloc; store, through]?)
+}
+
+fn far_exit(alloc: Global) -> Result<FlatRoutine, Fail> {
     let mut far = routine(0, 0, vec![in alloc; exit(alloc, FlatExpr::Number(5))?]?)?;
     far.far = true;
-    let main = routine(0, 4, vec![in alloc; store, through]?)?;
-    let ended = mean(&rt, alloc, vec![in alloc; main, far]?, b"", 9)?;
+    Ok(far)
+}
+
+#[test]
+fn a_far_pointer_leads_to_its_routine(rt: HostRuntime) -> Result<(), Fail> {
+    let alloc = rt.alloc();
+    let routines = vec![in alloc; pointing(alloc)?, far_exit(alloc)?]?;
+    let ended = mean(alloc, routines, b"", 9)?;
     assert_eq!(rt; ended.end, MeanEnd::Ended(5));
     Ok(())
 }
 
-// The main routine of a program calls the routine of an overlaid unit, after a first statement.
-fn overlaid_call(
-    rt: &impl Abort,
-    alloc: Global,
-    first: FlatStmt,
-    turns: u64,
-) -> Result<Meaning, Fail> {
-    let overlaid = [Name::new(b"Q").ok_or("a name")?];
-    let routine_of_q = RoutineId { unit: 1, number: 0 };
+// The main unit runs an act of the runtime, and then calls the routine of the unit Q.
+fn calling_unit(alloc: Global, first: u16) -> Result<FlatUnit, Fail> {
     let call_q = FlatStmt::Call {
-        routine: routine_of_q,
+        routine: RoutineId { unit: 1, number: 0 },
         args: Vec::new(alloc),
         result: None,
     };
-    let main = routine(0, 0, vec![in alloc; first, call_q]?)?;
+    let main = routine(0, 0, vec![in alloc; act_of(alloc, first), call_q]?)?;
     let mut program = unit(alloc, b"P", vec![in alloc; main]?)?;
     program.names.push(Name::new(b"Q").ok_or("a name")?)?;
-    let body = vec![in alloc; exit(alloc, FlatExpr::Number(6))?]?;
-    let mut other = unit(alloc, b"Q", vec![in alloc; routine(0, 0, body)?]?)?;
-    other.initial = None;
-    let mut units = Vec::new(alloc);
-    units.push(unit(alloc, b"TEXT", Vec::new(alloc))?)?;
-    units.push(unit(alloc, b"STRINGS", Vec::new(alloc))?)?;
-    units.push(unit(alloc, b"OVERLAY", Vec::new(alloc))?)?;
-    units.push(other)?;
-    units.push(program)?;
-    assert!(rt; fits(units.as_slice()));
-    Ok(flat_mean(alloc, units.as_slice(), &overlaid, 1024, 1024, b"", turns)?)
+    Ok(program)
 }
 
-fn act(alloc: Global, number: u16) -> FlatStmt {
+// The unit Q, whose routine exits with 6.
+fn called_unit(alloc: Global) -> Result<FlatUnit, Fail> {
+    let body = vec![in alloc; exit(alloc, FlatExpr::Number(6))?]?;
+    let mut called = unit(alloc, b"Q", vec![in alloc; routine(0, 0, body)?]?)?;
+    called.initial = None;
+    Ok(called)
+}
+
+// A program whose unit Q is overlaid.
+fn overlaid_call(alloc: Global, first: u16) -> Result<Meaning, Fail> {
+    let overlaid = [Name::new(b"Q").ok_or("a name")?];
+    let own = vec![in alloc; called_unit(alloc)?, calling_unit(alloc, first)?]?;
+    let units = with_runtime(alloc, own)?;
+    meaning_of(alloc, units.as_slice(), &overlaid, b"", 9)
+}
+
+fn act_of(alloc: Global, number: u16) -> FlatStmt {
     FlatStmt::Runtime {
         number,
         args: Vec::new(alloc),
@@ -340,13 +422,18 @@ fn act(alloc: Global, number: u16) -> FlatStmt {
     }
 }
 
+/// The act before the call, how the run ends, and what it writes of it: act 4 sets the flag of overlays.
+const FLAGS: [(u16, MeanEnd, &[u8]); 2] = [
+    (3, MeanEnd::Ended(208), b"Runtime error 208\r\n"),
+    (4, MeanEnd::Ended(6), b""),
+];
+
 #[test]
 fn an_overlaid_routine_waits_for_the_flag(rt: HostRuntime) -> Result<(), Fail> {
-    let alloc = rt.alloc();
-    let early = overlaid_call(&rt, alloc, act(alloc, 3), 9)?;
-    assert_eq!(rt; early.end, MeanEnd::Ended(208));
-    assert_eq!(rt; early.err.as_slice(), b"Runtime error 208\r\n".as_slice());
-    let set = overlaid_call(&rt, alloc, act(alloc, 4), 9)?;
-    assert_eq!(rt; set.end, MeanEnd::Ended(6));
+    for (first, ended, errors) in FLAGS {
+        let meaning = overlaid_call(rt.alloc(), first)?;
+        assert_eq!(rt; meaning.end, ended, "{first}");
+        assert_eq!(rt; meaning.err.as_slice(), errors, "{first}");
+    }
     Ok(())
 }

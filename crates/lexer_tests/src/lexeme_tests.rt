@@ -45,68 +45,72 @@ fn is_read_as(alloc: Global, source: &str, expected: &str) -> Result<bool, Alloc
     Ok(out.as_str() == expected)
 }
 
+/// A source of words and symbols, and the kinds of its lexemes.
+const WORDS: &[(&str, &str)] = &[
+    (
+        "and array begin case const constructor destructor div do downto else end",
+        "And Array Begin Case Const Constructor Destructor Div Do Downto Else End ",
+    ),
+    (
+        "file for function goto if implementation in inline interface label mod nil",
+        "File For Function Goto If Implementation In Inline Interface Label Mod Nil ",
+    ),
+    (
+        "not object of or packed procedure program record repeat set shl shr",
+        "Not Object Of Or Packed Procedure Program Record Repeat Set Shl Shr ",
+    ),
+    (
+        "string then to type unit until uses var virtual while with xor",
+        "String Then To Type Unit Until Uses Var Virtual While With Xor ",
+    ),
+    (
+        "absolute external forward interrupt a ab _",
+        "Absolute External Forward Interrupt Letter Name Letter ",
+    ),
+    (
+        "+-*/=< > <=>=<>()[].,;::=..^@",
+        "Plus Minus Times Slash Equal Less Greater AtMost AtLeast Unequal Open Close OpenBracket CloseBracket Dot Comma Semicolon Colon Becomes Dots Caret Address ",
+    ),
+    ("1 $A 1.5 'x' #65", "Number Number Real Text Text "),
+];
+
 #[test]
 fn knows_words(rt: HostRuntime) {
-    let rows = [
-        (
-            "and array begin case const constructor destructor div do downto else end",
-            "And Array Begin Case Const Constructor Destructor Div Do Downto Else End ",
-        ),
-        (
-            "file for function goto if implementation in inline interface label mod nil",
-            "File For Function Goto If Implementation In Inline Interface Label Mod Nil ",
-        ),
-        (
-            "not object of or packed procedure program record repeat set shl shr",
-            "Not Object Of Or Packed Procedure Program Record Repeat Set Shl Shr ",
-        ),
-        (
-            "string then to type unit until uses var virtual while with xor",
-            "String Then To Type Unit Until Uses Var Virtual While With Xor ",
-        ),
-        (
-            "absolute external forward interrupt a ab _",
-            "Absolute External Forward Interrupt Letter Name Letter ",
-        ),
-        (
-            "+-*/=< > <=>=<>()[].,;::=..^@",
-            "Plus Minus Times Slash Equal Less Greater AtMost AtLeast Unequal Open Close OpenBracket CloseBracket Dot Comma Semicolon Colon Becomes Dots Caret Address ",
-        ),
-        ("1 $A 1.5 'x' #65", "Number Number Real Text Text "),
-    ];
-    for (source, expected) in rows {
+    for (source, expected) in WORDS {
         let same = is_read_as(rt.alloc(), source, expected);
         assert!(&rt; same == Ok(true), "{source}");
     }
 }
 
+/// A source with directives, and the kinds of its lexemes with the switches that hold there.
+const DIRECTIVES: &[(&str, &str)] = &[
+    ("{$R+} a b {$R-,O+} c", "Letter+R Letter+R Letter+O "),
+    (
+        "{$M 2048,0,0} program p; {$M 2048,0,0} uses u; {$M 2048,0,0} begin end.",
+        "Program Letter Semicolon Uses Letter Semicolon Begin End Dot ",
+    ),
+    ("begin {$M 2048,0,0} end.", "Begin Stray End Dot "),
+    (
+        "program p; var {$M 2048,0,0} x: y;",
+        "Program Letter Semicolon Var Stray Letter Colon Letter Semicolon ",
+    ),
+    (
+        "program p; uses u; {$O u} begin {$O u} end.",
+        "Program Letter Semicolon Uses Letter Semicolon Begin Stray End Dot ",
+    ),
+    (
+        "program p; {$O u} uses u; begin end.",
+        "Program Letter Semicolon Stray Uses Letter Semicolon Begin End Dot ",
+    ),
+    (
+        "{$O u} unit u; {$O v} interface {$M 2048,0,0} implementation end.",
+        "Unit Letter Semicolon Interface Implementation End Dot ",
+    ),
+];
+
 #[test]
 fn takes_directives(rt: HostRuntime) {
-    let rows = [
-        ("{$R+} a b {$R-,O+} c", "Letter+R Letter+R Letter+O "),
-        (
-            "{$M 2048,0,0} program p; {$M 2048,0,0} uses u; {$M 2048,0,0} begin end.",
-            "Program Letter Semicolon Uses Letter Semicolon Begin End Dot ",
-        ),
-        ("begin {$M 2048,0,0} end.", "Begin Stray End Dot "),
-        (
-            "program p; var {$M 2048,0,0} x: y;",
-            "Program Letter Semicolon Var Stray Letter Colon Letter Semicolon ",
-        ),
-        (
-            "program p; uses u; {$O u} begin {$O u} end.",
-            "Program Letter Semicolon Uses Letter Semicolon Begin Stray End Dot ",
-        ),
-        (
-            "program p; {$O u} uses u; begin end.",
-            "Program Letter Semicolon Stray Uses Letter Semicolon Begin End Dot ",
-        ),
-        (
-            "{$O u} unit u; {$O v} interface {$M 2048,0,0} implementation end.",
-            "Unit Letter Semicolon Interface Implementation End Dot ",
-        ),
-    ];
-    for (source, expected) in rows {
+    for (source, expected) in DIRECTIVES {
         let same = is_read_as(rt.alloc(), source, expected);
         assert!(&rt; same == Ok(true), "{source}");
     }

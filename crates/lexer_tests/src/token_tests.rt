@@ -372,62 +372,79 @@ fn repeated(
     Ok(out)
 }
 
-// How a source of so many equal parts is read, by the count of parts that are expected.
-fn is_cut(
-    alloc: Global,
-    ends: (&str, &str),
-    part: &str,
-    count: usize,
-    expected: &str,
-) -> Result<bool, AllocError> {
-    let source = repeated(alloc, ends.0, part, count, ends.1)?;
-    is_one_read_as(alloc, source.as_str(), expected)
+/// A front, a part, how many of them, and a back; and how that is read: a front, as many of a part, and a back.
+type Cut = (
+    (&'static str, &'static str, usize, &'static str),
+    (&'static str, &'static str, usize, &'static str),
+);
+
+const CUTS: [Cut; 4] = [
+    (("'", "x", 300, "'"), ("'", "x", 255, "' ")),
+    (("", "a", 70, ""), ("", "A", 63, " ")),
+    (
+        ("{$I ", "a", 76, "}"),
+        ("", "a", 76, ".pas MissingInclude 0:1:1"),
+    ),
+    (("{$I ", "a", 77, "}"), ("", "", 0, "BadDirective 0:1:1")),
+];
+
+fn is_cut(alloc: Global, cut: &Cut) -> Result<bool, AllocError> {
+    let (source, expected) = cut;
+    let source = repeated(alloc, source.0, source.1, source.2, source.3)?;
+    let expected = repeated(alloc, expected.0, expected.1, expected.2, expected.3)?;
+    is_one_read_as(alloc, source.as_str(), expected.as_str())
 }
 
 #[test]
 fn cuts_what_is_long(rt: HostRuntime) {
-    let alloc = rt.alloc();
-    let text = repeated(alloc, "'", "x", 255, "' ");
-    let same = text.and_then(|text| is_cut(alloc, ("'", "'"), "x", 300, text.as_str()));
-    assert!(&rt; same == Ok(true));
-    let name = repeated(alloc, "", "A", 63, " ");
-    let same = name.and_then(|name| is_cut(alloc, ("", ""), "a", 70, name.as_str()));
-    assert!(&rt; same == Ok(true));
-    let file = repeated(alloc, "", "a", 76, ".pas MissingInclude 0:1:1");
-    let same = file.and_then(|file| is_cut(alloc, ("{$I ", "}"), "a", 76, file.as_str()));
-    assert!(&rt; same == Ok(true));
-    let same = is_cut(alloc, ("{$I ", "}"), "a", 77, "BadDirective 0:1:1");
-    assert!(&rt; same == Ok(true));
+    for cut in &CUTS {
+        let same = is_cut(rt.alloc(), cut);
+        assert!(&rt; same == Ok(true), "{cut:?}");
+    }
 }
+
+/// Texts, of which the first is read, and how.
+type Included = (&'static [(&'static str, &'static str)], &'static str);
+
+const INCLUDED: [Included; 4] = [
+    (
+        &[
+            ("a.pas", "x {$I B} z"),
+            ("b.pas", "{$I c.inc} y"),
+            ("c.inc", "\n?"),
+        ],
+        "BadCharacter 2:2:1",
+    ),
+    (
+        &[
+            ("a.pas", "x {$I B} z (*$I b*)"),
+            ("b.pas", "y"),
+            ("b.pas", "?"),
+        ],
+        "X Y Z Y ",
+    ),
+    (
+        &[
+            ("a.pas", "{$I B}{$IFDEF C}{$IFOPT R+}x{$ENDIF}{$ENDIF}"),
+            ("b.pas", "{$R+}{$DEFINE c}\x1a?"),
+        ],
+        "switches true false false false X ",
+    ),
+    (
+        &[
+            ("a.pas", "{$IFNDEF A}{$I B}{$ENDIF}"),
+            ("b.pas", "{$ENDIF}"),
+        ],
+        "BadDirective 1:1:1",
+    ),
+];
 
 #[test]
 fn includes_texts(rt: HostRuntime) {
-    let three = [
-        ("a.pas", "x {$I B} z"),
-        ("b.pas", "{$I c.inc} y"),
-        ("c.inc", "\n?"),
-    ];
-    let same = is_read_as(rt.alloc(), &three, "BadCharacter 2:2:1");
-    assert!(&rt; same == Ok(true));
-    let twice = [
-        ("a.pas", "x {$I B} z (*$I b*)"),
-        ("b.pas", "y"),
-        ("b.pas", "?"),
-    ];
-    let same = is_read_as(rt.alloc(), &twice, "X Y Z Y ");
-    assert!(&rt; same == Ok(true));
-    let switched = [
-        ("a.pas", "{$I B}{$IFDEF C}{$IFOPT R+}x{$ENDIF}{$ENDIF}"),
-        ("b.pas", "{$R+}{$DEFINE c}\x1a?"),
-    ];
-    let same = is_read_as(rt.alloc(), &switched, "switches true false false false X ");
-    assert!(&rt; same == Ok(true));
-    let open = [
-        ("a.pas", "{$IFNDEF A}{$I B}{$ENDIF}"),
-        ("b.pas", "{$ENDIF}"),
-    ];
-    let same = is_read_as(rt.alloc(), &open, "BadDirective 1:1:1");
-    assert!(&rt; same == Ok(true));
+    for (texts, expected) in INCLUDED {
+        let same = is_read_as(rt.alloc(), texts, expected);
+        assert!(&rt; same == Ok(true), "{expected}");
+    }
 }
 
 #[test]
