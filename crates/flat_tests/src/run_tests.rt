@@ -117,15 +117,12 @@ fn unit(alloc: Global, name: &[u8], routines: Vec<FlatRoutine>) -> Result<FlatUn
     })
 }
 
-/// The units of the runtime, without routines, and these.
-fn with_runtime(alloc: Global, own: Vec<FlatUnit>) -> Result<Vec<FlatUnit>, Fail> {
+/// The units of the runtime, without routines.
+fn runtime_units(alloc: Global) -> Result<Vec<FlatUnit>, Fail> {
     let mut units = Vec::new(alloc);
-    for name in [b"TEXT".as_slice(), b"STRINGS", b"OVERLAY"] {
-        units.push(unit(alloc, name, Vec::new(alloc))?)?;
-    }
-    for one in own {
-        units.push(one)?;
-    }
+    units.push(unit(alloc, b"TEXT", Vec::new(alloc))?)?;
+    units.push(unit(alloc, b"STRINGS", Vec::new(alloc))?)?;
+    units.push(unit(alloc, b"OVERLAY", Vec::new(alloc))?)?;
     Ok(units)
 }
 
@@ -150,8 +147,8 @@ fn mean(
     input: &[u8],
     turns: u64,
 ) -> Result<Meaning, Fail> {
-    let own = vec![in alloc; unit(alloc, b"P", routines)?]?;
-    let units = with_runtime(alloc, own)?;
+    let mut units = runtime_units(alloc)?;
+    units.push(unit(alloc, b"P", routines)?)?;
     meaning_of(alloc, units.as_slice(), &[], input, turns)
 }
 
@@ -409,8 +406,9 @@ fn called_unit(alloc: Global) -> Result<FlatUnit, Fail> {
 // A program whose unit Q is overlaid.
 fn overlaid_call(alloc: Global, first: u16) -> Result<Meaning, Fail> {
     let overlaid = [Name::new(b"Q").ok_or("a name")?];
-    let own = vec![in alloc; called_unit(alloc)?, calling_unit(alloc, first)?]?;
-    let units = with_runtime(alloc, own)?;
+    let mut units = runtime_units(alloc)?;
+    units.push(called_unit(alloc)?)?;
+    units.push(calling_unit(alloc, first)?)?;
     meaning_of(alloc, units.as_slice(), &overlaid, b"", 9)
 }
 
