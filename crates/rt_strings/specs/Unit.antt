@@ -1,19 +1,33 @@
--- The unit of the runtime's routines on numbers, strings and sets: today those on LongInts.
-use Rattle.std.specs.Prelude.{◌≡◌, List, [], ◌∷◌, Some, None, false, codes}
+-- The unit of the runtime's routines on LongInts, strings and sets.
+use Rattle.std.specs.Prelude.{◌≡◌, List, [], ◌∷◌, ◌++◌, Some, None, false, codes}
 use Rattle.flat_code.specs.Program.{Routine, UnitCode, FlatProgram, strings_unit}
 use Rattle.flat_code.specs.Runtime.{negation_routine}
 use Rattle.rt_numbers.specs.Routines.{product_routine, less_routine, sum_routine, difference_routine, equal_routine, left_shift_routine, right_shift_routine, range_routine}
 use Rattle.rt_numbers.specs.Division.{quotient_routine, remainder_routine}
+use Rattle.rt_short_strings.specs.Routines.{assign_routine}
+use Rattle.rt_string_joins.specs.Routines.{concat_routine, insert_routine}
+use Rattle.rt_string_parts.specs.Routines.{copy_routine, delete_routine, upper_routine}
+use Rattle.rt_string_compare.specs.Routines.{compare_routine}
+use Rattle.rt_string_search.specs.Routines.{position_routine}
+use Rattle.rt_sets.specs.Routines.{combine_routine, union_byte, difference_byte, intersection_byte}
+use Rattle.rt_set_relations.specs.Routines.{relation_routine, same_test, subset_test, member_routine}
+use Rattle.rt_set_constructors.specs.Routines.{include_routine}
 
 -- in the order of their numbers
 abbrev pub number_codes : List Routine
 number_codes =
     negation_routine ∷ product_routine ∷ less_routine ∷ quotient_routine ∷ remainder_routine ∷ sum_routine ∷ difference_routine ∷ equal_routine ∷ left_shift_routine ∷ right_shift_routine ∷ range_routine ∷ []
 
+abbrev pub text_codes : List Routine
+text_codes = assign_routine ∷ concat_routine ∷ insert_routine ∷ copy_routine ∷ delete_routine ∷ upper_routine ∷ compare_routine ∷ position_routine ∷ []
+
+abbrev pub set_codes : List Routine
+set_codes = combine_routine union_byte ∷ combine_routine difference_byte ∷ combine_routine intersection_byte ∷ relation_routine same_test ∷ relation_routine subset_test ∷ member_routine ∷ include_routine ∷ []
+
 abbrev pub strings_code : UnitCode
 strings_code = record {
   names = codes "STRINGS" ∷ [];
-  routines = number_codes;
+  routines = number_codes ++ text_codes ++ set_codes;
   globals = [];
   vmts = [];
   initial = None;

@@ -1,13 +1,16 @@
 //! The unit of the runtime's routines on numbers, strings and sets, as flat code.
 #![tactic(auto)]
 
-ghost use Rattle.std.specs.Prelude.{◌≡◌, IfOk};
+ghost use Rattle.std.specs.Prelude.{◌≡◌, ◌≤◌, IfOk};
 ghost use Rattle.flat_code.specs.Program.{FlatProgram, Choice};
 ghost use Rattle.flat_code.specs.Legal.{StackFits};
 ghost use Rattle.flat_code.specs.Runtime.{IsRuntime};
 ghost use Rattle.flat_code.specs.Plain.{view_unit};
+ghost use Rattle.flat_code.specs.Weights.{unit_weight};
+ghost use Rattle.leaf_routines.specs.Leaves.{AreLeaves};
 ghost use Rattle.rt_numbers.specs.Promises.{NumbersWork};
 ghost use Rattle.rt_strings.specs.Unit.{strings_code, HoldsStrings};
+ghost use Rattle.rt_strings.specs.Promises.{StringsWork, SetsWork};
 
 use flat_builders::name;
 use flat_code::FlatUnit;
@@ -15,11 +18,18 @@ use rt_numbers::{
     difference, equal, left_shift, less, negation, product, quotient, range, remainder,
     right_shift, sum,
 };
+use rt_set_constructors::include;
+use rt_set_relations::{member, same, subset};
+use rt_sets::{difference as set_difference, intersection, union};
+use rt_short_strings::assign;
+use rt_string_compare::compare;
+use rt_string_joins::{concat, insert};
+use rt_string_parts::{copy, delete, upper};
+use rt_string_search::position;
 use std::alloc::{AllocError, Global};
 use type_layout::{Names, Sequence};
 
-/// The unit of the runtime's routines on numbers, strings and sets.
-pub fn string_routines(alloc: Global) -> Result<FlatUnit, AllocError>
+fn whole_unit(alloc: Global) -> Result<FlatUnit, AllocError>
     ensures { IfOk result (λ unit. view_unit unit ≡ strings_code) }
 {
     let names = vec![in alloc; name(b"STRINGS")]?;
@@ -35,6 +45,21 @@ pub fn string_routines(alloc: Global) -> Result<FlatUnit, AllocError>
         left_shift(alloc)?,
         right_shift(alloc)?,
         range(alloc)?,
+        assign(alloc)?,
+        concat(alloc)?,
+        insert(alloc)?,
+        copy(alloc)?,
+        delete(alloc)?,
+        upper(alloc)?,
+        compare(alloc)?,
+        position(alloc)?,
+        union(alloc)?,
+        set_difference(alloc)?,
+        intersection(alloc)?,
+        same(alloc)?,
+        subset(alloc)?,
+        member(alloc)?,
+        include(alloc)?,
     ]?;
     Ok(FlatUnit {
         names: Names::from_vec(names),
@@ -45,9 +70,22 @@ pub fn string_routines(alloc: Global) -> Result<FlatUnit, AllocError>
     })
 }
 
+/// The unit of the runtime's routines on numbers, strings and sets. Its code weighs at most 24,000 bytes.
+#[tactic(auto, using(crate::proofs::Leaves::as_light))]
+pub fn string_routines(alloc: Global) -> Result<FlatUnit, AllocError>
+    ensures whole { IfOk result (λ unit. view_unit unit ≡ strings_code) }
+    ensures light { IfOk result (λ unit. unit_weight (view_unit unit) ≤ 24000) }
+{
+    whole_unit(alloc)
+}
+
 /// The laws of the routines: in each program that holds their unit, and wherever its parts lie, they
-/// compute what the runtime promises. It does nothing.
+/// compute and do what the runtime promises. They call no others, and each takes at most 64 bytes of the
+/// stack. It does nothing.
 pub fn routine_laws()
     ensures numbers { (program : FlatProgram) (choice : Choice) → StackFits program choice → HoldsStrings program → NumbersWork program choice }
+    ensures strings { (program : FlatProgram) (choice : Choice) → StackFits program choice → HoldsStrings program → StringsWork program choice }
+    ensures sets { (program : FlatProgram) (choice : Choice) → StackFits program choice → HoldsStrings program → SetsWork program choice }
+    ensures leaves { AreLeaves 64 strings_code.routines }
     ensures runtime { (program : FlatProgram) (choice : Choice) → StackFits program choice → HoldsStrings program → IsRuntime program choice }
 {}

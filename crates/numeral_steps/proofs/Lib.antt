@@ -1,0 +1,4 @@
+pub mod Widening
+pub mod Digits
+pub mod Stepping
+pub mod Signing

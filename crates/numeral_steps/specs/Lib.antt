@@ -1,0 +1,4 @@
+pub mod Stages
+pub mod Step
+pub mod Widening
+pub mod Promises

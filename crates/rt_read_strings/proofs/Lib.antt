@@ -1,0 +1,3 @@
+pub mod Texts
+pub mod Filling
+pub mod StringReading

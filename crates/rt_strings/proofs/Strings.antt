@@ -1,0 +1,42 @@
+-- The routines on strings and sets, as they stand in the unit.
+use Rattle.std.proofs.Common.{refl, sym}
+use Rattle.flat_code.specs.Program.{FlatProgram, Choice}
+use Rattle.flat_code.specs.Legal.{StackFits}
+use Rattle.rt_short_strings.proofs.Assigning.{assigns}
+use Rattle.rt_string_joins.proofs.Joining.{joins}
+use Rattle.rt_string_joins.proofs.Inserting.{inserts}
+use Rattle.rt_string_parts.proofs.Copying.{copies}
+use Rattle.rt_string_parts.proofs.Deleting.{deletes}
+use Rattle.rt_string_parts.proofs.Letters.{makes-upper}
+use Rattle.rt_string_compare.proofs.Comparing.{compares}
+use Rattle.rt_string_search.proofs.Searching.{searches}
+use Rattle.rt_sets.proofs.Combining.{unites, takes-away, intersects}
+use Rattle.rt_set_relations.proofs.Relating.{tells-same, tells-subset}
+use Rattle.rt_set_relations.proofs.Members.{tells-member}
+use Rattle.rt_set_constructors.proofs.Including.{includes}
+use Rattle.rt_strings.specs.Unit.{strings_code, HoldsStrings}
+use Rattle.rt_strings.specs.Promises.{StringsWork, SetsWork}
+
+module _ (program : FlatProgram) (choice : Choice) (fits : StackFits program choice) (holds : HoldsStrings program) where
+  pub strings-work : StringsWork program choice
+  strings-work = record {
+    assign = assigns program choice strings_code fits (record { unit_is = sym holds.is_there; routine_is = refl; resident = holds.resident; untested = refl; far = refl; locals = refl });
+    concat = joins program choice strings_code fits (record { unit_is = sym holds.is_there; routine_is = refl; resident = holds.resident; untested = refl; far = refl; locals = refl });
+    insert = inserts program choice strings_code fits (record { unit_is = sym holds.is_there; routine_is = refl; resident = holds.resident; untested = refl; far = refl; locals = refl });
+    copy = copies program choice strings_code fits (record { unit_is = sym holds.is_there; routine_is = refl; resident = holds.resident; untested = refl; far = refl; locals = refl });
+    delete = deletes program choice strings_code fits (record { unit_is = sym holds.is_there; routine_is = refl; resident = holds.resident; untested = refl; far = refl; locals = refl });
+    upper = makes-upper program choice strings_code fits (record { unit_is = sym holds.is_there; routine_is = refl; resident = holds.resident; untested = refl; far = refl; locals = refl });
+    compare = compares program choice strings_code fits (record { unit_is = sym holds.is_there; routine_is = refl; resident = holds.resident; untested = refl; far = refl; locals = refl });
+    position = searches program choice strings_code fits (record { unit_is = sym holds.is_there; routine_is = refl; resident = holds.resident; untested = refl; far = refl; locals = refl });
+  }
+
+  pub sets-work : SetsWork program choice
+  sets-work = record {
+    union = unites program choice strings_code fits (record { unit_is = sym holds.is_there; routine_is = refl; resident = holds.resident; untested = refl; far = refl; locals = refl });
+    difference = takes-away program choice strings_code fits (record { unit_is = sym holds.is_there; routine_is = refl; resident = holds.resident; untested = refl; far = refl; locals = refl });
+    intersection = intersects program choice strings_code fits (record { unit_is = sym holds.is_there; routine_is = refl; resident = holds.resident; untested = refl; far = refl; locals = refl });
+    same = tells-same program choice strings_code fits (record { unit_is = sym holds.is_there; routine_is = refl; resident = holds.resident; untested = refl; far = refl; locals = refl });
+    subset = tells-subset program choice strings_code fits (record { unit_is = sym holds.is_there; routine_is = refl; resident = holds.resident; untested = refl; far = refl; locals = refl });
+    member = tells-member program choice strings_code fits (record { unit_is = sym holds.is_there; routine_is = refl; resident = holds.resident; untested = refl; far = refl; locals = refl });
+    include = includes program choice strings_code fits (record { unit_is = sym holds.is_there; routine_is = refl; resident = holds.resident; untested = refl; far = refl; locals = refl });
+  }
