@@ -1,6 +1,6 @@
 use Rattle.std.proofs.Common.{◌≡◌, ◌≤◌}
-use Rattle.tp_check_expr.specs.Names.{with_depth}
-use Rattle.tp_check_expr.proofs.names.with_depth.Given as goal
+use Rattle.tp_check_expr.specs.Owners.{with_depth}
+use Rattle.tp_check_expr.proofs.owners.with_depth.Given as goal
 
 abbrev pub invariant-loop-number : goal.invariant-loop-number
 invariant-loop-number l = record {

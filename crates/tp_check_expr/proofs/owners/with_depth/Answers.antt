@@ -1,8 +1,8 @@
 use Rattle.std.proofs.Common.{◌≡◌, ℕ, ◌+◌, suc, Option, add-one, ap, sym, ◌∙◌, arith}
 use Rattle.scopes.specs.declared.entries.BlockKind.{BlockKind}
 use Rattle.scopes.specs.Environment.{Environment, kind_of}
-use Rattle.tp_check_expr.specs.Names.{deeper_with, with_depth}
-use Rattle.tp_check_expr.proofs.names.with_depth.Goals as goal
+use Rattle.tp_check_expr.specs.Owners.{deeper_with, with_depth}
+use Rattle.tp_check_expr.proofs.owners.with_depth.Goals as goal
 
 -- one block more
 step : (g : Environment) (n depth more : ℕ) (kind : Option BlockKind) → more ≡ deeper_with kind depth → kind ≡ kind_of g n → depth ≡ with_depth g n → more ≡ with_depth g (n + 1)
