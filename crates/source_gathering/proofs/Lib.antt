@@ -1,0 +1,9 @@
+pub mod AnswerLaws
+pub mod LexLaws
+pub mod NameLaws
+pub mod SourceLaws
+pub mod TextLaws
+pub mod Told
+pub mod UsedLaws
+pub mod WalkLaws
+pub mod WholeLaws

@@ -1,0 +1,38 @@
+use Rattle.std.proofs.Common.{◌∙◌, Option, IfSome, subst, arith}
+use Rattle.std.proofs.lemmas.Result.{err_from_is_err_and}
+use Rattle.tp_outside.specs.Folder.{Folder}
+use Rattle.tp_lexer.specs.Acting as lexer
+use Rattle.tp_lexer.specs.Tokens.{Breaks}
+use Rattle.source_gathering.specs.Texts.{defined}
+use Rattle.source_gathering.specs.Files.{IsMended, IsCause}
+use Rattle.source_gathering.specs.Walk.{Unless}
+use Rattle.source_gathering.proofs.AnswerLaws.{breaks_at, mended, fails}
+use Rattle.source_gathering.proofs.lexing.tokens_of.Goals as goal
+
+pub includes-preserved : goal.includes-preserved
+includes-preserved g c =
+    let before = c.includes.invariant in
+    let rule = c.in-Err.rule in
+    let now = c.includes.texts in
+    let more = c.mend.new.texts in
+    let known = g.F.Files.folder c.args.files.now in
+    let breaks : lexer.Unless rule (Breaks now c.args.main defined rule) = breaks_at rule c.as_slice.result.now now c.args.main c.defined-defined.result c.as_slice.ensures.texts c.defined-defined.ensures c.in-Err.ensures.fault in
+    let mends : IfSome known (λ held. IsMended held now rule more) = subst (λ (k : Option Folder). IfSome k (λ held. IsMended held now rule more)) before.1 c.in_ok-mend-in-Err.ensures.told in
+    let grows = c.in_ok-mend-in-Err.ensures.grows in (
+      mended known c.args.main c.args.texts.now now more rule before.0 breaks mends,
+      c.in_ok-mend-in-Err.ensures.unchanged ∙ before.1,
+      omega (arith, before.2, c.in_ok-mend-in-Err.ensures.counted),
+      omega (arith, before.3, grows),
+    )
+
+pub returns-in_err-mend-in-Err-clause-told : goal.returns-in_err-mend-in-Err-clause-told
+returns-in_err-mend-in-Err-clause-told g c =
+    let before = c.includes.invariant in
+    let rule = c.in-Err.rule in
+    let now = c.includes.texts in
+    let error = c.in_err-mend-in-Err.field-0.0 in
+    let known = g.F.Files.folder c.args.files.now in
+    let breaks : lexer.Unless rule (Breaks now c.args.main defined rule) = breaks_at rule c.as_slice.result.now now c.args.main c.defined-defined.result c.as_slice.ensures.texts c.defined-defined.ensures c.in-Err.ensures.fault in
+    let cause : IfSome known (λ held. Unless error (IsCause held now rule error)) = subst (λ (k : Option Folder). IfSome k (λ held. Unless error (IsCause held now rule error))) before.1 c.in_err-mend-in-Err.ensures.told in
+    let is = err_from_is_err_and c.from_residual.result c.from_residual.ensures.1 in
+    rw (is.1, is.2) (fails known c.args.main c.args.texts.now now rule error before.0 breaks cause)

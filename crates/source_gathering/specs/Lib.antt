@@ -1,0 +1,5 @@
+pub mod Files
+pub mod Sources
+pub mod Texts
+pub mod Walk
+pub mod Whole

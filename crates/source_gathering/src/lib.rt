@@ -1,0 +1,15 @@
+//! The sources of a program: from a folder of files and a name to the trees of the program and of all units that it uses.
+#![tactic(auto)]
+
+mod error;
+mod files;
+mod gathering;
+mod lexing;
+mod sources;
+mod texts;
+mod wanted;
+
+pub use error::{At, GatherError, LexCause};
+pub use gathering::{Gathered, gather, whole};
+pub use sources::Source;
+pub use texts::{ALL_TEXTS_LIMIT, TEXT_LIMIT, at};

@@ -1,0 +1,12 @@
+//! Sources.
+
+use tp_parser::Tree;
+use type_layout::Name;
+
+/// A program or a unit: the name of its file in upper case, the number of its text among all that were read, and its tree.
+#[derive(Drop)]
+pub struct Source {
+    pub name: Name,
+    pub text: u32,
+    pub tree: Tree,
+}
