@@ -153,6 +153,7 @@ impl Registers {
     }
 
     /// Whether a jump is taken.
+    #[inline(always)]
     fn holds(&self, cond: Cond) -> bool
         ensures { result ≡ holds self.now cond }
     {
@@ -181,6 +182,7 @@ impl Registers {
         self.ip = self.ip.wrapping_add(distance);
     }
 
+    #[inline(always)]
     pub(crate) fn jump_if(&mut self, cond: Cond, distance: u8)
         ensures { self.new ≡ jump_if self.old cond distance }
     {

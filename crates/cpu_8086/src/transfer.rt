@@ -192,6 +192,7 @@ impl Hardware {
     }
 
     #[tactic(auto, unfolding(crate::specs::Direct::called))]
+    #[inline(always)]
     pub(crate) fn call(&mut self, offset: u16)
         ensures { self.new ≡ called self.old offset }
     {
@@ -223,6 +224,7 @@ impl Hardware {
 
     /// IP is popped, and so many bytes are dropped.
     #[tactic(auto, unfolding(crate::specs::Direct::returned))]
+    #[inline(always)]
     pub(crate) fn return_near(&mut self, count: u16)
         ensures { self.new ≡ returned self.old count }
     {

@@ -1,2 +1,2 @@
-pub mod Ones
+pub mod Plain
 pub mod Arguments

@@ -1,4 +1,4 @@
-//! The 8086 code of flat expressions, before any address is known.
+//! The 8086 code of flat expressions, beside what it refers to.
 #![tactic(auto)]
 
 mod expressions;
@@ -6,7 +6,7 @@ mod operands;
 mod operators;
 mod sink;
 
-pub use expressions::{push_args, push_expr};
-pub use operands::{frame_memory, link_bytes, load, low_word, operand, operand_place, push_loads};
-pub use operators::{apply, fail, move_word, push_op};
-pub use sink::push_ones;
+pub use expressions::{byte_load, push_args, push_expr};
+pub use operands::{address_load, frame_memory, low_word, operand, push_loads, word_load};
+pub use operators::{apply, move_word, push_fail};
+pub use sink::{at_place, marked, push_bare, push_plain};

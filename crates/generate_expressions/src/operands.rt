@@ -2,18 +2,17 @@
 
 ghost use Rattle.std.specs.Prelude.{◌≡◌, ◌++◌, OnOk, Bool};
 ghost use Rattle.integers.specs.Words.{w16, word_of};
-ghost use Rattle.flat_code.specs.declared.unit.FlatUnit.{FlatUnit};
 ghost use Rattle.flat_code.specs.Calls.{link_bytes};
-ghost use Rattle.machine_lines.specs.Straight.{ones};
-ghost use Rattle.code_lines.specs.Operands.{displaced, frame_memory, load, hop, hops, links, loads, outer_place, operand_place, operand};
-ghost use Rattle.generate_expressions.specs.Unplaced.{context_of};
+ghost use Rattle.code_lines.specs.Operands.{displaced, frame_memory, load, hop, hops, links, outer_place, operand_place, operand};
+ghost use Rattle.code_references.specs.Marks.{plain};
+ghost use Rattle.code_references.specs.Marked.{marked_loads, word_load, address_load};
+ghost use Rattle.code_references.specs.Unplaced.{in_frame};
 
-use crate::sink::push_ones;
-use flat_code::{Address, FlatUnit};
+use crate::sink::push_plain;
+use code_references::MarkedLines;
+use flat_code::Address;
 use std::alloc::AllocError;
-use x86_table::{
-    Base, IndirectBase, Instr, LineList, Memory, Pair, Place, SegReg, WordOperand, WordReg,
-};
+use x86_table::{Base, IndirectBase, Instr, Memory, Pair, Place, SegReg, WordOperand, WordReg};
 
 /// The lower word of a distance.
 pub fn low_word(distance: i32) -> u16
@@ -73,45 +72,35 @@ fn hop() -> Instr
     )
 }
 
-fn push_hops(lines: &mut LineList, count: u8) -> Result<(), AllocError>
-    ensures { OnOk result (lines.new ≡ lines.old ++ ones (hops count)) }
+fn push_hops(lines: &mut MarkedLines, count: u8) -> Result<(), AllocError>
+    ensures { OnOk result (lines.new ≡ lines.old ++ plain (hops count)) }
 {
     if count == 0 {
         return Ok(());
     }
-    push_ones(lines, &[hop()])?;
+    push_plain(lines, &[hop()])?;
     push_hops(lines, count - 1)
 }
 
 // BX leads to the link word so many links up.
-fn push_links(
-    lines: &mut LineList,
-    unit: &FlatUnit,
-    far: bool,
-    levels: u8,
-) -> Result<(), AllocError>
-    ensures { OnOk result (lines.new ≡ lines.old ++ ones (links (context_of unit.now far) levels)) }
+fn push_links(lines: &mut MarkedLines, far: bool, levels: u8) -> Result<(), AllocError>
+    ensures { OnOk result (lines.new ≡ lines.old ++ plain (links (in_frame far) levels)) }
 {
     if levels == 0 {
         return Ok(());
     }
-    push_ones(lines, &[load(WordReg::Bx, frame_memory(link_bytes(far)))])?;
+    push_plain(lines, &[load(WordReg::Bx, frame_memory(link_bytes(far)))])?;
     push_hops(lines, levels - 1)
 }
 
 /// Appends what has to be loaded before an operand at a place.
-pub fn push_loads(
-    lines: &mut LineList,
-    unit: &FlatUnit,
-    far: bool,
-    at: Address,
-) -> Result<(), AllocError>
-    ensures { OnOk result (lines.new ≡ lines.old ++ ones (loads (context_of unit.now far) at)) }
+pub fn push_loads(lines: &mut MarkedLines, far: bool, at: Address) -> Result<(), AllocError>
+    ensures { OnOk result (lines.new ≡ lines.old ++ marked_loads far at) }
 {
     match at {
         Address::Global { .. } | Address::Local(_) => Ok(()),
-        Address::Outer { levels, .. } => push_links(lines, unit, far, levels),
-        Address::Through { slot, .. } => push_ones(
+        Address::Outer { levels, .. } => push_links(lines, far, levels),
+        Address::Through { slot, .. } => push_plain(
             lines,
             &[Instr::Les(WordReg::Bx, frame_memory(low_word(slot)))],
         ),
@@ -119,7 +108,7 @@ pub fn push_loads(
 }
 
 fn outer_place(far: bool, levels: u8, distance: u16) -> Place
-    ensures { (unit : FlatUnit) → result ≡ outer_place (context_of unit far) levels distance }
+    ensures { result ≡ outer_place (in_frame far) levels distance }
 {
     if levels == 0 {
         displaced(Base::Bp, link_bytes(far).wrapping_add(distance))
@@ -130,7 +119,7 @@ fn outer_place(far: bool, levels: u8, distance: u16) -> Place
 
 /// Where the bytes lie that stand so many behind a place.
 pub fn operand_place(far: bool, at: Address, more: u16) -> Place
-    ensures { (unit : FlatUnit) → result ≡ operand_place (context_of unit far) at more }
+    ensures { result ≡ operand_place (in_frame far) at more }
 {
     match at {
         Address::Global { plus, .. } => Place::Direct(plus.wrapping_add(more)),
@@ -142,7 +131,7 @@ pub fn operand_place(far: bool, at: Address, more: u16) -> Place
 
 // The segment override of an operand.
 fn override_of(at: Address) -> Option<SegReg>
-    ensures { (unit : FlatUnit) (far : Bool) → result ≡ (operand (context_of unit far) at 0).segment }
+    ensures { (far : Bool) → result ≡ (operand (in_frame far) at 0).segment }
 {
     match at {
         Address::Global { .. } | Address::Local(_) => None,
@@ -153,10 +142,30 @@ fn override_of(at: Address) -> Option<SegReg>
 
 /// The operand at so many bytes behind a place, once it is loaded.
 pub fn operand(far: bool, at: Address, more: u16) -> Memory
-    ensures { (unit : FlatUnit) → result ≡ operand (context_of unit far) at more }
+    ensures { result ≡ operand (in_frame far) at more }
 {
     Memory {
         segment: override_of(at),
         place: operand_place(far, at, more),
     }
+}
+
+/// MOV of a word at so many bytes behind a place that is loaded.
+pub fn word_load(register: WordReg, far: bool, at: Address, more: u16) -> Instr
+    ensures { result ≡ word_load register far at more }
+{
+    load(register, operand(far, at, more))
+}
+
+/// LEA of a place that is loaded.
+pub fn address_load(register: WordReg, far: bool, at: Address) -> Instr
+    ensures { result ≡ address_load register far at }
+{
+    Instr::Lea(
+        register,
+        Memory {
+            segment: None,
+            place: operand_place(far, at, 0),
+        },
+    )
 }

@@ -1,18 +1,20 @@
 //! What operators do to AX and CX.
 
-ghost use Rattle.std.specs.Prelude.{◌≡◌, ◌++◌, OnOk, Bool, [], ◌∷◌};
-ghost use Rattle.flat_code.specs.declared.unit.FlatUnit.{FlatUnit};
-ghost use Rattle.machine_lines.specs.Straight.{ones};
-ghost use Rattle.code_lines.specs.Expressions.{move, apply, compare_with, on_word, fail, truth_unless, shifted_by, tested, unsigned_division, signed_quotient, signed_remainder, negative, magnitudes, signed_by, op_code};
-ghost use Rattle.generate_expressions.specs.Unplaced.{context_of};
-ghost use Rattle.flat_code.specs.declared.tree.FlatOp.TheVariants as op;
+ghost use Rattle.std.specs.Prelude.{◌≡◌, ◌++◌, OnOk, [], ◌∷◌};
+ghost use Rattle.x86_table.specs.declared.instr.Instr.TheVariants as instr;
+ghost use Rattle.x86_table.specs.declared.instr.Cond.TheVariants as cond;
+ghost use Rattle.x86_table.specs.declared.instr.UnaryOp.TheVariants as unary;
 ghost use Rattle.x86_table.specs.declared.operand.WordReg.TheVariants as word;
+ghost use Rattle.code_lines.specs.Expressions.{move, apply, compare_with, on_word, truth_unless, shifted_by, negative, magnitudes, signed_by};
+ghost use Rattle.code_references.specs.Marks.{plain};
+ghost use Rattle.code_references.specs.Marked.{marked_fail, marked_tested, divided, marked_op};
 
-use crate::sink::push_ones;
-use flat_code::{FlatOp, FlatUnit};
+use crate::sink::{marked, push_plain};
+use code_references::{MarkedLines, Target};
+use flat_code::FlatOp;
 use std::alloc::AllocError;
 use x86_table::{
-    AluOp, Cond, Count, Instr, LineList, Pair, ShiftOp, ShortOp, Target, UnaryOp, WordOperand,
+    AluOp, Cond, Count, Instr, Pair, ShiftOp, ShortOp, Target as Divisor, UnaryOp, WordOperand,
     WordReg,
 };
 
@@ -39,14 +41,15 @@ fn compare_with(register: WordReg, number: u8) -> Instr
 fn on_word(op: UnaryOp, register: WordReg) -> Instr
     ensures { result ≡ on_word op register }
 {
-    Instr::Unary(op, Target::Word(WordOperand::Reg(register)))
+    Instr::Unary(op, Divisor::Word(WordOperand::Reg(register)))
 }
 
-/// A runtime error: its code goes to AX, and the run to the error routine.
-pub fn fail(code: u16) -> [Instr; 2]
-    ensures { (unit : FlatUnit) (far : Bool) → result ≡ fail (context_of unit far) code }
+/// Appends a runtime error: its code goes to AX, and the run to the error routine.
+pub fn push_fail(lines: &mut MarkedLines, code: u16) -> Result<(), AllocError>
+    ensures { OnOk result (lines.new ≡ lines.old ++ marked_fail code) }
 {
-    [Instr::MovWord(WordReg::Ax, code), Instr::JumpFar(0, 0)]
+    push_plain(lines, &[Instr::MovWord(WordReg::Ax, code)])?;
+    lines.push(marked(Instr::JumpFar(0, 0), Target::ErrorRoutine))
 }
 
 fn truth_unless(cond: Cond) -> [Instr; 4]
@@ -60,30 +63,25 @@ fn truth_unless(cond: Cond) -> [Instr; 4]
     ]
 }
 
-// An error where the divisor in CX is 0, and a division of AX by it.
-fn unsigned_division() -> [Instr; 6]
-    ensures { (unit : FlatUnit) (far : Bool) → result ≡ unsigned_division (context_of unit far) }
+// An error where the divisor in CX is 0.
+fn push_tested(lines: &mut MarkedLines) -> Result<(), AllocError>
+    ensures { OnOk result (lines.new ≡ lines.old ++ marked_tested) }
 {
-    [
-        compare_with(WordReg::Cx, 0),
-        Instr::JumpShort(Cond::NotEqual, 8),
-        Instr::MovWord(WordReg::Ax, 200),
-        Instr::JumpFar(0, 0),
-        Instr::MovWord(WordReg::Dx, 0),
-        on_word(UnaryOp::Div, WordReg::Cx),
-    ]
+    push_plain(
+        lines,
+        &[
+            compare_with(WordReg::Cx, 0),
+            Instr::JumpShort(Cond::NotEqual, 8),
+        ],
+    )?;
+    push_fail(lines, 200)
 }
 
 // BX keeps the sign of the quotient.
-fn signed_quotient() -> [Instr; 16]
-    ensures { (unit : FlatUnit) (far : Bool) → result ≡ signed_quotient (context_of unit far) }
+fn signed_quotient() -> [Instr; 11]
+    ensures { result ≡ instr.JumpShort cond.NoSign 4 ∷ on_word unary.Neg word.Cx ∷ on_word unary.Not word.Bx ∷ (magnitudes ++ signed_by) }
 {
     [
-        move_word(WordReg::Bx, WordReg::Ax),
-        compare_with(WordReg::Cx, 0),
-        Instr::JumpShort(Cond::NotEqual, 8),
-        Instr::MovWord(WordReg::Ax, 200),
-        Instr::JumpFar(0, 0),
         Instr::JumpShort(Cond::NoSign, 4),
         on_word(UnaryOp::Neg, WordReg::Cx),
         on_word(UnaryOp::Not, WordReg::Bx),
@@ -99,15 +97,10 @@ fn signed_quotient() -> [Instr; 16]
 }
 
 // BX keeps the sign of the dividend.
-fn signed_remainder() -> [Instr; 16]
-    ensures { (unit : FlatUnit) (far : Bool) → result ≡ signed_remainder (context_of unit far) }
+fn signed_remainder() -> [Instr; 11]
+    ensures { result ≡ negative word.Cx ++ (magnitudes ++ (move word.Ax word.Dx ∷ signed_by)) }
 {
     [
-        move_word(WordReg::Bx, WordReg::Ax),
-        compare_with(WordReg::Cx, 0),
-        Instr::JumpShort(Cond::NotEqual, 8),
-        Instr::MovWord(WordReg::Ax, 200),
-        Instr::JumpFar(0, 0),
         Instr::JumpShort(Cond::NoSign, 2),
         on_word(UnaryOp::Neg, WordReg::Cx),
         compare_with(WordReg::Ax, 0),
@@ -122,21 +115,20 @@ fn signed_remainder() -> [Instr; 16]
     ]
 }
 
+// AX by CX, without signs.
+fn divided() -> [Instr; 2]
+    ensures { result ≡ divided }
+{
+    [
+        Instr::MovWord(WordReg::Dx, 0),
+        on_word(UnaryOp::Div, WordReg::Cx),
+    ]
+}
+
 fn shifted_by(op: ShiftOp) -> Instr
     ensures { result ∷ [] ≡ shifted_by op }
 {
-    Instr::Shift(op, Count::Cl, Target::Word(WordOperand::Reg(WordReg::Ax)))
-}
-
-fn push_unsigned_remainder(
-    lines: &mut LineList,
-    unit: &FlatUnit,
-    far: bool,
-) -> Result<(), AllocError>
-    ensures { OnOk result (lines.new ≡ lines.old ++ ones (op_code (context_of unit.now far) op.ModUnsigned)) }
-{
-    push_ones(lines, &unsigned_division())?;
-    push_ones(lines, &[move_word(WordReg::Ax, WordReg::Dx)])
+    Instr::Shift(op, Count::Cl, Divisor::Word(WordOperand::Reg(WordReg::Ax)))
 }
 
 fn with_cx(op: AluOp) -> Instr
@@ -145,37 +137,57 @@ fn with_cx(op: AluOp) -> Instr
     apply(op, WordReg::Ax, WordReg::Cx)
 }
 
+// Signed and unsigned quotients and remainders.
+fn push_division(lines: &mut MarkedLines, first: &[Instr], rest: &[Instr]) -> Result<(), AllocError>
+    ensures { OnOk result (lines.new ≡ lines.old ++ (plain first.now ++ (marked_tested ++ plain rest.now))) }
+{
+    push_plain(lines, first)?;
+    push_tested(lines)?;
+    push_plain(lines, rest)
+}
+
 /// Appends what an operator does, the left operand in AX and the right one in CX.
-pub fn push_op(
-    lines: &mut LineList,
-    unit: &FlatUnit,
-    far: bool,
-    op: FlatOp,
-) -> Result<(), AllocError>
-    ensures { OnOk result (lines.new ≡ lines.old ++ ones (op_code (context_of unit.now far) op)) }
+pub fn push_op(lines: &mut MarkedLines, op: FlatOp) -> Result<(), AllocError>
+    ensures { OnOk result (lines.new ≡ lines.old ++ marked_op op) }
 {
     match op {
-        FlatOp::Add => push_ones(lines, &[with_cx(AluOp::Add)]),
-        FlatOp::Sub => push_ones(lines, &[with_cx(AluOp::Sub)]),
-        FlatOp::Mul => push_ones(lines, &[on_word(UnaryOp::Mul, WordReg::Cx)]),
-        FlatOp::MulHigh => push_ones(
+        FlatOp::Add => push_plain(lines, &[with_cx(AluOp::Add)]),
+        FlatOp::Sub => push_plain(lines, &[with_cx(AluOp::Sub)]),
+        FlatOp::Mul => push_plain(lines, &[on_word(UnaryOp::Mul, WordReg::Cx)]),
+        FlatOp::MulHigh => push_plain(
             lines,
             &[
                 on_word(UnaryOp::Mul, WordReg::Cx),
                 move_word(WordReg::Ax, WordReg::Dx),
             ],
         ),
-        FlatOp::Div => push_ones(lines, &signed_quotient()),
-        FlatOp::Mod => push_ones(lines, &signed_remainder()),
-        FlatOp::DivUnsigned => push_ones(lines, &unsigned_division()),
-        FlatOp::ModUnsigned => push_unsigned_remainder(lines, unit, far),
-        FlatOp::And => push_ones(lines, &[with_cx(AluOp::And)]),
-        FlatOp::Or => push_ones(lines, &[with_cx(AluOp::Or)]),
-        FlatOp::Xor => push_ones(lines, &[with_cx(AluOp::Xor)]),
-        FlatOp::Shl => push_ones(lines, &[shifted_by(ShiftOp::Shl)]),
-        FlatOp::Shr => push_ones(lines, &[shifted_by(ShiftOp::Shr)]),
-        FlatOp::Equal => push_ones(lines, &truth_unless(Cond::NotEqual)),
-        FlatOp::Less => push_ones(lines, &truth_unless(Cond::GreaterOrEqual)),
-        FlatOp::Below => push_ones(lines, &truth_unless(Cond::AboveOrEqual)),
+        FlatOp::Div => push_division(
+            lines,
+            &[move_word(WordReg::Bx, WordReg::Ax)],
+            &signed_quotient(),
+        ),
+        FlatOp::Mod => push_division(
+            lines,
+            &[move_word(WordReg::Bx, WordReg::Ax)],
+            &signed_remainder(),
+        ),
+        FlatOp::DivUnsigned => push_division(lines, &[], &divided()),
+        FlatOp::ModUnsigned => push_division(
+            lines,
+            &[],
+            &[
+                Instr::MovWord(WordReg::Dx, 0),
+                on_word(UnaryOp::Div, WordReg::Cx),
+                move_word(WordReg::Ax, WordReg::Dx),
+            ],
+        ),
+        FlatOp::And => push_plain(lines, &[with_cx(AluOp::And)]),
+        FlatOp::Or => push_plain(lines, &[with_cx(AluOp::Or)]),
+        FlatOp::Xor => push_plain(lines, &[with_cx(AluOp::Xor)]),
+        FlatOp::Shl => push_plain(lines, &[shifted_by(ShiftOp::Shl)]),
+        FlatOp::Shr => push_plain(lines, &[shifted_by(ShiftOp::Shr)]),
+        FlatOp::Equal => push_plain(lines, &truth_unless(Cond::NotEqual)),
+        FlatOp::Less => push_plain(lines, &truth_unless(Cond::GreaterOrEqual)),
+        FlatOp::Below => push_plain(lines, &truth_unless(Cond::AboveOrEqual)),
     }
 }

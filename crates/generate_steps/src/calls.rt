@@ -1,50 +1,57 @@
 //! Calls and acts of the machine, behind their arguments.
 
 ghost use Rattle.std.specs.Prelude.{◌≡◌, ◌++◌, OnOk};
-ghost use Rattle.flat_code.specs.declared.unit.FlatUnit.{FlatUnit};
-ghost use Rattle.flat_code.specs.declared.memory.Place.{Place};
-ghost use Rattle.code_lines.specs.Lines.{call_far, call_own, call_own_if, call_code, write_code, read_code, end_code, runtime_code};
-ghost use Rattle.generate_expressions.specs.Unplaced.{nowhere, context_of};
+ghost use Rattle.flat_code.specs.Plain.{view_unit};
+ghost use Rattle.code_lines.specs.Lines.{write_code, read_code, end_code};
+ghost use Rattle.code_references.specs.Marked.{marked_far, marked_own, marked_call, marked_runtime};
 
+use code_references::{MarkedLines, Target};
 use flat_code::FlatUnit;
-use generate_expressions::{apply, move_word, push_ones};
+use generate_expressions::{apply, marked, move_word, push_plain};
 use std::alloc::AllocError;
 use type_layout::RoutineId;
-use x86_table::{AluOp, ByteReg, DataSeg, Instr, Line, LineList, SegReg, WordOperand, WordReg};
+use x86_table::{AluOp, ByteReg, DataSeg, Instr, SegReg, WordOperand, WordReg};
 
-fn push_call_far(lines: &mut LineList) -> Result<(), AllocError>
-    ensures { OnOk result (lines.new ≡ lines.old ++ call_far nowhere) }
+fn push_call_far(lines: &mut MarkedLines, target: Target) -> Result<(), AllocError>
+    ensures { OnOk result (lines.new ≡ lines.old ++ marked_far target) }
 {
-    lines.push(Line::One(Instr::CallFar(0, 0)))?;
-    Ok(())
+    lines.push(marked(Instr::CallFar(0, 0), target))
 }
 
-// A routine of the same unit has a label by its number.
-fn push_call_own(lines: &mut LineList, far: bool, number: u32) -> Result<(), AllocError>
-    ensures { OnOk result (lines.new ≡ lines.old ++ call_own far number) }
+// A routine of the same unit is called by its distance.
+fn push_call_own(lines: &mut MarkedLines, far: bool, number: u32) -> Result<(), AllocError>
+    ensures { OnOk result (lines.new ≡ lines.old ++ marked_own far number) }
 {
     if far {
-        lines.push(Line::One(Instr::PushSeg(SegReg::Cs)))?;
+        push_plain(lines, &[Instr::PushSeg(SegReg::Cs)])?;
     }
-    lines.push(Line::CallNear(number))?;
-    Ok(())
+    lines.push(marked(Instr::CallNear(0), Target::OwnRoutine(number)))
 }
 
 /// Appends the call of a routine, near or far.
 pub(crate) fn push_call(
-    lines: &mut LineList,
+    lines: &mut MarkedLines,
     unit: &FlatUnit,
-    far: bool,
     routine: RoutineId,
 ) -> Result<(), AllocError>
-    ensures { OnOk result (lines.new ≡ lines.old ++ call_code (context_of unit.now far) routine.unit routine.number) }
+    ensures { OnOk result (lines.new ≡ lines.old ++ marked_call (view_unit unit.now) routine.unit routine.number) }
 {
-    if routine.unit > 0 {
-        return push_call_far(lines);
+    let RoutineId {
+        unit: place,
+        number,
+    } = routine;
+    if place > 0 {
+        return push_call_far(
+            lines,
+            Target::Routine {
+                unit: place,
+                number,
+            },
+        );
     }
-    match unit.routines.as_slice().get(routine.number as usize) {
-        None => push_call_far(lines),
-        Some(called) => push_call_own(lines, called.far, routine.number),
+    match unit.routines.as_slice().get(number as usize) {
+        None => push_call_far(lines, Target::Routine { unit: 0, number }),
+        Some(called) => push_call_own(lines, called.far, number),
     }
 }
 
@@ -96,18 +103,15 @@ fn end_code() -> [Instr; 3]
 }
 
 /// Appends an act of the machine, or the far call of a routine of the runtime.
-pub(crate) fn push_runtime(
-    lines: &mut LineList,
-    unit: &FlatUnit,
-    far: bool,
-    number: u16,
-) -> Result<(), AllocError>
-    ensures { OnOk result (lines.new ≡ lines.old ++ runtime_code (context_of unit.now far) number) }
+pub(crate) fn push_runtime(lines: &mut MarkedLines, number: u16) -> Result<(), AllocError>
+    ensures { OnOk result (lines.new ≡ lines.old ++ marked_runtime number) }
 {
     match number {
-        0 => push_ones(lines, &write_code()),
-        1 => push_ones(lines, &read_code()),
-        2 => push_ones(lines, &end_code()),
-        _ => push_call_far(lines),
+        0 => push_plain(lines, &write_code()),
+        1 => push_plain(lines, &read_code()),
+        2 => push_plain(lines, &end_code()),
+        3 => push_call_far(lines, Target::ClearRoutine),
+        4 => push_call_far(lines, Target::FlagRoutine),
+        _ => push_call_far(lines, Target::Runtime(number)),
     }
 }

@@ -1,20 +1,16 @@
 //! Bytes that are copied.
 
-ghost use Rattle.std.specs.Prelude.{◌≡◌, ◌++◌, [], ◌∷◌, Some, OnOk};
-ghost use Rattle.flat_code.specs.declared.unit.FlatUnit.{FlatUnit};
-ghost use Rattle.x86_table.specs.declared.instr.Instr.TheVariants as instr;
-ghost use Rattle.x86_table.specs.declared.operand.DataSeg.TheVariants as data_seg;
-ghost use Rattle.x86_table.specs.declared.operand.SegReg.TheVariants as seg;
-ghost use Rattle.x86_table.specs.declared.operand.WordReg.TheVariants as word;
-ghost use Rattle.machine_lines.specs.Straight.{ones};
-ghost use Rattle.code_lines.specs.Lines.{add_to, destination, move_bytes, moved_from};
-ghost use Rattle.code_lines.specs.Operands.{memory_at, loads, operand_place};
-ghost use Rattle.generate_expressions.specs.Unplaced.{context_of};
+ghost use Rattle.std.specs.Prelude.{◌≡◌, ◌++◌, OnOk};
+ghost use Rattle.code_lines.specs.Lines.{add_to};
+ghost use Rattle.code_references.specs.Marked.{destination_in, marked_destination, moved_by, marked_moved};
 
-use flat_code::{Address, FlatUnit};
-use generate_expressions::{frame_memory, low_word, operand_place, push_loads, push_ones};
+use code_references::MarkedLines;
+use flat_code::Address;
+use generate_expressions::{
+    address_load, at_place, frame_memory, low_word, push_loads, push_plain,
+};
 use std::alloc::AllocError;
-use x86_table::{AluOp, DataSeg, Immediate, Instr, LineList, Memory, SegReg, WordOperand, WordReg};
+use x86_table::{AluOp, DataSeg, Immediate, Instr, SegReg, WordOperand, WordReg};
 
 fn add_to(register: WordReg, number: u16) -> Instr
     ensures { result ≡ add_to register number }
@@ -25,60 +21,32 @@ fn add_to(register: WordReg, number: u16) -> Instr
     )
 }
 
-// LEA of a place that is loaded.
-fn address_in(register: WordReg, far: bool, at: Address) -> Instr
-    ensures { (unit : FlatUnit) → result ≡ instr.Lea register (memory_at (operand_place (context_of unit far) at 0)) }
-{
-    Instr::Lea(
-        register,
-        Memory {
-            segment: None,
-            place: operand_place(far, at, 0),
-        },
-    )
-}
-
-// ES:DI leads to a place on the stack.
-fn push_stack_destination(
-    lines: &mut LineList,
-    unit: &FlatUnit,
+// ES:DI leads to a place in a segment.
+fn push_destination_in(
+    lines: &mut MarkedLines,
+    segment: SegReg,
     far: bool,
     to: Address,
 ) -> Result<(), AllocError>
-    ensures { OnOk result (lines.new ≡ lines.old ++ ones (loads (context_of unit.now far) to ++ (instr.Lea word.Di (memory_at (operand_place (context_of unit.now far) to 0)) ∷ instr.PushSeg seg.Ss ∷ instr.PopSeg data_seg.Es ∷ []))) }
+    ensures { OnOk result (lines.new ≡ lines.old ++ destination_in segment far to) }
 {
-    push_loads(lines, unit, far, to)?;
-    push_ones(
+    push_loads(lines, far, to)?;
+    lines.push(at_place(to, address_load(WordReg::Di, far, to)))?;
+    push_plain(
         lines,
-        &[
-            address_in(WordReg::Di, far, to),
-            Instr::PushSeg(SegReg::Ss),
-            Instr::PopSeg(DataSeg::Es),
-        ],
+        &[Instr::PushSeg(segment), Instr::PopSeg(DataSeg::Es)],
     )
 }
 
 // ES:DI leads to the place.
-fn push_destination(
-    lines: &mut LineList,
-    unit: &FlatUnit,
-    far: bool,
-    to: Address,
-) -> Result<(), AllocError>
-    ensures { OnOk result (lines.new ≡ lines.old ++ ones (destination (context_of unit.now far) to)) }
+fn push_destination(lines: &mut MarkedLines, far: bool, to: Address) -> Result<(), AllocError>
+    ensures { OnOk result (lines.new ≡ lines.old ++ marked_destination far to) }
 {
     match to {
-        Address::Global { .. } => push_ones(
-            lines,
-            &[
-                address_in(WordReg::Di, far, to),
-                Instr::PushSeg(SegReg::Ds),
-                Instr::PopSeg(DataSeg::Es),
-            ],
-        ),
-        Address::Local(_) => push_stack_destination(lines, unit, far, to),
-        Address::Outer { .. } => push_stack_destination(lines, unit, far, to),
-        Address::Through { slot, plus } => push_ones(
+        Address::Global { .. } => push_destination_in(lines, SegReg::Ds, far, to),
+        Address::Local(_) => push_destination_in(lines, SegReg::Ss, far, to),
+        Address::Outer { .. } => push_destination_in(lines, SegReg::Ss, far, to),
+        Address::Through { slot, plus } => push_plain(
             lines,
             &[
                 Instr::Les(WordReg::Di, frame_memory(low_word(slot))),
@@ -88,49 +56,38 @@ fn push_destination(
     }
 }
 
-// Bytes are moved from a place on the stack.
-fn push_moved_from_stack(
-    lines: &mut LineList,
-    unit: &FlatUnit,
+// Bytes are moved from a place in a segment.
+fn push_moved_by(
+    lines: &mut MarkedLines,
+    segment: Option<SegReg>,
     far: bool,
     from: Address,
     bytes: u16,
 ) -> Result<(), AllocError>
-    ensures { OnOk result (lines.new ≡ lines.old ++ ones (loads (context_of unit.now far) from ++ (instr.Lea word.Si (memory_at (operand_place (context_of unit.now far) from 0)) ∷ move_bytes (Some seg.Ss) bytes))) }
+    ensures { OnOk result (lines.new ≡ lines.old ++ moved_by segment far from bytes) }
 {
-    push_loads(lines, unit, far, from)?;
-    push_ones(
+    push_loads(lines, far, from)?;
+    lines.push(at_place(from, address_load(WordReg::Si, far, from)))?;
+    push_plain(
         lines,
-        &[
-            address_in(WordReg::Si, far, from),
-            Instr::MovWord(WordReg::Cx, bytes),
-            Instr::RepMovsb(Some(SegReg::Ss)),
-        ],
+        &[Instr::MovWord(WordReg::Cx, bytes), Instr::RepMovsb(segment)],
     )
 }
 
 // Bytes are moved from the place.
-fn push_moved_from(
-    lines: &mut LineList,
-    unit: &FlatUnit,
+fn push_moved(
+    lines: &mut MarkedLines,
     far: bool,
     from: Address,
     bytes: u16,
 ) -> Result<(), AllocError>
-    ensures { OnOk result (lines.new ≡ lines.old ++ ones (moved_from (context_of unit.now far) from bytes)) }
+    ensures { OnOk result (lines.new ≡ lines.old ++ marked_moved far from bytes) }
 {
     match from {
-        Address::Global { .. } => push_ones(
-            lines,
-            &[
-                address_in(WordReg::Si, far, from),
-                Instr::MovWord(WordReg::Cx, bytes),
-                Instr::RepMovsb(None),
-            ],
-        ),
-        Address::Local(_) => push_moved_from_stack(lines, unit, far, from, bytes),
-        Address::Outer { .. } => push_moved_from_stack(lines, unit, far, from, bytes),
-        Address::Through { slot, plus } => push_ones(
+        Address::Global { .. } => push_moved_by(lines, None, far, from, bytes),
+        Address::Local(_) => push_moved_by(lines, Some(SegReg::Ss), far, from, bytes),
+        Address::Outer { .. } => push_moved_by(lines, Some(SegReg::Ss), far, from, bytes),
+        Address::Through { slot, plus } => push_plain(
             lines,
             &[
                 Instr::PushSeg(SegReg::Ds),
@@ -146,15 +103,14 @@ fn push_moved_from(
 
 /// Appends what copies bytes from a place to another.
 pub fn push_copy(
-    lines: &mut LineList,
-    unit: &FlatUnit,
+    lines: &mut MarkedLines,
     far: bool,
     to: Address,
     from: Address,
     bytes: u16,
 ) -> Result<(), AllocError>
-    ensures { OnOk result (lines.new ≡ lines.old ++ ones (destination (context_of unit.now far) to ++ moved_from (context_of unit.now far) from bytes)) }
+    ensures { OnOk result (lines.new ≡ lines.old ++ (marked_destination far to ++ marked_moved far from bytes)) }
 {
-    push_destination(lines, unit, far, to)?;
-    push_moved_from(lines, unit, far, from, bytes)
+    push_destination(lines, far, to)?;
+    push_moved(lines, far, from, bytes)
 }

@@ -1,4 +1,4 @@
-//! The 8086 code of flat statements that hold no others, before any address is known.
+//! The 8086 code of flat statements that hold no others, beside what it refers to.
 #![tactic(auto)]
 
 mod calls;
@@ -8,7 +8,6 @@ mod stores;
 
 pub use copies::push_copy;
 pub use steps::{
-    push_acting, push_byte_of, push_calling, push_calling_through, push_error, push_store_routine,
-    push_word_of,
+    push_acting, push_byte_of, push_calling, push_calling_through, push_store_routine, push_word_of,
 };
 pub use stores::push_given;

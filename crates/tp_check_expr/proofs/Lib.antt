@@ -1,3 +1,4 @@
 mod CallSteps
 mod DepthLaws
+mod ListSteps
 pub mod TypedLaws

@@ -1,4 +1,5 @@
-pub mod Calls
 pub mod Names
+pub mod Owners
+pub mod Calls
 pub mod Typed
 pub mod Laws

@@ -1,29 +1,35 @@
--- Names as expressions.
-use Rattle.std.specs.Prelude.{ℕ, zero, suc, ◌+◌, ◌-◌, ◌==◌, Bool, true, false, cond, count_by, List, [], Option, Some, None}
+-- Variables by their levels, and what a designator stands for.
+use Rattle.std.specs.Prelude.{ℕ, ◌+◌, ◌-◌, ◌==◌, Bool, true, false, cond, count_by, List, [], Option, Some, None}
 use Rattle.type_layout.specs.declared.definitions.TypeId.{TypeId}
 use Rattle.type_layout.specs.declared.definitions.TypeDef.{TypeDef}
+use Rattle.type_layout.specs.declared.definitions.RoutineId.{RoutineId}
+use Rattle.type_layout.specs.declared.definitions.Header.{Header}
+use Rattle.type_layout.specs.declared.definitions.Param.{Param}
+use Rattle.type_layout.specs.declared.texts.Place.{Place}
 use Rattle.pascal_grammar.specs.declared.lexeme.Position.{Position}
 use Rattle.typed_tree.specs.declared.expressions.Value.{Value}
 use Rattle.typed_tree.specs.declared.expressions.Value.TheVariants as value
 use Rattle.typed_tree.specs.declared.expressions.Variable.{Variable}
-use Rattle.typed_tree.specs.Expressions as tree
 use Rattle.typed_tree.specs.Expressions.{Expression, Const, Load, Var}
+use Rattle.well_formed.specs.Fits.{definition}
 use Rattle.scopes.specs.declared.entries.Entry.{Entry}
 use Rattle.scopes.specs.declared.entries.Entry.TheVariants as entry
 use Rattle.scopes.specs.declared.entries.BlockKind.{BlockKind}
 use Rattle.scopes.specs.declared.entries.BlockKind.TheVariants as block
 use Rattle.scopes.specs.declared.searches.OpenBlock.{OpenBlock}
-use Rattle.scopes.specs.Members.{narrow}
-use Rattle.scopes.specs.Environment.{Environment, Meaning, named, member, find, kind_of}
-use Rattle.tp_lexer.specs.declared.token.Feature.{Feature}
-use Rattle.left_out_names.specs.Names.{feature_of}
+use Rattle.scopes.specs.Environment.{Environment}
+use Rattle.typing_rules.specs.declared.faults.Fault.{Fault}
 use Rattle.typing_rules.specs.declared.faults.Rule.TheVariants as rule
-use Rattle.typing_rules.specs.Faults.{broken, not_yet, undeclared}
+use Rattle.typing_rules.specs.Faults.{broken}
 use Rattle.typing_rules.specs.Judgements.{Judgement, makes, refuses, either}
 use Rattle.typing_rules.specs.Wanted.{constant}
-use Rattle.typing_rules.specs.Selectors.{loaded, selected}
+use Rattle.typing_rules.specs.Assignments.{is_procedural}
 use Rattle.call_rules.specs.Given.{called}
 use Rattle.standard_rules.specs.Standard.{is_special, standard}
+use Rattle.procedural_rules.specs.Through.{settled}
+use Rattle.procedural_rules.specs.Values.{routine_value}
+use Rattle.tp_check_expr.specs.declared.names.Purpose.{Purpose}
+use Rattle.tp_check_expr.specs.declared.names.Purpose.TheVariants as purpose
 
 -- ---- variables by levels
 
@@ -51,46 +57,47 @@ level_from depth level = cond (level == 0) 0 (depth - level + 1)
 abbrev pub variable : Environment → ℕ → ℕ → ℕ → Variable
 variable g unit level number = record { unit = unit; level = level_from (routine_depth g.blocks) level; number = number }
 
--- ---- what open `with`s hold
+-- ---- what a designator stands for
 
-abbrev pub deeper_with : Option BlockKind → ℕ → ℕ
-deeper_with (Some (block.With ty)) depth = depth + 1
-deeper_with _ depth = depth
+-- a routine where a procedural type is wanted, else a value; of another type this fault is told
+abbrev pub purpose_for : List TypeDef → TypeId → Fault → Purpose
+purpose_for types ty fault = cond (is_procedural (definition types ty)) (purpose.Routine ty fault) purpose.Value
 
--- how many of the blocks before a number are those of `with`s
-abbrev pub with_depth : Environment → ℕ → ℕ
-with_depth g zero = 0
-with_depth g (suc n) = deeper_with (kind_of g n) (with_depth g n)
+-- an argument by its parameter: a routine by value where that is of a procedural type, or a variable that holds one
+abbrev pub purpose_of : List TypeDef → Place → Option Param → Purpose
+purpose_of types place None = purpose.Value
+purpose_of types place (Some param) =
+    cond param.by_ref (cond (is_procedural (definition types param.ty)) purpose.Variable purpose.Value) (purpose_for types param.ty (broken place rule.Called))
 
--- The place that the `with` of a block holds: of level 1, and numbered behind 2^31 by how many others are open round it.
-abbrev pub held : Environment → ℕ → tree.Place
-held g number = Var (record { unit = 0; level = 1; number = narrow (2147483648 + with_depth g number) })
+-- a variable, or a part of one
+abbrev pub as_wanted : List TypeDef → Place → Purpose → Expression → Judgement Expression
+as_wanted types place purpose.Value x = settled types place x
+as_wanted types place _ x = makes x
 
--- a field of what a `with` holds; members of Self are not built yet
-abbrev pub opened : Environment → Position → ℕ → Option BlockKind → List ℕ → Judgement Expression
-opened g here number (Some (block.With ty)) word = selected g.types.types here.place (Load ty (held g number)) word
-opened g here number _ word = refuses (not_yet here.place)
+-- a routine of the sources: a call of it without arguments, or itself
+abbrev pub routine_wanted : Environment → Position → Purpose → RoutineId → ℕ → Header → Bool → Judgement Expression
+routine_wanted g here (purpose.Routine ty fault) routine level header far = routine_value g here.place fault ty routine level header far
+routine_wanted g here _ routine level header far = called g.types.types here.place here.switches.r routine header []
 
--- ---- names
+-- those that take types are not without arguments
+abbrev pub standard_called : List TypeDef → Place → ℕ → Judgement Expression
+standard_called types place number = either (is_special number) (refuses (broken place rule.Called)) (standard types place number [])
+
+-- a standard routine is no value of a procedural type
+abbrev pub standard_wanted : List TypeDef → Place → Purpose → ℕ → Judgement Expression
+standard_wanted types place (purpose.Routine ty fault) number = refuses (broken place rule.RoutineValue)
+standard_wanted types place _ number = standard_called types place number
+
+-- ---- what is declared under a name
 
 -- a named constant; an integer has the first type that holds it
 abbrev pub named_constant : List TypeDef → TypeId → Value → Expression
 named_constant types ty (value.Number n) = constant types ty n
 named_constant types ty v = Const ty v
 
--- what is declared under a name; a routine is called without arguments
-abbrev pub entered : Environment → Position → Entry → Judgement Expression
-entered g here (entry.Const ty v) = makes (named_constant g.types.types ty v)
-entered g here (entry.Var unit level number ty) = loaded ty (Var (variable g unit level number))
-entered g here (entry.Ty ty) = refuses (broken here.place rule.Stands)
-entered g here (entry.Code routine level header far) = called g.types.types here.place here.switches.r routine header []
-entered g here (entry.Std number) = either (is_special number) (refuses (not_yet here.place)) (standard g.types.types here.place number [])
-
-abbrev pub meant : Environment → Position → List ℕ → Option Feature → Option Meaning → Judgement Expression
-meant g here word feature None = refuses (undeclared here.place feature)
-meant g here word feature (Some (named number one)) = entered g here one
-meant g here word feature (Some (member number one)) = opened g here number (kind_of g number) word
-
--- a name as an expression
-unfoldable pub name_judged : Environment → Position → List ℕ → Judgement Expression
-name_judged g here name = meant g here name (feature_of name) (find g name)
+abbrev pub entered : Environment → Position → Purpose → Entry → Judgement Expression
+entered g here for (entry.Const ty v) = makes (named_constant g.types.types ty v)
+entered g here for (entry.Var unit level number ty) = as_wanted g.types.types here.place for (Load ty (Var (variable g unit level number)))
+entered g here for (entry.Ty ty) = refuses (broken here.place rule.Stands)
+entered g here for (entry.Code routine level header far) = routine_wanted g here for routine level header far
+entered g here for (entry.Std number) = standard_wanted g.types.types here.place for number

@@ -3,11 +3,13 @@
 ghost use Rattle.std.specs.Prelude.{◌≡◌, IfOk, IfErr};
 ghost use Rattle.typed_tree.specs.Expressions.{Expression as TypedExpression, view_expr};
 ghost use Rattle.typing_rules.specs.Faults.{Tells, answer_of, IsAnswered};
+ghost use Rattle.typing_rules.specs.Judgements.{Gives};
 ghost use Rattle.expression_tree.specs.Trees.{view_expression};
-ghost use Rattle.tp_check_expr.specs.Typed.{IsTypedAs, FailsAt};
+ghost use Rattle.tp_check_expr.specs.Typed.{judged, IsTypedAs, FailsAt};
 ghost use Rattle.tp_check_expr.specs.Laws.{AreExact};
 
-use crate::expressions::judged_expression;
+use crate::expressions::expression_as;
+use crate::names::Purpose;
 use scopes::Scope;
 use std::alloc::Global;
 use syntax_tree::Expression;
@@ -22,6 +24,13 @@ fn answered(found: Result<Expr, Refusal>) -> Result<Expr, CheckError>
         Ok(expr) => Ok(expr),
         Err(refusal) => Err(error_for(refusal)),
     }
+}
+
+/// The node of the value of an expression.
+pub fn judged_expression(alloc: Global, tree: &Expression, scope: &Scope) -> Result<Expr, Refusal>
+    ensures { Gives view_expr result (judged scope.now (view_expression tree.now)).run }
+{
+    expression_as(alloc, tree, Purpose::Value, scope)
 }
 
 /// The typed node of an expression. An error names a rule that fails, or what is left out, and the place. The scope stays as

@@ -1,40 +1,54 @@
 //! Expressions, part by part.
 
-ghost use Rattle.std.specs.Prelude.{◌≡◌, map};
+ghost use Rattle.std.specs.Prelude.{◌≡◌, [], map, option_copied};
 ghost use Rattle.typed_tree.specs.Expressions.{view_expr};
 ghost use Rattle.typing_rules.specs.Judgements.{Gives};
-ghost use Rattle.expression_tree.specs.Trees.{set, call, begins, view_expression, view_simple, view_term, view_factor, view_designator, view_argument, view_arguments, view_element, view_elements};
+ghost use Rattle.expression_tree.specs.Trees.{set, begins, view_expression, view_simple, view_term, view_factor, view_designator, view_argument, view_arguments, view_element, view_elements};
 ghost use Rattle.set_rules.specs.Sets.{view_item};
-ghost use Rattle.tp_check_expr.specs.Typed.{judged, items_judged, item_judged, all_judged, operand_judged};
+ghost use Rattle.tp_check_expr.specs.Calls.{view_callable, target_for};
+ghost use Rattle.tp_check_expr.specs.Typed.{first_param, rest_params, judged_as, judged, callable, items_judged, item_judged, all_given, one_given, misplaced, miscalled, special_given, called_for, size_of_one, made_by};
 
-use crate::calls::{callable, called_with};
+use crate::calls::{
+    CallTarget, callable_name, constructor_at, entered_by, member_callable, parameters, special_of,
+    target_called,
+};
 use crate::constants::{control_constant, number_constant, text_constant};
-use crate::names::named;
-use crate::operations::{combined, marked};
+use crate::members::{chosen, method_wanted, named};
+use crate::names::{Purpose, as_wanted, purpose_of};
+use crate::operations::{combined, element, marked};
+use crate::owners::{inherited_from, type_at, type_in};
+use allocation_rules::{blank, newly_made};
 use expression_tree::{begins, of_adder, of_multiplier, of_relator};
 use pascal_grammar::Position;
 use scopes::Scope;
 use set_rules::constructed;
+use standard_rules::{is_size, sized, variable_sized};
 use std::alloc::Global;
 use syntax_tree::{Argument, Designator, Element, Expression, Factor, SimpleExpression, Term};
+use type_layout::{Param, Place, TypeId};
 use typed_tree::{Expr, SetElement};
-use typing_rules::{Refusal, Rule, broken, followed, indexed, negated, nil, selected};
+use typing_rules::{Refusal, Rule, broken, followed, negated, nil};
 
-/// The node of an expression.
+/// The node of an expression that stands for this.
 #[cycle(parts)]
-pub fn judged_expression(alloc: Global, tree: &Expression, scope: &Scope) -> Result<Expr, Refusal>
-    ensures { Gives view_expr result (judged scope.now (view_expression tree.now)).run }
+pub fn expression_as(
+    alloc: Global,
+    tree: &Expression,
+    purpose: Purpose,
+    scope: &Scope,
+) -> Result<Expr, Refusal>
+    ensures { Gives view_expr result (judged_as scope.now purpose (view_expression tree.now)).run }
 {
     match tree {
-        Expression::Simple(one) => judged_simple(alloc, one, scope),
+        Expression::Simple(one) => simple_as(alloc, one, purpose, scope),
         Expression::Relation {
             left,
             relator,
             position,
             right,
         } => {
-            let left = judged_simple(alloc, left, scope)?;
-            let right = judged_simple(alloc, right, scope)?;
+            let left = simple_as(alloc, left, Purpose::Value, scope)?;
+            let right = simple_as(alloc, right, Purpose::Value, scope)?;
             combined(
                 alloc,
                 scope.types(),
@@ -48,13 +62,18 @@ pub fn judged_expression(alloc: Global, tree: &Expression, scope: &Scope) -> Res
 }
 
 #[cycle(parts)]
-fn judged_simple(alloc: Global, tree: &SimpleExpression, scope: &Scope) -> Result<Expr, Refusal>
-    ensures { Gives view_expr result (judged scope.now (view_simple tree.now)).run }
+fn simple_as(
+    alloc: Global,
+    tree: &SimpleExpression,
+    purpose: Purpose,
+    scope: &Scope,
+) -> Result<Expr, Refusal>
+    ensures { Gives view_expr result (judged_as scope.now purpose (view_simple tree.now)).run }
 {
     match tree {
-        SimpleExpression::Term(one) => judged_term(alloc, one, scope),
+        SimpleExpression::Term(one) => term_as(alloc, one, purpose, scope),
         SimpleExpression::Signed(mark, one) => {
-            let operand = judged_term(alloc, one, scope)?;
+            let operand = term_as(alloc, one, Purpose::Value, scope)?;
             marked(alloc, scope.types(), Some(*mark), operand)
         }
         SimpleExpression::Sum {
@@ -64,8 +83,8 @@ fn judged_simple(alloc: Global, tree: &SimpleExpression, scope: &Scope) -> Resul
             sign,
             right,
         } => {
-            let left = judged_simple(alloc, left, scope)?;
-            let right = judged_term(alloc, right, scope)?;
+            let left = simple_as(alloc, left, Purpose::Value, scope)?;
+            let right = term_as(alloc, right, Purpose::Value, scope)?;
             let right = marked(alloc, scope.types(), *sign, right)?;
             combined(
                 alloc,
@@ -80,11 +99,11 @@ fn judged_simple(alloc: Global, tree: &SimpleExpression, scope: &Scope) -> Resul
 }
 
 #[cycle(parts)]
-fn judged_term(alloc: Global, tree: &Term, scope: &Scope) -> Result<Expr, Refusal>
-    ensures { Gives view_expr result (judged scope.now (view_term tree.now)).run }
+fn term_as(alloc: Global, tree: &Term, purpose: Purpose, scope: &Scope) -> Result<Expr, Refusal>
+    ensures { Gives view_expr result (judged_as scope.now purpose (view_term tree.now)).run }
 {
     match tree {
-        Term::Factor(one) => judged_factor(alloc, one, scope),
+        Term::Factor(one) => factor_as(alloc, one, purpose, scope),
         Term::Product {
             left,
             multiplier,
@@ -92,8 +111,8 @@ fn judged_term(alloc: Global, tree: &Term, scope: &Scope) -> Result<Expr, Refusa
             sign,
             right,
         } => {
-            let left = judged_term(alloc, left, scope)?;
-            let right = judged_factor(alloc, right, scope)?;
+            let left = term_as(alloc, left, Purpose::Value, scope)?;
+            let right = factor_as(alloc, right, Purpose::Value, scope)?;
             let right = marked(alloc, scope.types(), *sign, right)?;
             combined(
                 alloc,
@@ -108,8 +127,8 @@ fn judged_term(alloc: Global, tree: &Term, scope: &Scope) -> Result<Expr, Refusa
 }
 
 #[cycle(parts)]
-fn judged_factor(alloc: Global, tree: &Factor, scope: &Scope) -> Result<Expr, Refusal>
-    ensures { Gives view_expr result (judged scope.now (view_factor tree.now)).run }
+fn factor_as(alloc: Global, tree: &Factor, purpose: Purpose, scope: &Scope) -> Result<Expr, Refusal>
+    ensures { Gives view_expr result (judged_as scope.now purpose (view_factor tree.now)).run }
 {
     match tree {
         Factor::Number { value, .. } => Ok(number_constant(*value)),
@@ -120,13 +139,15 @@ fn judged_factor(alloc: Global, tree: &Factor, scope: &Scope) -> Result<Expr, Re
             judged_set(alloc, elements.as_slice(), *position, scope)
         }
         Factor::Negation { position, operand } => {
-            let operand = judged_factor(alloc, operand, scope)?;
+            let operand = factor_as(alloc, operand, Purpose::Value, scope)?;
             negated(alloc, scope.types(), position.place, operand)
         }
-        Factor::Group { inner, .. } => judged_expression(alloc, inner, scope),
-        Factor::Designator(one) => judged_designator(alloc, one, scope),
+        Factor::Group { inner, .. } => expression_as(alloc, inner, purpose, scope),
+        Factor::Designator(one) => designator_as(alloc, one, purpose, scope),
         Factor::Call { callee, arguments } => {
-            judged_call(alloc, arguments.as_slice(), callee, scope)
+            let here = begins(callee);
+            let target = target_for(alloc, callee, here.place, purpose, scope)?;
+            applied(alloc, arguments.as_slice(), target, here, scope)
         }
     }
 }
@@ -145,57 +166,227 @@ fn judged_set(
     constructed(alloc, scope.types(), here.place, here.switches.r, items)
 }
 
-// A name or a designator before arguments.
+// What stands before arguments in a call that stands for this.
 #[cycle(parts)]
-fn judged_call(
+fn target_for<'a>(
     alloc: Global,
-    arguments: &[Argument],
     callee: &Designator,
-    scope: &Scope,
-) -> Result<Expr, Refusal>
-    ensures { Gives view_expr result (judged scope.now (call (begins callee.now) (view_designator callee.now) (view_arguments arguments.now))).run }
+    place: Place,
+    purpose: Purpose,
+    scope: &'a Scope,
+) -> Result<CallTarget<'a>, Refusal>
+    ensures { Gives view_callable result (target_for scope.now purpose (view_designator callee.now) (callable scope.now place (view_designator callee.now))).run }
 {
-    let here = begins(callee);
-    let entry = callable(scope, here.place, callee)?;
-    let operands = operands(alloc, arguments, here, scope)?;
-    called_with(alloc, scope.types(), here, entry, operands)
+    match purpose {
+        Purpose::Constructor { ty, place } => constructor_at(scope, ty, place, callee),
+        _ => callable(alloc, callee, place, scope),
+    }
 }
 
-/// The node of a designator.
+// A call with these arguments, which begins here.
 #[cycle(parts)]
-pub fn judged_designator(alloc: Global, tree: &Designator, scope: &Scope) -> Result<Expr, Refusal>
-    ensures { Gives view_expr result (judged scope.now (view_designator tree.now)).run }
+fn applied(
+    alloc: Global,
+    arguments: &[Argument],
+    target: CallTarget<'_>,
+    here: Position,
+    scope: &Scope,
+) -> Result<Expr, Refusal>
+    ensures { Gives view_expr result (called_for scope.now here (view_callable target.entry) (view_arguments arguments.now)).run }
 {
+    if let Some(number) = special_of(&target) {
+        return special(alloc, arguments, number, here, scope);
+    }
+    let values = operands(alloc, arguments, parameters(&target), here, scope)?;
+    target_called(alloc, scope.types(), here, target, values)
+}
+
+// The call of a standard function that takes a type.
+#[cycle(parts)]
+fn special(
+    alloc: Global,
+    arguments: &[Argument],
+    number: u32,
+    here: Position,
+    scope: &Scope,
+) -> Result<Expr, Refusal>
+    ensures { Gives view_expr result (special_given scope.now here number (all_given scope.now here [] (view_arguments arguments.now)) (view_arguments arguments.now)).run }
+{
+    match arguments {
+        [] => miscalled(alloc, arguments, here, scope),
+        [Argument::Wide(..), ..] => miscalled(alloc, arguments, here, scope),
+        [Argument::Plain(one), rest @ ..] => match rest {
+            [] => {
+                if is_size(number) {
+                    return size_asked(alloc, one, here.place, scope);
+                }
+                match type_at(scope, one) {
+                    Some(named) => blank(alloc, scope.types(), here.place, named.ty),
+                    None => misplaced(alloc, one, here.place, scope),
+                }
+            }
+            [Argument::Wide(..), ..] => miscalled(alloc, arguments, here, scope),
+            [Argument::Plain(two), more @ ..] => match more {
+                [] => {
+                    if is_size(number) {
+                        return miscalled(alloc, arguments, here, scope);
+                    }
+                    match type_at(scope, one) {
+                        Some(named) => made_by(alloc, two, named.ty, here.place, scope),
+                        None => misplaced(alloc, one, here.place, scope),
+                    }
+                }
+                [_more, ..] => miscalled(alloc, arguments, here, scope),
+            },
+        },
+    }
+}
+
+// Other arguments than those that are asked for.
+#[cycle(parts)]
+fn miscalled(
+    alloc: Global,
+    arguments: &[Argument],
+    here: Position,
+    scope: &Scope,
+) -> Result<Expr, Refusal>
+    ensures { Gives view_expr result (miscalled here.place (all_given scope.now here [] (view_arguments arguments.now))).run }
+{
+    let _values = operands(alloc, arguments, &[], here, scope)?;
+    Err(Refusal::Because(broken(here.place, Rule::Called)))
+}
+
+// What stands where a type is due.
+#[cycle(parts)]
+fn misplaced(alloc: Global, tree: &Expression, place: Place, scope: &Scope) -> Result<Expr, Refusal>
+    ensures { Gives view_expr result (misplaced place (judged scope.now (view_expression tree.now))).run }
+{
+    let _value = expression_as(alloc, tree, Purpose::Value, scope)?;
+    Err(Refusal::Because(broken(place, Rule::Stands)))
+}
+
+// SizeOf of a type or a variable.
+#[cycle(parts)]
+fn size_asked(
+    alloc: Global,
+    tree: &Expression,
+    place: Place,
+    scope: &Scope,
+) -> Result<Expr, Refusal>
+    ensures { Gives view_expr result (size_of_one scope.now place (view_expression tree.now)).run }
+{
+    match type_at(scope, tree) {
+        Some(named) => Ok(sized(scope.types(), named.ty)),
+        None => {
+            let one = expression_as(alloc, tree, Purpose::Variable, scope)?;
+            variable_sized(alloc, scope.types(), place, one)
+        }
+    }
+}
+
+/// The node of a New at a place of a pointer type, with the constructor that an expression calls.
+#[cycle(parts)]
+pub fn made_by(
+    alloc: Global,
+    tree: &Expression,
+    ty: TypeId,
+    place: Place,
+    scope: &Scope,
+) -> Result<Expr, Refusal>
+    ensures { Gives view_expr result (made_by scope.now place ty (view_expression tree.now)).run }
+{
+    let one = expression_as(alloc, tree, Purpose::Constructor { ty, place }, scope)?;
+    newly_made(place, one)
+}
+
+/// The node of a designator that stands for this.
+#[cycle(parts)]
+pub fn designator_as(
+    alloc: Global,
+    tree: &Designator,
+    purpose: Purpose,
+    scope: &Scope,
+) -> Result<Expr, Refusal>
+    ensures { Gives view_expr result (judged_as scope.now purpose (view_designator tree.now)).run }
+{
+    let types = scope.types();
     match tree {
-        Designator::Name(one) => named(alloc, scope, one.position, &one.name),
+        Designator::Name(one) => named(alloc, scope, one.position, purpose, &one.name),
         Designator::Field {
             owner,
             position,
             field,
-        } => {
-            let owner = judged_designator(alloc, owner, scope)?;
-            selected(alloc, scope.types(), position.place, owner, &field.name)
-        }
+        } => match type_in(scope, owner) {
+            Some(one) => {
+                let one = inherited_from(scope, position.place, one, &field.name)?;
+                method_wanted(alloc, types, *position, purpose, one)
+            }
+            None => {
+                let owner = designator_as(alloc, owner, Purpose::Value, scope)?;
+                chosen(alloc, scope, *position, purpose, owner, &field.name)
+            }
+        },
         Designator::Index {
             owner,
             position,
             index,
             ..
         } => {
-            let owner = judged_designator(alloc, owner, scope)?;
-            let index = judged_expression(alloc, index, scope)?;
-            indexed(
-                alloc,
-                scope.types(),
-                position.place,
-                position.switches.r,
-                owner,
-                index,
-            )
+            let owner = designator_as(alloc, owner, Purpose::Value, scope)?;
+            let index = expression_as(alloc, index, Purpose::Value, scope)?;
+            let one = element(alloc, types, *position, owner, index)?;
+            as_wanted(alloc, types, position.place, purpose, one)
         }
         Designator::Dereference { owner, position } => {
-            let owner = judged_designator(alloc, owner, scope)?;
-            followed(alloc, scope.types(), position.place, owner)
+            let owner = designator_as(alloc, owner, Purpose::Value, scope)?;
+            let one = followed(alloc, types, position.place, owner)?;
+            as_wanted(alloc, types, position.place, purpose, one)
+        }
+    }
+}
+
+/// What stands before arguments, in a call that begins at a place.
+#[cycle(parts)]
+pub fn callable<'a>(
+    alloc: Global,
+    callee: &Designator,
+    place: Place,
+    scope: &'a Scope,
+) -> Result<CallTarget<'a>, Refusal>
+    ensures { Gives view_callable result (callable scope.now place (view_designator callee.now)).run }
+{
+    let types = scope.types();
+    match callee {
+        Designator::Name(one) => callable_name(alloc, scope, one.position.place, &one.name),
+        Designator::Field {
+            owner,
+            position,
+            field,
+        } => match type_in(scope, owner) {
+            Some(one) => {
+                let one = inherited_from(scope, position.place, one, &field.name)?;
+                Ok(CallTarget::Method(one))
+            }
+            None => {
+                let owner = designator_as(alloc, owner, Purpose::Value, scope)?;
+                member_callable(alloc, scope, place, position.place, owner, &field.name)
+            }
+        },
+        Designator::Index {
+            owner,
+            position,
+            index,
+            ..
+        } => {
+            let owner = designator_as(alloc, owner, Purpose::Value, scope)?;
+            let index = expression_as(alloc, index, Purpose::Value, scope)?;
+            let one = element(alloc, types, *position, owner, index)?;
+            entered_by(types, place, one)
+        }
+        Designator::Dereference { owner, position } => {
+            let owner = designator_as(alloc, owner, Purpose::Value, scope)?;
+            let one = followed(alloc, types, position.place, owner)?;
+            entered_by(types, place, one)
         }
     }
 }
@@ -218,29 +409,53 @@ fn item(alloc: Global, element: &Element, scope: &Scope) -> Result<SetElement, R
     ensures { Gives view_item result (item_judged scope.now (view_element element.now)).run }
 {
     match element {
-        Element::Single(one) => Ok(SetElement::One(judged_expression(alloc, one, scope)?)),
+        Element::Single(one) => {
+            let one = expression_as(alloc, one, Purpose::Value, scope)?;
+            Ok(SetElement::One(one))
+        }
         Element::Range(low, high) => {
-            let low = judged_expression(alloc, low, scope)?;
-            let high = judged_expression(alloc, high, scope)?;
+            let low = expression_as(alloc, low, Purpose::Value, scope)?;
+            let high = expression_as(alloc, high, Purpose::Value, scope)?;
             Ok(SetElement::Span(low, high))
         }
     }
 }
 
-/// The arguments of a call that begins here.
+fn first_param(params: &[Param]) -> Option<&Param>
+    ensures { option_copied result ≡ first_param params.now }
+{
+    match params {
+        [] => None,
+        [one, ..] => Some(one),
+    }
+}
+
+fn rest_params(params: &[Param]) -> &[Param]
+    ensures { result.now ≡ rest_params params.now }
+{
+    match params {
+        [] => params,
+        [_, rest @ ..] => rest,
+    }
+}
+
+/// The arguments of a call that begins here, by its parameters as far as there are any.
 #[cycle(parts)]
 pub fn operands(
     alloc: Global,
     arguments: &[Argument],
+    params: &[Param],
     here: Position,
     scope: &Scope,
 ) -> Result<Vec<Expr>, Refusal>
-    ensures { Gives (λ all. map view_expr all.items) result (all_judged scope.now here (view_arguments arguments.now)).run }
+    ensures { Gives (λ all. map view_expr all.items) result (all_given scope.now here params.now (view_arguments arguments.now)).run }
 {
     let mut operands = Vec::new(alloc);
+    let mut left = params;
     for argument in arguments {
-        let value = operand(alloc, argument, here, scope)?;
+        let value = operand(alloc, argument, first_param(left), here, scope)?;
         operands.push(value)?;
+        left = rest_params(left);
     }
     Ok(operands)
 }
@@ -249,13 +464,21 @@ pub fn operands(
 fn operand(
     alloc: Global,
     argument: &Argument,
+    param: Option<&Param>,
     here: Position,
     scope: &Scope,
 ) -> Result<Expr, Refusal>
-    ensures { Gives view_expr result (operand_judged scope.now here (view_argument argument.now)).run }
+    ensures { Gives view_expr result (one_given scope.now here (option_copied param.entry) (view_argument argument.now)).run }
 {
     match argument {
-        Argument::Plain(one) => judged_expression(alloc, one, scope),
-        Argument::Wide(..) => Err(Refusal::Because(broken(here.place, Rule::Called))),
+        Argument::Plain(one) => {
+            let purpose = purpose_of(scope.types(), here.place, param);
+            expression_as(alloc, one, purpose, scope)
+        }
+        Argument::Wide(one, width) => {
+            let _value = expression_as(alloc, one, Purpose::Value, scope)?;
+            let _width = expression_as(alloc, width, Purpose::Value, scope)?;
+            Err(Refusal::Because(broken(here.place, Rule::Called)))
+        }
     }
 }

@@ -5,10 +5,12 @@ mod calls;
 mod check;
 mod constants;
 mod expressions;
+mod members;
 mod names;
 mod operations;
+mod owners;
 
-pub use calls::callable;
-pub use check::{check_expr, expression_laws};
-pub use expressions::{judged_designator, judged_expression, operands};
-pub use names::{named, variable};
+pub use calls::{CallTarget, params_of};
+pub use check::{check_expr, expression_laws, judged_expression};
+pub use expressions::{callable, designator_as, expression_as, made_by, operands};
+pub use names::{Purpose, purpose_for, variable};

@@ -1,20 +1,30 @@
-//! Names as expressions.
+//! Variables by their levels, and what a designator stands for.
 
-ghost use Rattle.std.specs.Prelude.{◌≡◌, ◌+◌, ◌<◌, ◌≤◌, Ok, option_copied};
-ghost use Rattle.typed_tree.specs.Expressions.{view_expr, view_place};
-ghost use Rattle.scopes.specs.Environment.{kind_of};
+ghost use Rattle.std.specs.Prelude.{◌≡◌, ◌+◌, ◌<◌, ◌≤◌, Ok, [], option_copied};
+ghost use Rattle.typed_tree.specs.Expressions.{view_expr};
 ghost use Rattle.typing_rules.specs.Judgements.{Gives};
-ghost use Rattle.tp_check_expr.specs.Names.{is_of_routine, deeper, routine_depth, level_from, variable, deeper_with, with_depth, held, opened, named_constant, entered, name_judged};
+ghost use Rattle.tp_check_expr.specs.Names.{is_of_routine, deeper, routine_depth, level_from, variable, purpose_for, purpose_of, as_wanted, routine_wanted, standard_called, standard_wanted, named_constant, entered};
 
 use call_rules::called;
-use left_out_names::feature_of;
 use pascal_grammar::Position;
-use scopes::{BlockKind, Entry, Found, Scope};
+use procedural_rules::{routine_value, settled};
+use scopes::{BlockKind, Entry, Scope};
 use standard_rules::{is_special, standard};
 use std::alloc::Global;
-use type_layout::{Name, TypeId, Types};
+use type_layout::{Header, Param, Place, RoutineId, TypeId, Types};
 use typed_tree::{Expr, PlaceExpr, Value, Variable};
-use typing_rules::{Refusal, Rule, broken, constant, loaded, not_yet, selected, undeclared};
+use typing_rules::{Fault, Refusal, Rule, broken, constant, definition, is_procedural, loaded};
+
+/// What a designator stands for: the value that it has in an expression; the variable itself; a value of a procedural type, where
+/// a routine of another type is told as this fault; or a constructor of what a pointer type points to, behind the type in a New at
+/// a place.
+#[derive(Clone, Copy, Debug, PartialEq, Eq)]
+pub enum Purpose {
+    Value,
+    Variable,
+    Routine { ty: TypeId, fault: Fault },
+    Constructor { ty: TypeId, place: Place },
+}
 
 fn is_of_routine(kind: &BlockKind) -> bool
     ensures { result ≡ is_of_routine kind.now }
@@ -69,59 +79,99 @@ pub fn variable(scope: &Scope, unit: u32, level: u32, number: u32) -> Variable
     }
 }
 
-// The number of `with`s with one block more.
-fn deeper_with(kind: Option<&BlockKind>, depth: u32) -> u32
-    requires { depth < 4294967295 }
-    ensures value { result ≡ deeper_with (option_copied kind.entry) depth }
-    ensures bound { result ≤ depth + 1 }
+/// What stands where a value of a type is due: a routine, if it is a procedural type. One of another type is told as this fault.
+pub fn purpose_for(types: &Types, ty: TypeId, fault: Fault) -> Purpose
+    ensures { result ≡ purpose_for types.now.types ty fault }
 {
-    match kind {
-        Some(BlockKind::With { .. }) => depth + 1,
-        _ => depth,
+    if is_procedural(definition(types, ty)) {
+        Purpose::Routine { ty, fault }
+    } else {
+        Purpose::Value
     }
 }
 
-// How many of the blocks before this one are those of `with`s.
-fn with_depth(scope: &Scope, block: u32) -> u32
-    ensures { result ≡ with_depth scope.now block }
+/// What an argument of a call at a place stands for, by its parameter.
+pub(crate) fn purpose_of(types: &Types, place: Place, param: Option<&Param>) -> Purpose
+    ensures { result ≡ purpose_of types.now.types place (option_copied param.entry) }
 {
-    let mut depth = 0;
-    for number in 0..block {
-        depth = deeper_with(scope.block(number), depth);
+    match param {
+        None => Purpose::Value,
+        Some(param) if !param.by_ref => {
+            purpose_for(types, param.ty, broken(place, Rule::Called))
+        }
+        Some(param) if is_procedural(definition(types, param.ty)) => Purpose::Variable,
+        Some(_) => Purpose::Value,
     }
-    depth
 }
 
-// The place that the `with` of a block holds.
-fn held(scope: &Scope, block: u32) -> PlaceExpr
-    ensures { view_place result ≡ held scope.now block }
+/// The node of a variable, or of a part of one.
+pub(crate) fn as_wanted(
+    alloc: Global,
+    types: &Types,
+    place: Place,
+    purpose: Purpose,
+    variable: Expr,
+) -> Result<Expr, Refusal>
+    ensures { Gives view_expr result (as_wanted types.now.types place purpose (view_expr variable)).run }
 {
-    PlaceExpr::Var(Variable {
-        unit: 0,
-        level: 1,
-        number: 2_147_483_648u32.saturating_add(with_depth(scope, block)),
-    })
+    match purpose {
+        Purpose::Value => settled(alloc, types, place, variable),
+        _ => Ok(variable),
+    }
 }
 
-// A field of what the `with` of a block holds.
-fn opened(
+// A routine of the sources: a call of it without arguments, or itself.
+fn routine_wanted(
     alloc: Global,
     scope: &Scope,
     here: Position,
-    block: u32,
-    name: &Name,
+    purpose: Purpose,
+    routine: RoutineId,
+    level: u32,
+    header: &Header,
+    far: bool,
 ) -> Result<Expr, Refusal>
-    ensures { Gives view_expr result (opened scope.now here block (kind_of scope.now block) name.now).run }
+    ensures { Gives view_expr result (routine_wanted scope.now here purpose routine level header.now far).run }
 {
-    match scope.block(block) {
-        Some(BlockKind::With { ty }) => {
-            let owner = Expr::Load {
-                ty: *ty,
-                place: Box::new(alloc, held(scope, block))?,
-            };
-            selected(alloc, scope.types(), here.place, owner, name)
-        }
-        _ => Err(Refusal::Because(not_yet(here.place))),
+    match purpose {
+        Purpose::Routine { ty, fault } => routine_value(
+            scope, here.place, fault, ty, routine, level, header, far,
+        ),
+        _ => called(
+            alloc,
+            scope.types(),
+            here.place,
+            here.switches.r,
+            routine,
+            header,
+            Vec::new(alloc),
+        ),
+    }
+}
+
+fn standard_called(alloc: Global, types: &Types, place: Place, number: u32) -> Result<Expr, Refusal>
+    ensures { Gives view_expr result (standard_called types.now.types place number).run }
+{
+    if is_special(number) {
+        Err(Refusal::Because(broken(place, Rule::Called)))
+    } else {
+        standard(alloc, types, place, number, Vec::new(alloc))
+    }
+}
+
+// A standard routine without arguments.
+fn standard_wanted(
+    alloc: Global,
+    types: &Types,
+    place: Place,
+    purpose: Purpose,
+    number: u32,
+) -> Result<Expr, Refusal>
+    ensures { Gives view_expr result (standard_wanted types.now.types place purpose number).run }
+{
+    match purpose {
+        Purpose::Routine { .. } => Err(Refusal::Because(broken(place, Rule::RoutineValue))),
+        _ => standard_called(alloc, types, place, number),
     }
 }
 
@@ -145,9 +195,15 @@ fn named_constant(alloc: Global, types: &Types, ty: TypeId, value: &Value) -> Re
     }
 }
 
-// What is declared under a name.
-fn entered(alloc: Global, scope: &Scope, here: Position, entry: &Entry) -> Result<Expr, Refusal>
-    ensures { Gives view_expr result (entered scope.now here entry.now).run }
+/// What is declared under a name.
+pub(crate) fn entered(
+    alloc: Global,
+    scope: &Scope,
+    here: Position,
+    purpose: Purpose,
+    entry: &Entry,
+) -> Result<Expr, Refusal>
+    ensures { Gives view_expr result (entered scope.now here purpose entry.now).run }
 {
     let place = here.place;
     match entry {
@@ -159,35 +215,16 @@ fn entered(alloc: Global, scope: &Scope, here: Position, entry: &Entry) -> Resul
             ty,
         } => {
             let at = PlaceExpr::Var(variable(scope, *unit, *level, *number));
-            loaded(alloc, *ty, at)
+            let one = loaded(alloc, *ty, at)?;
+            as_wanted(alloc, scope.types(), place, purpose, one)
         }
         Entry::Ty { .. } => Err(Refusal::Because(broken(place, Rule::Stands))),
         Entry::Code {
             routine,
+            level,
             header,
-            ..
-        } => called(
-            alloc,
-            scope.types(),
-            place,
-            here.switches.r,
-            *routine,
-            header,
-            Vec::new(alloc),
-        ),
-        Entry::Std { number } if is_special(*number) => Err(Refusal::Because(not_yet(place))),
-        Entry::Std { number } => standard(alloc, scope.types(), place, *number, Vec::new(alloc)),
-    }
-}
-
-/// The node of a name that stands here.
-#[tactic(auto, unfolding(crate::specs::Names::name_judged))]
-pub fn named(alloc: Global, scope: &Scope, here: Position, name: &Name) -> Result<Expr, Refusal>
-    ensures { Gives view_expr result (name_judged scope.now here name.now).run }
-{
-    match scope.find(name) {
-        None => Err(Refusal::Because(undeclared(here.place, feature_of(name)))),
-        Some(Found::Named { entry, .. }) => entered(alloc, scope, here, entry),
-        Some(Found::Member { block, .. }) => opened(alloc, scope, here, block, name),
+            far,
+        } => routine_wanted(alloc, scope, here, purpose, *routine, *level, header, *far),
+        Entry::Std { number } => standard_wanted(alloc, scope.types(), place, purpose, *number),
     }
 }

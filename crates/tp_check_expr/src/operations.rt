@@ -4,6 +4,7 @@ ghost use Rattle.std.specs.Prelude.{◌≡◌, not};
 ghost use Rattle.typed_tree.specs.Expressions.{view_expr};
 ghost use Rattle.typing_rules.specs.Judgements.{Gives};
 ghost use Rattle.typing_rules.specs.Operators.{combined};
+ghost use Rattle.typing_rules.specs.Selectors.{indexed};
 ghost use Rattle.tp_check_expr.specs.Typed.{marked};
 
 use expression_tree::of_sign;
@@ -12,7 +13,7 @@ use std::alloc::Global;
 use syntax_tree::PlacedSign;
 use type_layout::{Place, Types};
 use typed_tree::{BinaryOp, Expr};
-use typing_rules::{Refusal, signed};
+use typing_rules::{Refusal, indexed, signed};
 
 /// An operand behind a sign, if one stands before it.
 pub(crate) fn marked(
@@ -33,6 +34,19 @@ pub(crate) fn marked(
             operand,
         ),
     }
+}
+
+/// An element at an index, behind a bracket that stands here.
+pub(crate) fn element(
+    alloc: Global,
+    types: &Types,
+    here: Position,
+    owner: Expr,
+    index: Expr,
+) -> Result<Expr, Refusal>
+    ensures { Gives view_expr result (indexed types.now.types here.place here.switches.r (view_expr owner) (view_expr index)).run }
+{
+    indexed(alloc, types, here.place, here.switches.r, owner, index)
 }
 
 /// Two operands of an operator, where these switches hold.

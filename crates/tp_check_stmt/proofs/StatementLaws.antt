@@ -6,6 +6,7 @@ use Rattle.std.proofs.lemmas.Bool.Decides.{Decides-and, Decides-or, Decides-eqb,
 use Rattle.type_layout.specs.declared.definitions.TypeId.{TypeId}
 use Rattle.type_layout.specs.declared.definitions.RoutineId.{RoutineId}
 use Rattle.type_layout.specs.declared.definitions.Header.{Header}
+use Rattle.type_layout.specs.declared.definitions.Method.{Method}
 use Rattle.type_layout.specs.declared.definitions.TypeDef.{TypeDef}
 use Rattle.type_layout.specs.declared.definitions.TypeDef.TheVariants as type
 use Rattle.type_layout.specs.declared.texts.Place.{Place}
@@ -18,11 +19,14 @@ use Rattle.statement_tree.specs.Places.{place_of}
 use Rattle.typed_tree.specs.declared.expressions.Variable.{Variable}
 use Rattle.typed_tree.specs.declared.statements.LabelRange.{LabelRange}
 use Rattle.typed_tree.specs.Expressions as tree
-use Rattle.typed_tree.specs.Expressions.{Expression}
+use Rattle.typed_tree.specs.Expressions.{Expression, type_of}
 use Rattle.typed_tree.specs.Statements.{Statement, Written, Run, Assign, Halt, Case, With}
 use Rattle.scopes.specs.declared.entries.Entry.{Entry}
 use Rattle.scopes.specs.declared.entries.Entry.TheVariants as entry
-use Rattle.scopes.specs.Environment.{Environment, Meaning, named, member, find}
+use Rattle.scopes.specs.declared.entries.BlockKind.{BlockKind}
+use Rattle.scopes.specs.declared.entries.BlockKind.TheVariants as block
+use Rattle.scopes.specs.declared.members.Member.{Member}
+use Rattle.scopes.specs.Environment.{Environment, Meaning, named, member, find, kind_of}
 use Rattle.well_formed.specs.Fits.{definition}
 use Rattle.constant_expressions.specs.Constants as constants
 use Rattle.constant_expressions.specs.Values.{number_of}
@@ -32,20 +36,31 @@ use Rattle.typing_rules.specs.declared.faults.Rule.{Rule}
 use Rattle.typing_rules.specs.declared.faults.Rule.TheVariants as rules
 use Rattle.typing_rules.specs.declared.sorts.Sort.{Sort}
 use Rattle.typing_rules.specs.declared.sorts.Sort.TheVariants as sort
-use Rattle.typing_rules.specs.Faults.{broken, not_yet}
+use Rattle.typing_rules.specs.Faults.{broken}
 use Rattle.typing_rules.specs.Judgements.{Judgement, makes, refuses, rule, part, parts}
 use Rattle.typing_rules.specs.Sorts.{sort_of_type, sort_of}
 use Rattle.typing_rules.specs.Plans.{IsBoolean, is_boolean, IsInteger, is_integer, AreOfOneHost, are_of_one_host}
-use Rattle.typing_rules.specs.Assignments.{assigned}
+use Rattle.typing_rules.specs.Wanted.{stored_of}
+use Rattle.typing_rules.specs.Assignments.{IsAssignable, is_assignable, assigned_by, assigned}
 use Rattle.typing_rules.specs.Laws.{Lawful}
 use Rattle.typing_rules.proofs.JudgementLaws.{lawful_makes, lawful_refuses, lawful_rule, lawful_either, lawful_part, lawful_parts}
 use Rattle.typing_rules.proofs.PlanLaws.{yes, no, tells_integer, tells_one_host}
-use Rattle.typing_rules.proofs.AssignmentLaws.{lawful_assigned}
+use Rattle.typing_rules.proofs.AssignmentLaws.{tells_assignable, lawful_assigned}
 use Rattle.call_rules.specs.Casts.{IsOrdinal, is_ordinal}
 use Rattle.call_rules.specs.Given.{performed}
 use Rattle.call_rules.proofs.CallLaws.{tells_ordinal, lawful_performed}
-use Rattle.tp_check_expr.specs.Names.{variable}
-use Rattle.tp_check_expr.specs.Typed.{judged}
+use Rattle.method_rules.specs.Methods.{method_in, routine_in}
+use Rattle.method_rules.specs.Calls.{performed_on}
+use Rattle.method_rules.proofs.MethodLaws as methods
+use Rattle.procedural_rules.specs.Through.{performed_through}
+use Rattle.procedural_rules.proofs.ProceduralLaws.{lawful_performed_through}
+use Rattle.allocation_rules.specs.Allocations.{destructor_of, unmade}
+use Rattle.allocation_rules.proofs.AllocationLaws.{lawful_destructor, lawful_unmade}
+use Rattle.tp_check_expr.specs.declared.names.Purpose.{Purpose}
+use Rattle.tp_check_expr.specs.declared.names.Purpose.TheVariants as purpose
+use Rattle.tp_check_expr.specs.Names.{variable, purpose_for}
+use Rattle.tp_check_expr.specs.Calls.{Callable, declared, method, through, maker, params_of_entry}
+use Rattle.tp_check_expr.specs.Typed.{judged_as, judged, callable, all_given, made_by}
 use Rattle.tp_check_expr.proofs.TypedLaws as expression
 use Rattle.tp_check_stmt.specs.declared.loops.Counter.{Counter}
 use Rattle.tp_check_stmt.specs.declared.standard.StandardStatement.{StandardStatement}
@@ -53,16 +68,16 @@ use Rattle.tp_check_stmt.specs.declared.standard.StandardStatement.TheVariants a
 use Rattle.tp_check_stmt.specs.Lists.{each}
 use Rattle.tp_check_stmt.specs.Places.{Spot, spot_of, present}
 use Rattle.tp_check_stmt.specs.Asked.{such, condition, selector, IsWritable, is_writable, written_value, width, IsReadable, is_readable}
-use Rattle.tp_check_stmt.specs.Assignments.{held_target, is_inside, result_spot, result_target, meant_target, target, is_structured, copied, stored, assigned_to}
+use Rattle.tp_check_stmt.specs.Assignments.{held_target, is_inside, result_spot, result_target, method_result, is_numbered, method_target, member_target, meant_target, target, is_structured, copied, stored, assigned_to}
 use Rattle.procedure_rules.specs.Procedures.{standard_performed, told}
 use Rattle.procedure_rules.proofs.ProcedureLaws as procedure
 use Rattle.procedure_rules.proofs.ProcedureLaws.{lawful_told}
-use Rattle.tp_check_stmt.specs.Arguments.{argument, arguments, sized}
-use Rattle.tp_check_stmt.specs.Standard.{item, written, taken_from, taken_one, taken, halted, left, told_of, misgiven, told_two, are_two, telling, proceeding, managing, standard_of, standard_run}
-use Rattle.tp_check_stmt.specs.Calls.{is_procedural, performed_entry, run_entry, run_meant, run_name, run_of}
+use Rattle.tp_check_stmt.specs.Arguments.{sized, NamedCall, named_call}
+use Rattle.tp_check_stmt.specs.Standard.{item, written, taken_from, taken_one, taken, values, halted, left, told_of, misgiven, told_two, are_two, telling, proceeding, made_to, creating, ended_with, ended_by, ending, is_creating, Pair, plain_pair, managed, managing, standard_of, standard_run}
+use Rattle.tp_check_stmt.specs.Calls.{run_node, performed_entry, run_entry, run_target, run_of}
 use Rattle.tp_check_stmt.specs.Labels.{from, label_value, label_range, AreApart, are_apart, IsNew, is_new, label_place, new_label, labelled}
-use Rattle.tp_check_stmt.specs.Loops.{IsNear, is_near, HasOrder, has_order, counter_of, counter_entry, counter_meant, counter, bound, Counted, counted_from, counted}
-use Rattle.tp_check_stmt.specs.Typed.{Armed, arms_of, block_of, three, blocked, HasMembers, has_members, opened_spot, held, within, stated, chosen, inside, listed, branched}
+use Rattle.tp_check_stmt.specs.Loops.{IsNear, is_near, HasOrder, has_order, counter_of, counter_entry, counter_meant, counter, whole, bound_by, bound, Counted, counted_from, counted}
+use Rattle.tp_check_stmt.specs.Typed.{Armed, arms_of, block_of, three, blocked, HasMembers, has_members, opened_spot, held, within, stated, chosen, inside, assigning, listed, branched}
 
 -- ---- tests
 
@@ -146,7 +161,7 @@ module _ (g : Environment) where
 
   lawful_held_target : (one : Tree) → Lawful (held_target g one)
   lawful_held_target one =
-      lawful_part (judged g one) (λ e. present (broken (place_of one) rules.Target) (spot_of e)) (expression.lawful g one)
+      lawful_part (judged_as g purpose.Variable one) (λ e. present (broken (place_of one) rules.Target) (spot_of e)) (expression.lawful_judged g purpose.Variable one)
       (λ e. lawful_present (broken (place_of one) rules.Target) (spot_of e))
 
   lawful_result : (place : Place) (routine : RoutineId) (level : ℕ) (header : Header) (result : Option TypeId) → Lawful (result_target g place routine level header result)
@@ -154,17 +169,35 @@ module _ (g : Environment) where
   lawful_result place routine level header (Some ty) =
       lawful_either (is_inside g routine) (makes (result_spot g level header ty)) (refuses (broken place rules.Target)) (lawful_makes _) (lawful_refuses _)
 
-  lawful_meant : (place : Place) (one : Tree) (meaning : Option Meaning) → Lawful (meant_target g place one meaning)
-  lawful_meant place one None = lawful_held_target one
-  lawful_meant place one (Some (member n m)) = lawful_held_target one
-  lawful_meant place one (Some (named n (entry.Const ty v))) = lawful_held_target one
-  lawful_meant place one (Some (named n (entry.Ty ty))) = lawful_held_target one
-  lawful_meant place one (Some (named b (entry.Var unit level n ty))) = lawful_held_target one
-  lawful_meant place one (Some (named n (entry.Code routine level header far))) = lawful_result place routine level header header.result
-  lawful_meant place one (Some (named b (entry.Std n))) = lawful_refuses _
+  lawful_method_result : (place : Place) (header : Header) (result : Option TypeId) → Lawful (method_result g place header result)
+  lawful_method_result place header None = lawful_refuses _
+  lawful_method_result place header (Some ty) = lawful_makes _
+
+  lawful_method_target : (place : Place) (kind : Option BlockKind) (one : Option Method) → Lawful (method_target g place kind one)
+  lawful_method_target place None one = lawful_refuses _
+  lawful_method_target place (Some block.Part) one = lawful_refuses _
+  lawful_method_target place (Some (block.With ty)) one = lawful_refuses _
+  lawful_method_target place (Some (block.Routine n owner)) None = lawful_refuses _
+  lawful_method_target place (Some (block.Routine n owner)) (Some one) =
+      lawful_either (is_numbered n (routine_in g one.routine)) (method_result g place one.header one.header.result) (refuses (broken place rules.Target))
+      (lawful_method_result place one.header one.header.result) (lawful_refuses _)
+
+  lawful_member_target : (place : Place) (one : Tree) (n : ℕ) (m : Member) (word : List ℕ) → Lawful (member_target g place one n m word)
+  lawful_member_target place one n m word =
+      lawful_either m.method (method_target g place (kind_of g n) (method_in g.types.types m.class word)) (held_target g one)
+      (lawful_method_target place (kind_of g n) (method_in g.types.types m.class word)) (lawful_held_target one)
+
+  lawful_meant : (place : Place) (one : Tree) (word : List ℕ) (meaning : Option Meaning) → Lawful (meant_target g place one word meaning)
+  lawful_meant place one word None = lawful_held_target one
+  lawful_meant place one word (Some (member n m)) = lawful_member_target place one n m word
+  lawful_meant place one word (Some (named n (entry.Const ty v))) = lawful_held_target one
+  lawful_meant place one word (Some (named n (entry.Ty ty))) = lawful_refuses _
+  lawful_meant place one word (Some (named b (entry.Var unit level n ty))) = lawful_held_target one
+  lawful_meant place one word (Some (named n (entry.Code routine level header far))) = lawful_result place routine level header header.result
+  lawful_meant place one word (Some (named b (entry.Std n))) = lawful_refuses _
 
   lawful_target : (one : Tree) → Lawful (target g one)
-  lawful_target (name here word) = lawful_meant here.place (name here word) (find g word)
+  lawful_target (name here word) = lawful_meant here.place (name here word) word (find g word)
   lawful_target (number place n) = lawful_held_target (number place n)
   lawful_target (text place bytes) = lawful_held_target (text place bytes)
   lawful_target (control place letter) = lawful_held_target (control place letter)
@@ -209,22 +242,20 @@ module _ (types : List TypeDef) where
   lawful_left place [] = lawful_makes _
   lawful_left place (e ∷ es) = lawful_refuses _
 
+  lawful_run_node : (j : Judgement Expression) → Lawful j → Lawful (run_node j)
+  lawful_run_node j m = lawful_part j _ m (λ e. lawful_makes _)
+
   lawful_entry : (here : Position) (one : Entry) (es : List Expression) → Lawful (performed_entry types here one es)
   lawful_entry here (entry.Const ty v) es = lawful_refuses _
   lawful_entry here (entry.Ty ty) es = lawful_refuses _
-  lawful_entry here (entry.Var unit level n ty) es =
-      lawful_either (is_procedural (definition types ty)) (refuses (not_yet here.place)) (refuses (broken here.place rules.Stands)) (lawful_refuses _) (lawful_refuses _)
+  lawful_entry here (entry.Var unit level n ty) es = lawful_refuses _
   lawful_entry here (entry.Code routine level header far) es =
-      lawful_part (performed types here.place here.switches.r routine header es) _ (lawful_performed types here.place here.switches.r routine header es) (λ e. lawful_makes _)
+      lawful_run_node (performed types here.place here.switches.r routine header es) (lawful_performed types here.place here.switches.r routine header es)
   lawful_entry here (entry.Std n) es = lawful_refuses _
 
 module _ (g : Environment) where
-  lawful_argument : (place : Place) (one : Operand) → Lawful (argument g place one)
-  lawful_argument place (plain one) = expression.lawful g one
-  lawful_argument place (wide one by) = lawful_parts (judged g one) (judged g by) _ (expression.lawful g one) (expression.lawful g by) (λ e w. lawful_refuses _)
-
-  lawful_arguments : (place : Place) (all : Operands) → Lawful (arguments g place all)
-  lawful_arguments place all = lawful_each (argument g place) (lawful_argument place) all
+  lawful_values : (here : Position) (all : Operands) → Lawful (values g here all)
+  lawful_values here all = expression.lawful_all g here [] all
 
   lawful_item : (one : Operand) → Lawful (item g one)
   lawful_item (plain one) = lawful_part (written_value g one) _ (lawful_value g one) (λ e. lawful_makes _)
@@ -249,40 +280,68 @@ module _ (g : Environment) where
   lawful_told_of : (place : Place) (one to : Written) → Lawful (told_of g.types.types place one to)
   lawful_told_of place one to = lawful_part (told g.types.types place one to) (λ e. makes (Run e)) (lawful_told g.types.types place one to) (λ e. lawful_makes (Run e))
 
-  lawful_misgiven : (place : Place) (all : Operands) → Lawful (misgiven g place all)
-  lawful_misgiven place all = lawful_part (arguments g place all) (λ es. refuses {C = Statement} (broken place rules.Called)) (lawful_arguments place all) (λ es. lawful_refuses _)
+  lawful_misgiven : (here : Position) (all : Operands) → Lawful (misgiven g here all)
+  lawful_misgiven here all = lawful_part (values g here all) (λ es. refuses {C = Statement} (broken here.place rules.Called)) (lawful_values here all) (λ es. lawful_refuses _)
 
-  lawful_told_two : (place : Place) (all : Operands) → Lawful (told_two g place all)
-  lawful_told_two place no_operands = lawful_misgiven place no_operands
-  lawful_told_two place (and_operand one no_operands) = lawful_misgiven place (and_operand one no_operands)
-  lawful_told_two place (and_operand one (and_operand to rest)) =
-      lawful_parts (sized g one) (sized g to) (told_of g.types.types place) (lawful_sized one) (lawful_sized to) (lawful_told_of place)
+  lawful_told_two : (here : Position) (all : Operands) → Lawful (told_two g here all)
+  lawful_told_two here no_operands = lawful_misgiven here no_operands
+  lawful_told_two here (and_operand one no_operands) = lawful_misgiven here (and_operand one no_operands)
+  lawful_told_two here (and_operand one (and_operand to rest)) =
+      lawful_parts (sized g one) (sized g to) (told_of g.types.types here.place) (lawful_sized one) (lawful_sized to) (lawful_told_of here.place)
 
-  lawful_telling : (place : Place) (all : Operands) → Lawful (telling g place all)
-  lawful_telling place all = lawful_either (are_two all) (told_two g place all) (misgiven g place all) (lawful_told_two place all) (lawful_misgiven place all)
+  lawful_telling : (here : Position) (all : Operands) → Lawful (telling g here all)
+  lawful_telling here all = lawful_either (are_two all) (told_two g here all) (misgiven g here all) (lawful_told_two here all) (lawful_misgiven here all)
 
-  lawful_proceeding : (place : Place) (n : ℕ) (all : Operands) → Lawful (proceeding g place n all)
-  lawful_proceeding place n all =
-      lawful_part (arguments g place all) (λ es. part (standard_performed g.types.types place n es) (λ e. makes (Run e))) (lawful_arguments place all)
-      (λ es. lawful_part (standard_performed g.types.types place n es) (λ e. makes (Run e)) (procedure.lawful_performed g.types.types place n es) (λ e. lawful_makes (Run e)))
+  lawful_proceeding : (here : Position) (n : ℕ) (all : Operands) → Lawful (proceeding g here n all)
+  lawful_proceeding here n all =
+      lawful_part (values g here all) (λ es. part (standard_performed g.types.types here.place n es) (λ e. makes (Run e))) (lawful_values here all)
+      (λ es. lawful_part (standard_performed g.types.types here.place n es) (λ e. makes (Run e)) (procedure.lawful_performed g.types.types here.place n es) (λ e. lawful_makes (Run e)))
 
-  lawful_managing : (place : Place) (n : ℕ) (all : Operands) → Lawful (managing g place n all)
-  lawful_managing place n all = lawful_either (are_two all) (refuses (not_yet place)) (proceeding g place n all) (lawful_refuses _) (lawful_proceeding place n all)
+  -- ---- New with a constructor, and Dispose with a destructor
+
+  lawful_made_to : (here : Position) (two : Tree) (to : Option Spot) → Lawful (made_to g here two to)
+  lawful_made_to here two None = lawful_refuses _
+  lawful_made_to here two (Some to) =
+      lawful_part (made_by g here.place to.ty two) (λ e. assigned_to g.types.types here to e) (expression.lawful_made_by g here.place to.ty two) (λ e. lawful_assigned_to g.types.types here to e)
+
+  lawful_creating : (here : Position) (one two : Tree) → Lawful (creating g here one two)
+  lawful_creating here one two = lawful_part (judged g one) (λ e. made_to g here two (spot_of e)) (expression.lawful g one) (λ e. lawful_made_to here two (spot_of e))
+
+  lawful_ended_by : (here : Position) (e : Expression) (one : Option NamedCall) → Lawful (ended_by g here e one)
+  lawful_ended_by here e None = lawful_refuses _
+  lawful_ended_by here e (Some one) =
+      lawful_part (destructor_of g here.place e one.word) (ended_with g e one) (lawful_destructor g here.place e one.word)
+      (λ d. lawful_part (all_given g one.at d.header.params one.given) (λ es. unmade g.types.types one.at.place one.at.switches.r e d es)
+      (expression.lawful_all g one.at d.header.params one.given) (λ es. lawful_unmade g.types.types one.at.place one.at.switches.r e d es))
+
+  lawful_ending : (here : Position) (one two : Tree) → Lawful (ending g here one two)
+  lawful_ending here one two = lawful_part (judged g one) (λ e. ended_by g here e (named_call two)) (expression.lawful g one) (λ e. lawful_ended_by here e (named_call two))
+
+  lawful_managed : (here : Position) (n : ℕ) (all : Operands) (two : Option Pair) → Lawful (managed g here n all two)
+  lawful_managed here n all None = lawful_proceeding here n all
+  lawful_managed here n all (Some two) =
+      lawful_either (is_creating n) (creating g here two.first two.second) (ending g here two.first two.second) (lawful_creating here two.first two.second) (lawful_ending here two.first two.second)
+
+  lawful_managing : (here : Position) (n : ℕ) (all : Operands) → Lawful (managing g here n all)
+  lawful_managing here n all = lawful_managed here n all (plain_pair all)
 
   lawful_standard : (here : Position) (n : ℕ) (one : StandardStatement) (all : Operands) → Lawful (standard_run g here n one all)
   lawful_standard here n (standard.Write line) all = lawful_written line all
   lawful_standard here n (standard.Read line) all = lawful_taken here line all
   lawful_standard here n standard.Halt all =
-      lawful_part (arguments g here.place all) (λ es. halted g.types.types here.place es) (lawful_arguments here.place all) (λ es. lawful_halted g.types.types here.place es)
+      lawful_part (values g here all) (λ es. halted g.types.types here.place es) (lawful_values here all) (λ es. lawful_halted g.types.types here.place es)
   lawful_standard here n standard.Exit all =
-      lawful_part (arguments g here.place all) (λ es. left here.place es) (lawful_arguments here.place all) (λ es. lawful_left g.types.types here.place es)
-  lawful_standard here n standard.Str all = lawful_telling here.place all
-  lawful_standard here n standard.Heap all = lawful_managing here.place n all
-  lawful_standard here n standard.Other all = lawful_proceeding here.place n all
+      lawful_part (values g here all) (λ es. left here.place es) (lawful_values here all) (λ es. lawful_left g.types.types here.place es)
+  lawful_standard here n standard.Str all = lawful_telling here all
+  lawful_standard here n standard.Heap all = lawful_managing here n all
+  lawful_standard here n standard.Other all = lawful_proceeding here n all
 
-  lawful_called : (here : Position) (one : Entry) (all : Operands) → Lawful (part (arguments g here.place all) (λ es. performed_entry g.types.types here one es))
+  -- ---- calls
+
+  lawful_called : (here : Position) (one : Entry) (all : Operands) → Lawful (part (all_given g here (params_of_entry one) all) (λ es. performed_entry g.types.types here one es))
   lawful_called here one all =
-      lawful_part (arguments g here.place all) (λ es. performed_entry g.types.types here one es) (lawful_arguments here.place all) (λ es. lawful_entry g.types.types here one es)
+      lawful_part (all_given g here (params_of_entry one) all) (λ es. performed_entry g.types.types here one es) (expression.lawful_all g here (params_of_entry one) all)
+      (λ es. lawful_entry g.types.types here one es)
 
   lawful_run_entry : (here : Position) (one : Entry) (all : Operands) → Lawful (run_entry g here one all)
   lawful_run_entry here (entry.Const ty v) all = lawful_called here (entry.Const ty v) all
@@ -291,29 +350,19 @@ module _ (g : Environment) where
   lawful_run_entry here (entry.Code routine level header far) all = lawful_called here (entry.Code routine level header far) all
   lawful_run_entry here (entry.Std n) all = lawful_standard here n (standard_of n) all
 
-  lawful_run_meant : (here : Position) (feature : Option Feature) (one : Option Meaning) (all : Operands) → Lawful (run_meant g here feature one all)
-  lawful_run_meant here feature None all = lawful_refuses _
-  lawful_run_meant here feature (Some (named n one)) all = lawful_run_entry here one all
-  lawful_run_meant here feature (Some (member n m)) all = lawful_refuses _
-
-  lawful_run_name : (here : Position) (word : List ℕ) (all : Operands) → Lawful (run_name g here word all)
-  unfolding run_name
-  lawful_run_name here word all = lawful_run_meant here (feature_of word) (find g word) all
+  lawful_run_target : (here : Position) (one : Callable) (all : Operands) → Lawful (run_target g here one all)
+  lawful_run_target here (declared one) all = lawful_run_entry here one all
+  lawful_run_target here (method one) all =
+      lawful_part (all_given g here one.header.params all) (λ es. run_node (performed_on g.types.types here.place here.switches.r one es)) (expression.lawful_all g here one.header.params all)
+      (λ es. lawful_run_node g.types.types (performed_on g.types.types here.place here.switches.r one es) (methods.lawful_performed g.types.types here.place here.switches.r one es))
+  lawful_run_target here (through one) all =
+      lawful_part (all_given g here one.header.params all) (λ es. run_node (performed_through g.types.types here.place here.switches.r one es)) (expression.lawful_all g here one.header.params all)
+      (λ es. lawful_run_node g.types.types (performed_through g.types.types here.place here.switches.r one es) (lawful_performed_through g.types.types here.place here.switches.r one es))
+  lawful_run_target here (maker ty one) all = lawful_refuses _
 
   lawful_run : (here : Position) (callee : Tree) (all : Operands) → Lawful (run_of g here callee all)
-  lawful_run here (name at word) all = lawful_run_name at word all
-  lawful_run here (number place n) all = lawful_refuses _
-  lawful_run here (text place bytes) all = lawful_refuses _
-  lawful_run here (control place letter) all = lawful_refuses _
-  lawful_run here (nil place) all = lawful_refuses _
-  lawful_run here (set at listing) all = lawful_refuses _
-  lawful_run here (call at callee given) all = lawful_refuses _
-  lawful_run here (signed mark a) all = lawful_refuses _
-  lawful_run here (negated place a) all = lawful_refuses _
-  lawful_run here (combined at op a b) all = lawful_refuses _
-  lawful_run here (field at a one) all = lawful_refuses _
-  lawful_run here (index at a i) all = lawful_refuses _
-  lawful_run here (followed place a) all = lawful_refuses _
+  lawful_run here callee all =
+      lawful_part (callable g here.place callee) (λ one. run_target g here one all) (expression.lawful_callable g here.place callee) (λ one. lawful_run_target here one all)
 
   -- ---- labels
 
@@ -362,14 +411,24 @@ module _ (g : Environment) where
   unfolding counter
   lawful_counter place word = lawful_counter_meant place (feature_of word) (find g word)
 
-  lawful_bound : (ty : TypeId) (one : Tree) → Lawful (bound g ty one)
-  lawful_bound ty one = lawful_part (judged g one) (λ e. assigned g.types.types (place_of one) ty false e) (expression.lawful g one) (λ e. lawful_assigned g.types.types (place_of one) ty false e)
+  lawful_bound_by : (place : Place) (ty : TypeId) (checked : Bool) (e : Expression) → Lawful (bound_by g.types.types place ty checked e)
+  lawful_bound_by place ty checked e =
+      lawful_rule (broken place rules.Assigned) (is_assignable g.types.types (sort_of_type g.types.types ty) (sort_of g.types.types e) ty (type_of e))
+      (IsAssignable g.types.types (sort_of_type g.types.types ty) (sort_of g.types.types e) ty (type_of e))
+      (assigned_by ty (whole (definition g.types.types ty)) (stored_of g.types.types e) checked e)
+      (tells_assignable g.types.types (sort_of_type g.types.types ty) (sort_of g.types.types e) ty (type_of e))
 
-  lawful_counted_from : (first last : Tree) (one : Counter) → Lawful (counted_from g first last one)
-  lawful_counted_from first last one = lawful_parts (bound g one.ty first) (bound g one.ty last) _ (lawful_bound one.ty first) (lawful_bound one.ty last) (λ a b. lawful_makes _)
+  lawful_bound : (checked : Bool) (ty : TypeId) (one : Tree) → Lawful (bound g checked ty one)
+  lawful_bound checked ty one =
+      lawful_part (judged g one) (λ e. bound_by g.types.types (place_of one) ty checked e) (expression.lawful g one) (λ e. lawful_bound_by (place_of one) ty checked e)
 
-  lawful_counted : (place : Place) (word : List ℕ) (first last : Tree) → Lawful (counted g place word first last)
-  lawful_counted place word first last = lawful_part (counter g place word) (counted_from g first last) (lawful_counter place word) (lawful_counted_from first last)
+  lawful_counted_from : (checked : Bool) (first last : Tree) (one : Counter) → Lawful (counted_from g checked first last one)
+  lawful_counted_from checked first last one =
+      lawful_parts (bound g checked one.ty first) (bound g checked one.ty last) _ (lawful_bound checked one.ty first) (lawful_bound checked one.ty last) (λ a b. lawful_makes _)
+
+  lawful_counted : (checked : Bool) (place : Place) (word : List ℕ) (first last : Tree) → Lawful (counted g checked place word first last)
+  lawful_counted checked place word first last =
+      lawful_part (counter g place word) (counted_from g checked first last) (lawful_counter place word) (lawful_counted_from checked first last)
 
   -- ---- what is opened
 
@@ -386,6 +445,11 @@ module _ (g : Environment) where
 abbrev branch : Environment → Sort → List LabelRange → Task → Branches → List LabelRange → Judgement (List Armed)
 branch g s seen body rest rs = parts (stated g body) (branched g s (seen ++ rs) rest) (λ x arms. makes ((record { labels = rs; body = x }) ∷ arms))
 
+lawful_assigning : (g : Environment) (here : Position) (from : Tree) (t : Spot) → Lawful (assigning g here from t)
+lawful_assigning g here from t =
+    let for : Purpose = purpose_for g.types.types t.ty (broken here.place rules.Assigned) in
+    lawful_part (judged_as g for from) (λ e. assigned_to g.types.types here t e) (expression.lawful_judged g for from) (λ e. lawful_assigned_to g.types.types here t e)
+
 lawful_blocked : (all : Judgement (List Statement)) → Lawful all → Lawful (blocked all)
 lawful_blocked all m = lawful_part all (λ l. makes (block_of l)) m (λ l. lawful_makes (block_of l))
 
@@ -393,7 +457,7 @@ mutual
   pub lawful : (g : Environment) (task : Task) → Lawful (stated g task)
   lawful g empty = lawful_makes _
   lawful g (assignment here to from) =
-      lawful_parts (target g to) (judged g from) (λ t e. assigned_to g.types.types here t e) (lawful_target g to) (expression.lawful g from) (λ t e. lawful_assigned_to g.types.types here t e)
+      lawful_part (target g to) (λ t. assigning g here from t) (lawful_target g to) (λ t. lawful_assigning g here from t)
   lawful g (run here callee given) = lawful_run g here callee given
   lawful g (compound all) = lawful_blocked (listed g all) (lawful_listed g all)
   lawful g (choice here test then other) = lawful_three (condition g test) (stated g then) (stated g other) _ (lawful_condition g test) (lawful g then) (lawful g other)
@@ -404,7 +468,7 @@ mutual
   lawful g (while_loop here test body) = lawful_parts (condition g test) (stated g body) _ (lawful_condition g test) (lawful g body) (λ e s. lawful_makes _)
   lawful g (repeat_loop here all test) = lawful_parts (listed g all) (condition g test) _ (lawful_listed g all) (lawful_condition g test) (λ l e. lawful_makes _)
   lawful g (for_loop here at word first way last body) =
-      lawful_parts (counted g at.place word first last) (stated g body) _ (lawful_counted g at.place word first last) (lawful g body) (λ c s. lawful_makes _)
+      lawful_parts (counted g here.switches.r at.place word first last) (stated g body) _ (lawful_counted g here.switches.r at.place word first last) (lawful g body) (λ c s. lawful_makes _)
   lawful g (opened here designator body) =
       lawful_part (held g here.place designator) (inside g body) (lawful_held g here.place designator)
       (λ t. lawful_part (stated (within g t.ty) body) (λ s. makes (With t.at s)) (lawful (within g t.ty) body) (λ s. lawful_makes (With t.at s)))

@@ -3,25 +3,29 @@ use Rattle.std.specs.Prelude.{ℕ, ◌==◌, pos, Bool, true, false, cond, List,
 use Rattle.type_layout.specs.declared.definitions.TypeDef.{TypeDef}
 use Rattle.type_layout.specs.declared.texts.Place.{Place}
 use Rattle.pascal_grammar.specs.declared.lexeme.Position.{Position}
-use Rattle.expression_tree.specs.Trees.{Operand, Operands, plain, wide, no_operands, and_operand}
+use Rattle.expression_tree.specs.Trees.{Tree, Operand, Operands, plain, wide, no_operands, and_operand, view_expression}
 use Rattle.statement_tree.specs.Places.{place_of}
 use Rattle.typed_tree.specs.declared.expressions.Value.TheVariants as value
 use Rattle.typed_tree.specs.Expressions.{Expression, Const}
 use Rattle.typed_tree.specs.Statements.{Statement, Written, Taken, Run, WriteItems, ReadItems, Halt, Exit}
 use Rattle.scopes.specs.Environment.{Environment}
 use Rattle.typing_rules.specs.declared.faults.Rule.TheVariants as rules
-use Rattle.typing_rules.specs.Faults.{broken, not_yet}
+use Rattle.typing_rules.specs.Faults.{broken}
 use Rattle.typing_rules.specs.Judgements.{Judgement, makes, refuses, rule, either, part, parts}
 use Rattle.typing_rules.specs.Sorts.{integer, sort_of_type, sort_of}
 use Rattle.typing_rules.specs.Plans.{IsInteger, is_integer}
 use Rattle.tp_check_expr.specs.Typed.{judged}
 use Rattle.tp_check_stmt.specs.declared.standard.StandardStatement.{StandardStatement}
 use Rattle.tp_check_stmt.specs.declared.standard.StandardStatement.TheVariants as standard
+use Rattle.tp_check_stmt.specs.declared.standard.PlainPair.{PlainPair}
 use Rattle.tp_check_stmt.specs.Lists.{each}
 use Rattle.tp_check_stmt.specs.Places.{Spot, spot_of}
 use Rattle.tp_check_stmt.specs.Asked.{written_value, width, IsReadable, is_readable}
 use Rattle.procedure_rules.specs.Procedures.{standard_performed, told}
-use Rattle.tp_check_stmt.specs.Arguments.{arguments, sized}
+use Rattle.allocation_rules.specs.Allocations.{Unmaker, destructor_of, unmade}
+use Rattle.tp_check_expr.specs.Typed.{all_given, made_by}
+use Rattle.tp_check_stmt.specs.Arguments.{sized, NamedCall, named_call}
+use Rattle.tp_check_stmt.specs.Assignments.{assigned_to}
 
 -- ---- Write and Read
 
@@ -48,6 +52,10 @@ taken g here line all = part (each (taken_one g here) all) (λ items. makes (Rea
 
 -- ---- Halt and Exit
 
+-- values of arguments of which nothing is known
+abbrev pub values : Environment → Position → Operands → Judgement (List Expression)
+values g here all = all_given g here [] all
+
 -- an integer, or nothing for 0
 abbrev pub halted : List TypeDef → Place → List Expression → Judgement Statement
 halted types place [] = makes (Halt (Const integer (value.Number (pos 0))))
@@ -65,16 +73,16 @@ abbrev pub told_of : List TypeDef → Place → Written → Written → Judgemen
 told_of types place one to = part (told types place one to) (λ e. makes (Run e))
 
 -- other arguments than those that are asked for
-abbrev pub misgiven : Environment → Place → Operands → Judgement Statement
-misgiven g place all = part (arguments g place all) (λ es. refuses (broken place rules.Called))
+abbrev pub misgiven : Environment → Position → Operands → Judgement Statement
+misgiven g here all = part (values g here all) (λ es. refuses (broken here.place rules.Called))
 
-abbrev pub told_first : Environment → Place → Operand → Operands → Judgement Statement
-told_first g place one no_operands = misgiven g place (and_operand one no_operands)
-told_first g place one (and_operand to rest) = parts (sized g one) (sized g to) (told_of g.types.types place)
+abbrev pub told_first : Environment → Position → Operand → Operands → Judgement Statement
+told_first g here one no_operands = misgiven g here (and_operand one no_operands)
+told_first g here one (and_operand to rest) = parts (sized g one) (sized g to) (told_of g.types.types here.place)
 
-abbrev pub told_two : Environment → Place → Operands → Judgement Statement
-told_two g place no_operands = misgiven g place no_operands
-told_two g place (and_operand one rest) = told_first g place one rest
+abbrev pub told_two : Environment → Position → Operands → Judgement Statement
+told_two g here no_operands = misgiven g here no_operands
+told_two g here (and_operand one rest) = told_first g here one rest
 
 abbrev pub is_none : Operands → Bool
 is_none no_operands = true
@@ -88,16 +96,59 @@ abbrev pub are_two : Operands → Bool
 are_two no_operands = false
 are_two (and_operand one rest) = is_one rest
 
-abbrev pub telling : Environment → Place → Operands → Judgement Statement
-telling g place all = either (are_two all) (told_two g place all) (misgiven g place all)
+abbrev pub telling : Environment → Position → Operands → Judgement Statement
+telling g here all = either (are_two all) (told_two g here all) (misgiven g here all)
 
 -- another one
-abbrev pub proceeding : Environment → Place → ℕ → Operands → Judgement Statement
-proceeding g place number all = part (arguments g place all) (λ es. part (standard_performed g.types.types place number es) (λ e. makes (Run e)))
+abbrev pub proceeding : Environment → Position → ℕ → Operands → Judgement Statement
+proceeding g here number all = part (values g here all) (λ es. part (standard_performed g.types.types here.place number es) (λ e. makes (Run e)))
 
--- New and Dispose; those with a constructor or a destructor are not built yet
-abbrev pub managing : Environment → Place → ℕ → Operands → Judgement Statement
-managing g place number all = either (are_two all) (refuses (not_yet place)) (proceeding g place number all)
+-- ---- New with a constructor, and Dispose with a destructor
+
+-- a new block is assigned to a variable
+abbrev pub made_to : Environment → Position → Tree → Option Spot → Judgement Statement
+made_to g here two None = refuses (broken here.place rules.Called)
+made_to g here two (Some to) = part (made_by g here.place to.ty two) (λ e. assigned_to g.types.types here to e)
+
+abbrev pub creating : Environment → Position → Tree → Tree → Judgement Statement
+creating g here one two = part (judged g one) (λ e. made_to g here two (spot_of e))
+
+abbrev pub ended_with : Environment → Expression → NamedCall → Unmaker → Judgement Statement
+ended_with g e one d = part (all_given g one.at d.header.params one.given) (λ es. unmade g.types.types one.at.place one.at.switches.r e d es)
+
+abbrev pub ended_by : Environment → Position → Expression → Option NamedCall → Judgement Statement
+ended_by g here e None = refuses (broken here.place rules.Allocating)
+ended_by g here e (Some one) = part (destructor_of g here.place e one.word) (ended_with g e one)
+
+-- a destructor is called on what a pointer points to
+abbrev pub ending : Environment → Position → Tree → Tree → Judgement Statement
+ending g here one two = part (judged g one) (λ e. ended_by g here e (named_call two))
+
+-- the number of New among the standard routines
+abbrev pub is_creating : ℕ → Bool
+is_creating number = number == 28
+
+-- two arguments without widths
+pub record Pair : Type 0 where
+  pub first : Tree
+  pub second : Tree
+
+abbrev pub view_pair : PlainPair → Pair
+view_pair one = record { first = view_expression one.first.now; second = view_expression one.second.now }
+
+abbrev pub pair : Tree → Tree → Pair
+pair first second = record { first = first; second = second }
+
+abbrev pub plain_pair : Operands → Option Pair
+plain_pair (and_operand (plain first) (and_operand (plain second) no_operands)) = Some (pair first second)
+plain_pair _ = None
+
+abbrev pub managed : Environment → Position → ℕ → Operands → Option Pair → Judgement Statement
+managed g here number all None = proceeding g here number all
+managed g here number all (Some two) = either (is_creating number) (creating g here two.first two.second) (ending g here two.first two.second)
+
+abbrev pub managing : Environment → Position → ℕ → Operands → Judgement Statement
+managing g here number all = managed g here number all (plain_pair all)
 
 -- ---- standard routines
 
@@ -113,8 +164,8 @@ standard_of n =
 abbrev pub standard_run : Environment → Position → ℕ → StandardStatement → Operands → Judgement Statement
 standard_run g here n (standard.Write line) all = written g line all
 standard_run g here n (standard.Read line) all = taken g here line all
-standard_run g here n standard.Halt all = part (arguments g here.place all) (λ es. halted g.types.types here.place es)
-standard_run g here n standard.Exit all = part (arguments g here.place all) (λ es. left here.place es)
-standard_run g here n standard.Str all = telling g here.place all
-standard_run g here n standard.Heap all = managing g here.place n all
-standard_run g here n standard.Other all = proceeding g here.place n all
+standard_run g here n standard.Halt all = part (values g here all) (λ es. halted g.types.types here.place es)
+standard_run g here n standard.Exit all = part (values g here all) (λ es. left here.place es)
+standard_run g here n standard.Str all = telling g here all
+standard_run g here n standard.Heap all = managing g here n all
+standard_run g here n standard.Other all = proceeding g here n all

@@ -4,6 +4,7 @@ use Rattle.type_layout.specs.declared.definitions.TypeId.{TypeId}
 use Rattle.type_layout.specs.declared.definitions.TypeDef.{TypeDef}
 use Rattle.type_layout.specs.declared.definitions.TypeDef.TheVariants as type
 use Rattle.type_layout.specs.declared.texts.Place.{Place}
+use Rattle.pascal_grammar.specs.declared.lexeme.Position.{Position}
 use Rattle.pascal_grammar.specs.declared.operator.Direction.{Direction}
 use Rattle.syntax_tree.specs.declared.expression.Designator.{Designator}
 use Rattle.expression_tree.specs.Trees.{Tree, begins, view_designator}
@@ -21,7 +22,8 @@ use Rattle.typing_rules.specs.declared.sorts.Sort.{Sort}
 use Rattle.typing_rules.specs.Faults.{broken}
 use Rattle.typing_rules.specs.Judgements.{Judgement, makes, refuses, rule, part, parts}
 use Rattle.typing_rules.specs.Sorts.{sort_of}
-use Rattle.tp_check_expr.specs.Typed.{judged}
+use Rattle.tp_check_expr.specs.Names.{purpose_for}
+use Rattle.tp_check_expr.specs.Typed.{judged, judged_as}
 use Rattle.tp_check_stmt.specs.Places.{Spot, spot_of}
 use Rattle.tp_check_stmt.specs.Asked.{condition, selector}
 use Rattle.tp_check_stmt.specs.Assignments.{target, assigned_to}
@@ -116,20 +118,25 @@ opened_by designator body = opened (begins designator) (view_designator designat
 abbrev pub within : Environment → TypeId → Environment
 within g ty = with_block g (block.With ty)
 
+-- a value of a target, which may be a routine
+abbrev pub assigning : Environment → Position → Tree → Spot → Judgement Statement
+assigning g here from t =
+    part (judged_as g (purpose_for g.types.types t.ty (broken here.place rules.Assigned)) from) (λ e. assigned_to g.types.types here t e)
+
 -- ---- statements
 
 abbrev mutual
   -- What a checker answers for a statement, what its node is, and which faults are in it: from the judgements of its parts.
   pub stated : Environment → Task → Judgement Statement
   stated g empty = makes (block_of [])
-  stated g (assignment here to from) = parts (target g to) (judged g from) (λ t e. assigned_to g.types.types here t e)
+  stated g (assignment here to from) = part (target g to) (λ t. assigning g here from t)
   stated g (run here callee given) = run_of g here callee given
   stated g (compound all) = blocked (listed g all)
   stated g (choice here test then other) = branching (condition g test) (stated g then) (stated g other)
   stated g (selection here by branches other) = part (selector g by) (λ e. choosing e (branched g (sort_of g.types.types e) [] branches) (listed g other))
   stated g (while_loop here test body) = turning (condition g test) (stated g body)
   stated g (repeat_loop here all test) = repeating (listed g all) (condition g test)
-  stated g (for_loop here at word first way last body) = counting way here.switches.r (counted g at.place word first last) (stated g body)
+  stated g (for_loop here at word first way last body) = counting way here.switches.r (counted g here.switches.r at.place word first last) (stated g body)
   stated g (opened here designator body) = part (held g here.place designator) (λ t. opening t (stated (within g t.ty) body))
 
   -- the statements of a list, but for those that are empty

@@ -1,48 +1,79 @@
 //! Arguments of calls.
 
-ghost use Rattle.std.specs.Prelude.{map};
-ghost use Rattle.typed_tree.specs.Expressions.{view_expr};
+ghost use Rattle.std.specs.Prelude.{◌≡◌};
+ghost use Rattle.std.specs.Option.{option_map};
 ghost use Rattle.typed_tree.specs.Statements.{view_written};
-ghost use Rattle.expression_tree.specs.Trees.{view_argument, view_arguments};
+ghost use Rattle.expression_tree.specs.Trees.{call, begins, view_expression, view_simple, view_term, view_factor, view_designator, view_argument, view_arguments};
 ghost use Rattle.typing_rules.specs.Judgements.{Gives};
-ghost use Rattle.tp_check_stmt.specs.Arguments.{argument, arguments, sized};
+ghost use Rattle.tp_check_stmt.specs.Arguments.{view_named, named_call, sized};
 
 use scopes::Scope;
 use std::alloc::Global;
-use syntax_tree::Argument;
+use syntax_tree::{Argument, Designator, Expression, Factor, Identifier, SimpleExpression, Term};
 use tp_check_expr::judged_expression;
-use type_layout::Place;
-use typed_tree::{Expr, WriteItem};
-use typing_rules::{Refusal, Rule, broken};
+use typed_tree::WriteItem;
+use typing_rules::Refusal;
 
-fn argument(alloc: Global, place: Place, given: &Argument, scope: &Scope) -> Result<Expr, Refusal>
-    ensures { Gives view_expr result (argument scope.now place (view_argument given.now)).run }
+/// A name, alone or before arguments.
+#[derive(Clone, Copy)]
+pub(crate) struct SoleCall<'a> {
+    pub name: &'a Identifier,
+    pub arguments: &'a [Argument],
+}
+
+#[cycle(levels)]
+fn call_in_simple(tree: &SimpleExpression) -> Option<SoleCall<'_>>
+    ensures { option_map view_named result ≡ named_call (view_simple tree.now) }
 {
-    match given {
-        Argument::Plain(one) => judged_expression(alloc, one, scope),
-        Argument::Wide(one, by) => {
-            let _value = judged_expression(alloc, one, scope)?;
-            let _width = judged_expression(alloc, by, scope)?;
-            Err(Refusal::Because(broken(place, Rule::Called)))
-        }
+    match tree {
+        SimpleExpression::Term(one) => call_in_term(one),
+        SimpleExpression::Signed(..) | SimpleExpression::Sum { .. } => None,
     }
 }
 
-/// The arguments of a call of a routine.
-pub(crate) fn values(
-    alloc: Global,
-    place: Place,
-    given: &[Argument],
-    scope: &Scope,
-) -> Result<Vec<Expr>, Refusal>
-    ensures { Gives (λ all. map view_expr all.items) result (arguments scope.now place (view_arguments given.now)).run }
+#[cycle(levels)]
+fn call_in_term(tree: &Term) -> Option<SoleCall<'_>>
+    ensures { option_map view_named result ≡ named_call (view_term tree.now) }
 {
-    let mut values = Vec::new(alloc);
-    for one in given {
-        let value = argument(alloc, place, one, scope)?;
-        values.push(value)?;
+    match tree {
+        Term::Factor(one) => call_in_factor(one),
+        Term::Product { .. } => None,
     }
-    Ok(values)
+}
+
+fn call_by<'a>(callee: &'a Designator, arguments: &'a [Argument]) -> Option<SoleCall<'a>>
+    ensures { option_map view_named result ≡ named_call (call (begins callee.now) (view_designator callee.now) (view_arguments arguments.now)) }
+{
+    match callee {
+        Designator::Name(name) => Some(SoleCall { name, arguments }),
+        _ => None,
+    }
+}
+
+#[cycle(levels)]
+fn call_in_factor(tree: &Factor) -> Option<SoleCall<'_>>
+    ensures { option_map view_named result ≡ named_call (view_factor tree.now) }
+{
+    match tree {
+        Factor::Designator(Designator::Name(name)) => Some(SoleCall {
+            name,
+            arguments: &[],
+        }),
+        Factor::Call { callee, arguments } => call_by(callee, arguments.as_slice()),
+        Factor::Group { inner, .. } => named_call(inner),
+        _ => None,
+    }
+}
+
+/// What an expression calls by a name, in parentheses or not, as a destructor is called.
+#[cycle(levels)]
+pub(crate) fn named_call(tree: &Expression) -> Option<SoleCall<'_>>
+    ensures { option_map view_named result ≡ named_call (view_expression tree.now) }
+{
+    match tree {
+        Expression::Simple(one) => call_in_simple(one),
+        Expression::Relation { .. } => None,
+    }
 }
 
 /// An argument, and its width if it has one.

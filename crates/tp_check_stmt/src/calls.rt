@@ -1,29 +1,25 @@
 //! Calls as statements.
 
-ghost use Rattle.std.specs.Prelude.{◌≡◌, map, option_copied};
+ghost use Rattle.std.specs.Prelude.{map};
 ghost use Rattle.typed_tree.specs.Expressions.{view_expr};
 ghost use Rattle.typed_tree.specs.Statements.{view_stmt};
 ghost use Rattle.expression_tree.specs.Trees.{view_designator, view_arguments};
 ghost use Rattle.typing_rules.specs.Judgements.{Gives};
-ghost use Rattle.tp_check_stmt.specs.Calls.{is_procedural, performed_entry, run_entry, run_name, run_of};
+ghost use Rattle.tp_check_expr.specs.Calls.{view_callable};
+ghost use Rattle.tp_check_stmt.specs.Calls.{performed_entry, run_entry, run_target, run_of};
 
-use crate::arguments::values;
 use crate::standard::standard_run;
 use call_rules::performed;
-use left_out_names::feature_of;
+use method_rules::performed_on;
 use pascal_grammar::Position;
-use scopes::{Entry, Found, Scope};
+use procedural_rules::performed_through;
+use scopes::{Entry, Scope};
 use std::alloc::Global;
-use syntax_tree::{Argument, Designator, Identifier};
-use type_layout::{TypeDef, Types};
+use syntax_tree::{Argument, Designator};
+use tp_check_expr::{CallTarget, callable, operands, params_of};
+use type_layout::Types;
 use typed_tree::{Expr, Stmt};
-use typing_rules::{Refusal, Rule, broken, definition, not_yet, undeclared};
-
-fn is_procedural(one: Option<&TypeDef>) -> bool
-    ensures { result ≡ is_procedural (option_copied one.entry) }
-{
-    matches!(one, Some(TypeDef::Procedural { .. }))
-}
+use typing_rules::{Refusal, Rule, broken};
 
 fn performed_entry(
     alloc: Global,
@@ -45,9 +41,6 @@ fn performed_entry(
             let call = performed(alloc, types, place, checked, *routine, header, values)?;
             Ok(Stmt::Run { call })
         }
-        Entry::Var { ty, .. } if is_procedural(definition(types, *ty)) => {
-            Err(Refusal::Because(not_yet(place)))
-        }
         _ => Err(Refusal::Because(broken(place, Rule::Stands))),
     }
 }
@@ -64,27 +57,39 @@ fn run_entry(
     match entry {
         Entry::Std { number } => standard_run(alloc, here, *number, given, scope),
         _ => {
-            let values = values(alloc, here.place, given, scope)?;
+            let values = operands(alloc, given, params_of(entry), here, scope)?;
             performed_entry(alloc, scope.types(), here, entry, values)
         }
     }
 }
 
-// The call of a name that stands here.
-#[tactic(auto, unfolding(crate::specs::Calls::run_name))]
-fn run_name(
+// A call of what stands before the arguments.
+fn run_target(
     alloc: Global,
-    one: &Identifier,
+    here: Position,
+    target: CallTarget<'_>,
     given: &[Argument],
     scope: &Scope,
 ) -> Result<Stmt, Refusal>
-    ensures { Gives view_stmt result (run_name scope.now one.now.position one.now.name (view_arguments given.now)).run }
+    ensures { Gives view_stmt result (run_target scope.now here (view_callable target.entry) (view_arguments given.now)).run }
 {
-    let here = one.position;
-    match scope.find(&one.name) {
-        None => Err(Refusal::Because(undeclared(here.place, feature_of(&one.name)))),
-        Some(Found::Named { entry, .. }) => run_entry(alloc, here, entry, given, scope),
-        Some(Found::Member { .. }) => Err(Refusal::Because(not_yet(here.place))),
+    let types = scope.types();
+    let checked = here.switches.r;
+    match target {
+        CallTarget::Declared(entry) => run_entry(alloc, here, entry, given, scope),
+        CallTarget::Method(one) => {
+            let params = one.header.params.as_slice();
+            let values = operands(alloc, given, params, here, scope)?;
+            let call = performed_on(alloc, types, here.place, checked, one, values)?;
+            Ok(Stmt::Run { call })
+        }
+        CallTarget::Through(one) => {
+            let params = one.header.params.as_slice();
+            let values = operands(alloc, given, params, here, scope)?;
+            let call = performed_through(alloc, types, here.place, checked, one, values)?;
+            Ok(Stmt::Run { call })
+        }
+        CallTarget::Making(..) => Err(Refusal::Because(broken(here.place, Rule::Stands))),
     }
 }
 
@@ -98,8 +103,6 @@ pub(crate) fn run_of(
 ) -> Result<Stmt, Refusal>
     ensures { Gives view_stmt result (run_of scope.now here (view_designator callee.now) (view_arguments given.now)).run }
 {
-    match callee {
-        Designator::Name(one) => run_name(alloc, one, given, scope),
-        _ => Err(Refusal::Because(not_yet(here.place))),
-    }
+    let target = callable(alloc, callee, here.place, scope)?;
+    run_target(alloc, here, target, given, scope)
 }

@@ -1,10 +1,11 @@
 //! What a `for` counts by.
 
-ghost use Rattle.std.specs.Prelude.{◌≡◌, option_copied};
+ghost use Rattle.std.specs.Prelude.{◌≡◌, Ok, option_copied};
 ghost use Rattle.typed_tree.specs.Expressions.{view_expr};
 ghost use Rattle.expression_tree.specs.Trees.{view_expression};
 ghost use Rattle.typing_rules.specs.Judgements.{Gives};
-ghost use Rattle.tp_check_stmt.specs.Loops.{counter_itself, view_count, is_near, has_order, counter_of, counter_entry, counter, bound, counted, is_down};
+ghost use Rattle.typing_rules.specs.Assignments.{assigned_by};
+ghost use Rattle.tp_check_stmt.specs.Loops.{counter_itself, view_count, is_near, has_order, counter_of, counter_entry, counter, whole, bound_by, bound, counted, is_down};
 
 use left_out_names::feature_of;
 use pascal_grammar::Direction;
@@ -13,9 +14,12 @@ use statement_tree::place_of;
 use std::alloc::Global;
 use syntax_tree::{Expression, Identifier};
 use tp_check_expr::{judged_expression, variable};
-use type_layout::{Name, Place, TypeDef, TypeId, Types};
+use type_layout::{Host, Name, Place, TypeDef, TypeId, Types, storage_of};
 use typed_tree::{Expr, Variable};
-use typing_rules::{Refusal, Rule, assigned, broken, definition, undeclared};
+use typing_rules::{
+    Refusal, Rule, assigned_by, broken, definition, is_assignable, sort_of, sort_of_type,
+    stored_of_type, type_of, undeclared,
+};
 
 /// A variable that a `for` may count by, and its type.
 #[derive(Clone, Copy, Debug, PartialEq, Eq)]
@@ -90,26 +94,82 @@ fn counter_named(scope: &Scope, place: Place, name: &Name) -> Result<Counter, Re
     }
 }
 
-fn bound(alloc: Global, tree: &Expression, scope: &Scope, ty: TypeId) -> Result<Expr, Refusal>
-    ensures { Gives view_expr result (bound scope.now ty (view_expression tree.now)).run }
+// A value as a variable of a type with this definition is stored, in the predefined type that stores it.
+fn stored_whole(
+    alloc: Global,
+    ty: TypeId,
+    one: Option<&TypeDef>,
+    stored: Option<Host>,
+    checked: bool,
+    value: Expr,
+) -> Result<Expr, Refusal>
+    ensures { Gives view_expr result (Ok (assigned_by ty (whole (option_copied one.entry)) stored checked (view_expr value))) }
 {
-    let value = judged_expression(alloc, tree, scope)?;
-    assigned(alloc, scope.types(), place_of(tree), ty, false, value)
+    match one {
+        Some(TypeDef::Ordinal { host, low, high }) => {
+            let host = storage_of(*host, *low, *high);
+            let whole = TypeDef::Ordinal {
+                host,
+                low: host.least(),
+                high: host.greatest(),
+            };
+            assigned_by(alloc, ty, Some(&whole), stored, checked, value)
+        }
+        _ => assigned_by(alloc, ty, one, stored, checked, value),
+    }
 }
 
-/// What a `for` counts by, from where to where.
+fn bound_by(
+    alloc: Global,
+    types: &Types,
+    place: Place,
+    ty: TypeId,
+    checked: bool,
+    value: Expr,
+) -> Result<Expr, Refusal>
+    ensures { Gives view_expr result (bound_by types.now.types place ty checked (view_expr value)).run }
+{
+    let own = type_of(&value);
+    if !is_assignable(
+        types,
+        sort_of_type(types, ty),
+        sort_of(types, &value),
+        ty,
+        own,
+    ) {
+        return Err(Refusal::Because(broken(place, Rule::Assigned)));
+    }
+    let stored = stored_of_type(types, own);
+    stored_whole(alloc, ty, definition(types, ty), stored, checked, value)
+}
+
+fn bound(
+    alloc: Global,
+    tree: &Expression,
+    scope: &Scope,
+    ty: TypeId,
+    checked: bool,
+) -> Result<Expr, Refusal>
+    ensures { Gives view_expr result (bound scope.now checked ty (view_expression tree.now)).run }
+{
+    let value = judged_expression(alloc, tree, scope)?;
+    bound_by(alloc, scope.types(), place_of(tree), ty, checked, value)
+}
+
+/// What a `for` counts by, from where to where. With `checked` the bounds lie in the predefined type that stores the variable.
 pub(crate) fn counted(
     alloc: Global,
     variable: &Identifier,
     first: &Expression,
     last: &Expression,
     scope: &Scope,
+    checked: bool,
 ) -> Result<Count, Refusal>
-    ensures { Gives view_count result (counted scope.now variable.now.position.place variable.now.name (view_expression first.now) (view_expression last.now)).run }
+    ensures { Gives view_count result (counted scope.now checked variable.now.position.place variable.now.name (view_expression first.now) (view_expression last.now)).run }
 {
     let counter = counter_named(scope, variable.position.place, &variable.name)?;
-    let first = bound(alloc, first, scope, counter.ty)?;
-    let last = bound(alloc, last, scope, counter.ty)?;
+    let first = bound(alloc, first, scope, counter.ty, checked)?;
+    let last = bound(alloc, last, scope, counter.ty, checked)?;
     Ok(Count {
         counter,
         first,

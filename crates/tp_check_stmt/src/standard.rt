@@ -1,28 +1,31 @@
 //! Standard routines as statements.
 
 ghost use Rattle.std.specs.Prelude.{◌≡◌, map};
+ghost use Rattle.std.specs.Option.{option_map};
 ghost use Rattle.typed_tree.specs.Expressions.{view_expr};
 ghost use Rattle.typed_tree.specs.Statements.{view_stmt, view_written, view_taken};
-ghost use Rattle.expression_tree.specs.Trees.{view_argument, view_arguments};
+ghost use Rattle.expression_tree.specs.Trees.{and_operand, plain, view_argument, view_arguments, view_expression};
 ghost use Rattle.typing_rules.specs.Judgements.{Gives, parts};
-ghost use Rattle.tp_check_stmt.specs.Arguments.{sized};
+ghost use Rattle.tp_check_stmt.specs.Arguments.{view_named, sized};
 ghost use Rattle.tp_check_stmt.specs.Lists.{each};
 ghost use Rattle.tp_check_stmt.specs.Places.{spot_of};
-ghost use Rattle.tp_check_stmt.specs.Standard.{item, written, taken_from, taken_one, taken, halted, left, told_of, misgiven, told_two, is_none, is_one, are_two, telling, proceeding, managing, standard_of, standard_run};
+ghost use Rattle.tp_check_stmt.specs.Standard.{item, written, taken_from, taken_one, taken, halted, left, told_of, misgiven, told_two, is_none, is_one, are_two, telling, proceeding, made_to, creating, ended_by, ending, is_creating, view_pair, plain_pair, managing, standard_of, standard_run};
 
-use crate::arguments::{sized, values};
+use crate::arguments::{SoleCall, named_call, sized};
 use crate::asked::{is_readable, width, written_value};
+use crate::assignments::assigned_to;
 use crate::places::spot_of;
+use allocation_rules::{destructor_of, unmade};
 use pascal_grammar::Position;
 use procedure_rules::{standard_performed, told};
 use scopes::{INTEGER, Scope};
 use statement_tree::place_of;
 use std::alloc::Global;
-use syntax_tree::Argument;
-use tp_check_expr::judged_expression;
+use syntax_tree::{Argument, Expression};
+use tp_check_expr::{judged_expression, made_by, operands};
 use type_layout::{Place, Types};
 use typed_tree::{Expr, ReadItem, Stmt, Value, WriteItem};
-use typing_rules::{Refusal, Rule, broken, is_integer, not_yet, sort_of, sort_of_type};
+use typing_rules::{Refusal, Rule, broken, is_integer, sort_of, sort_of_type};
 
 /// Which statement a standard routine is. `Heap` is New or Dispose. A function is none; it counts among the other ones.
 #[derive(Clone, Copy, Debug, PartialEq, Eq)]
@@ -165,11 +168,16 @@ fn left(place: Place, values: &[Expr]) -> Result<Stmt, Refusal>
 }
 
 // Other arguments than those that are asked for.
-fn misgiven(alloc: Global, place: Place, given: &[Argument], scope: &Scope) -> Result<Stmt, Refusal>
-    ensures { Gives view_stmt result (misgiven scope.now place (view_arguments given.now)).run }
+fn misgiven(
+    alloc: Global,
+    here: Position,
+    given: &[Argument],
+    scope: &Scope,
+) -> Result<Stmt, Refusal>
+    ensures { Gives view_stmt result (misgiven scope.now here (view_arguments given.now)).run }
 {
-    let _values = values(alloc, place, given, scope)?;
-    Err(Refusal::Because(broken(place, Rule::Called)))
+    let _values = operands(alloc, given, &[], here, scope)?;
+    Err(Refusal::Because(broken(here.place, Rule::Called)))
 }
 
 fn told_pair(
@@ -187,14 +195,19 @@ fn told_pair(
     Ok(Stmt::Run { call })
 }
 
-fn told_two(alloc: Global, place: Place, given: &[Argument], scope: &Scope) -> Result<Stmt, Refusal>
-    ensures { Gives view_stmt result (told_two scope.now place (view_arguments given.now)).run }
+fn told_two(
+    alloc: Global,
+    here: Position,
+    given: &[Argument],
+    scope: &Scope,
+) -> Result<Stmt, Refusal>
+    ensures { Gives view_stmt result (told_two scope.now here (view_arguments given.now)).run }
 {
     match given {
-        [] => misgiven(alloc, place, given, scope),
+        [] => misgiven(alloc, here, given, scope),
         [one, rest @ ..] => match rest {
-            [] => misgiven(alloc, place, given, scope),
-            [to, _more @ ..] => told_pair(alloc, place, one, to, scope),
+            [] => misgiven(alloc, here, given, scope),
+            [to, _more @ ..] => told_pair(alloc, here.place, one, to, scope),
         },
     }
 }
@@ -227,45 +240,175 @@ fn are_two(given: &[Argument]) -> bool
 }
 
 // Str: an integer, with a width or without, and a string.
-fn telling(alloc: Global, place: Place, given: &[Argument], scope: &Scope) -> Result<Stmt, Refusal>
-    ensures { Gives view_stmt result (telling scope.now place (view_arguments given.now)).run }
+fn telling(
+    alloc: Global,
+    here: Position,
+    given: &[Argument],
+    scope: &Scope,
+) -> Result<Stmt, Refusal>
+    ensures { Gives view_stmt result (telling scope.now here (view_arguments given.now)).run }
 {
     if are_two(given) {
-        told_two(alloc, place, given, scope)
+        told_two(alloc, here, given, scope)
     } else {
-        misgiven(alloc, place, given, scope)
+        misgiven(alloc, here, given, scope)
     }
 }
 
 // Another standard procedure.
 fn proceeding(
     alloc: Global,
-    place: Place,
+    here: Position,
     number: u32,
     given: &[Argument],
     scope: &Scope,
 ) -> Result<Stmt, Refusal>
-    ensures { Gives view_stmt result (proceeding scope.now place number (view_arguments given.now)).run }
+    ensures { Gives view_stmt result (proceeding scope.now here number (view_arguments given.now)).run }
 {
-    let values = values(alloc, place, given, scope)?;
-    let call = standard_performed(alloc, scope.types(), place, number, values)?;
+    let values = operands(alloc, given, &[], here, scope)?;
+    let call = standard_performed(alloc, scope.types(), here.place, number, values)?;
     Ok(Stmt::Run { call })
+}
+
+// A new block to what an expression loads from.
+fn made_to(
+    alloc: Global,
+    here: Position,
+    call: &Expression,
+    variable: Expr,
+    scope: &Scope,
+) -> Result<Stmt, Refusal>
+    ensures { Gives view_stmt result (made_to scope.now here (view_expression call.now) (spot_of (view_expr variable))).run }
+{
+    match spot_of(variable) {
+        None => Err(Refusal::Because(broken(here.place, Rule::Called))),
+        Some(to) => {
+            let block = made_by(alloc, call, to.ty, here.place, scope)?;
+            assigned_to(alloc, scope.types(), here, to, block)
+        }
+    }
+}
+
+// New with a constructor.
+fn creating(
+    alloc: Global,
+    here: Position,
+    variable: &Expression,
+    call: &Expression,
+    scope: &Scope,
+) -> Result<Stmt, Refusal>
+    ensures { Gives view_stmt result (creating scope.now here (view_expression variable.now) (view_expression call.now)).run }
+{
+    let variable = judged_expression(alloc, variable, scope)?;
+    made_to(alloc, here, call, variable, scope)
+}
+
+fn ended_by(
+    alloc: Global,
+    here: Position,
+    pointer: Expr,
+    call: Option<SoleCall<'_>>,
+    scope: &Scope,
+) -> Result<Stmt, Refusal>
+    ensures { Gives view_stmt result (ended_by scope.now here (view_expr pointer) (option_map view_named call.entry)).run }
+{
+    let Some(SoleCall { name, arguments }) = call else {
+        return Err(Refusal::Because(broken(here.place, Rule::Allocating)));
+    };
+    let at = name.position;
+    let one = destructor_of(alloc, scope, here.place, &pointer, &name.name)?;
+    let params = one.header.params.as_slice();
+    let values = operands(alloc, arguments, params, at, scope)?;
+    unmade(
+        alloc,
+        scope.types(),
+        at.place,
+        at.switches.r,
+        pointer,
+        one,
+        values,
+    )
+}
+
+// Dispose with a destructor.
+fn ending(
+    alloc: Global,
+    here: Position,
+    pointer: &Expression,
+    call: &Expression,
+    scope: &Scope,
+) -> Result<Stmt, Refusal>
+    ensures { Gives view_stmt result (ending scope.now here (view_expression pointer.now) (view_expression call.now)).run }
+{
+    let pointer = judged_expression(alloc, pointer, scope)?;
+    ended_by(alloc, here, pointer, named_call(call), scope)
+}
+
+fn is_creating(number: u32) -> bool
+    ensures { result ≡ is_creating number }
+{
+    number == 28
+}
+
+// Two arguments without widths.
+#[derive(Clone, Copy)]
+pub(crate) struct PlainPair<'a> {
+    pub first: &'a Expression,
+    pub second: &'a Expression,
+}
+
+fn pair_of<'a>(
+    first: &'a Expression,
+    second: &'a Expression,
+    more: &[Argument],
+) -> Option<PlainPair<'a>>
+    ensures { option_map view_pair result ≡ plain_pair (and_operand (plain (view_expression first.now)) (and_operand (plain (view_expression second.now)) (view_arguments more.now))) }
+{
+    match more {
+        [] => Some(PlainPair { first, second }),
+        [_more, _rest @ ..] => None,
+    }
+}
+
+fn pair_behind<'a>(first: &'a Expression, rest: &'a [Argument]) -> Option<PlainPair<'a>>
+    ensures { option_map view_pair result ≡ plain_pair (and_operand (plain (view_expression first.now)) (view_arguments rest.now)) }
+{
+    match rest {
+        [] => None,
+        [Argument::Wide(..), _more @ ..] => None,
+        [Argument::Plain(second), more @ ..] => pair_of(first, second, more),
+    }
+}
+
+fn plain_pair(given: &[Argument]) -> Option<PlainPair<'_>>
+    ensures { option_map view_pair result ≡ plain_pair (view_arguments given.now) }
+{
+    match given {
+        [] => None,
+        [Argument::Wide(..), _rest @ ..] => None,
+        [Argument::Plain(first), rest @ ..] => pair_behind(first, rest),
+    }
 }
 
 // New and Dispose.
 fn managing(
     alloc: Global,
-    place: Place,
+    here: Position,
     number: u32,
     given: &[Argument],
     scope: &Scope,
 ) -> Result<Stmt, Refusal>
-    ensures { Gives view_stmt result (managing scope.now place number (view_arguments given.now)).run }
+    ensures { Gives view_stmt result (managing scope.now here number (view_arguments given.now)).run }
 {
-    if are_two(given) {
-        Err(Refusal::Because(not_yet(place)))
-    } else {
-        proceeding(alloc, place, number, given, scope)
+    match plain_pair(given) {
+        None => proceeding(alloc, here, number, given, scope),
+        Some(PlainPair { first, second }) => {
+            if is_creating(number) {
+                creating(alloc, here, first, second, scope)
+            } else {
+                ending(alloc, here, first, second, scope)
+            }
+        }
     }
 }
 
@@ -300,16 +443,16 @@ fn statement_of(
         StandardStatement::Write(line) => written(alloc, line, given, scope),
         StandardStatement::Read(line) => taken(alloc, here, line, given, scope),
         StandardStatement::Halt => {
-            let values = values(alloc, place, given, scope)?;
+            let values = operands(alloc, given, &[], here, scope)?;
             halted(scope.types(), place, values)
         }
         StandardStatement::Exit => {
-            let values = values(alloc, place, given, scope)?;
+            let values = operands(alloc, given, &[], here, scope)?;
             left(place, values.as_slice())
         }
-        StandardStatement::Str => telling(alloc, place, given, scope),
-        StandardStatement::Heap => managing(alloc, place, number, given, scope),
-        StandardStatement::Other => proceeding(alloc, place, number, given, scope),
+        StandardStatement::Str => telling(alloc, here, given, scope),
+        StandardStatement::Heap => managing(alloc, here, number, given, scope),
+        StandardStatement::Other => proceeding(alloc, here, number, given, scope),
     }
 }
 

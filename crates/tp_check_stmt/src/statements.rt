@@ -8,7 +8,8 @@ ghost use Rattle.typing_rules.specs.declared.faults.Refusal.TheVariants.{NoMemor
 ghost use Rattle.typing_rules.specs.Judgements.{Gives};
 ghost use Rattle.tp_check_stmt.specs.Places.{view_target};
 ghost use Rattle.tp_check_stmt.specs.Asked.{condition};
-ghost use Rattle.tp_check_stmt.specs.Typed.{is_empty, has_members, held, opened_by, view_arm, blocked, turning, repeating, stated, listed, branched};
+ghost use Rattle.tp_check_stmt.specs.Loops.{counted};
+ghost use Rattle.tp_check_stmt.specs.Typed.{is_empty, has_members, held, opened_by, view_arm, blocked, turning, repeating, counting, stated, listed, branched};
 
 use crate::asked::{condition, selector};
 use crate::assignments::{assigned_to, target};
@@ -20,10 +21,13 @@ use crate::nodes::{
 };
 use crate::places::{Target, spot_of};
 use expression_tree::begins;
+use pascal_grammar::Direction;
 use scopes::{BlockKind, Scope};
 use std::alloc::Global;
-use syntax_tree::{CaseArm, CaseElse, Designator, ElsePart, Expression, Statement, WithRest};
-use tp_check_expr::{judged_designator, judged_expression};
+use syntax_tree::{
+    CaseArm, CaseElse, Designator, ElsePart, Expression, Identifier, Statement, WithRest,
+};
+use tp_check_expr::{Purpose, designator_as, expression_as, purpose_for};
 use type_layout::{Place, TypeDef};
 use typed_tree::{Arm, LabelRange, Stmt};
 use typing_rules::{Refusal, Rule, Sort, broken, definition, sort_of};
@@ -47,7 +51,7 @@ fn has_members(one: Option<&TypeDef>) -> bool
 fn held(alloc: Global, place: Place, tree: &Designator, scope: &Scope) -> Result<Target, Refusal>
     ensures { Gives view_target result (held scope.now place (view_designator tree.now)).run }
 {
-    let value = judged_designator(alloc, tree, scope)?;
+    let value = designator_as(alloc, tree, Purpose::Value, scope)?;
     match spot_of(value) {
         Some(from) if has_members(definition(scope.types(), from.ty)) => Ok(from),
         _ => Err(Refusal::Because(broken(place, Rule::Opened))),
@@ -63,9 +67,12 @@ fn assigned(
 ) -> Result<Stmt, Refusal>
     ensures { Gives view_stmt result (stated scope.now (assignment (begins designator.now) (view_designator designator.now) (view_expression value.now))).run }
 {
+    let here = begins(designator);
     let to = target(alloc, designator, scope)?;
-    let value = judged_expression(alloc, value, scope)?;
-    assigned_to(alloc, scope.types(), begins(designator), to, value)
+    let fault = broken(here.place, Rule::Assigned);
+    let purpose = purpose_for(scope.types(), to.ty, fault);
+    let value = expression_as(alloc, value, purpose, scope)?;
+    assigned_to(alloc, scope.types(), here, to, value)
 }
 
 /// The node of a statement.
@@ -123,9 +130,9 @@ pub(crate) fn stated(alloc: Global, tree: &Statement, scope: &mut Scope) -> Resu
             last,
             body,
         } => {
-            let count = counted(alloc, variable, first, last, scope)?;
-            let body = stated(alloc, body, scope)?;
-            for_node(alloc, direction.direction, position.switches.r, count, body)
+            let way = direction.direction;
+            let checked = position.switches.r;
+            for_stated(alloc, body, way, checked, variable, first, last, scope)
         }
         Statement::With {
             designator,
@@ -173,6 +180,26 @@ fn repeat_stated(
     let all = listed(alloc, statements, scope)?;
     let test = condition(alloc, test, scope)?;
     repeat_node(alloc, all, test)
+}
+
+// A `for`. With `checked` its bounds are tested.
+#[cycle(parts)]
+fn for_stated(
+    alloc: Global,
+    body: &Statement,
+    way: Direction,
+    checked: bool,
+    variable: &Identifier,
+    first: &Expression,
+    last: &Expression,
+    scope: &mut Scope,
+) -> Result<Stmt, Refusal>
+    ensures gives { Gives view_stmt result (counting way checked (counted scope.old checked variable.now.position.place variable.now.name (view_expression first.now) (view_expression last.now)) (stated scope.old (view_statement body.now))).run }
+    ensures unchanged { scope.new ≡ scope.old }
+{
+    let count = counted(alloc, variable, first, last, scope, checked)?;
+    let body = stated(alloc, body, scope)?;
+    for_node(alloc, way, checked, count, body)
 }
 
 // A `with` over a designator, and what stands behind that.

@@ -3,13 +3,13 @@ use Rattle.typed_tree.specs.Expressions.{view_expr}
 use Rattle.call_rules.specs.Lists.{behind}
 use Rattle.set_rules.specs.Sets.{view_item}
 use Rattle.expression_tree.specs.Trees.{view_arguments, view_elements}
-use Rattle.tp_check_expr.specs.Typed.{all_judged, items_judged}
+use Rattle.tp_check_expr.specs.Typed.{all_given, items_judged}
 use Rattle.tp_check_expr.proofs.expressions.+parts.Given as goal
 
 abbrev pub invariant-operands-loop-argument : goal.invariant-operands-loop-argument
 invariant-operands-loop-argument l =
-    behind (map view_expr l.operands.items) (all_judged l.scope l.here (view_arguments (drop l.argument-index l.arguments))).run
-    ≡ (all_judged l.scope l.here (view_arguments l.arguments)).run
+    behind (map view_expr l.operands.items) (all_given l.scope l.here l.left (view_arguments (drop l.argument-index l.arguments))).run
+    ≡ (all_given l.scope l.here l.params (view_arguments l.arguments)).run
 
 abbrev pub invariant-items-loop-element : goal.invariant-items-loop-element
 invariant-items-loop-element l =

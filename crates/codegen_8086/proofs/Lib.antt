@@ -1,0 +1,3 @@
+pub mod Laid
+pub mod Reach
+pub mod Refs

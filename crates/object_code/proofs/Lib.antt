@@ -1,0 +1,5 @@
+pub mod Good
+pub mod Bytes
+pub mod Fills
+pub mod Stood
+pub mod Codes

@@ -1,0 +1,3 @@
+pub mod References
+pub mod Objects
+pub mod Resolved
