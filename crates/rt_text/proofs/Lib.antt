@@ -1,0 +1,4 @@
+pub mod Works
+pub mod Places
+pub mod Leaves
+pub mod Starting

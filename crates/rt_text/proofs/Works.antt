@@ -1,0 +1,33 @@
+-- The routines on text, as they stand in the unit.
+use Rattle.std.proofs.Common.{ℕ, refl, sym}
+use Rattle.flat_code.specs.Program.{FlatProgram, Choice}
+use Rattle.flat_code.specs.Legal.{StackFits}
+use Rattle.text_memory.specs.Data.{HasText}
+use Rattle.rt_write_text.proofs.StringWriting.{writes-string}
+use Rattle.rt_write_text.proofs.MadeWriting.{writes-char, writes-boolean}
+use Rattle.rt_write_text.proofs.LineWriting.{writes-line}
+use Rattle.rt_read_text.proofs.InputReading.{tells-eof, tells-eoln, reads-char}
+use Rattle.rt_read_text.proofs.LineReading.{reads-line}
+use Rattle.rt_write_numbers.proofs.IntegerWriting.{writes-integer}
+use Rattle.rt_read_strings.proofs.StringReading.{reads-string}
+use Rattle.rt_val.proofs.Giving.{gives-value, gives-place}
+use Rattle.rt_read_numbers.proofs.NumberReading.{reads-number}
+use Rattle.rt_text.specs.Unit.{text_code, HoldsTextUnit}
+use Rattle.rt_text.specs.Promises.{TextWorks}
+
+pub text-works : (program : FlatProgram) (choice : Choice) (item ahead : ℕ) → StackFits program choice → HoldsTextUnit program → HasText program choice item ahead → TextWorks program choice item ahead
+text-works program choice item ahead fits holds there = record {
+  write_string = writes-string program choice item ahead text_code fits there (record { unit_is = sym holds.is_there; routine_is = refl; resident = holds.resident; untested = refl; far = refl; locals = refl });
+  write_char = writes-char program choice item ahead text_code fits there (record { unit_is = sym holds.is_there; routine_is = refl; resident = holds.resident; untested = refl; far = refl; locals = refl });
+  write_boolean = writes-boolean program choice item ahead text_code fits there (record { unit_is = sym holds.is_there; routine_is = refl; resident = holds.resident; untested = refl; far = refl; locals = refl });
+  write_line = writes-line program choice item ahead text_code fits there (record { unit_is = sym holds.is_there; routine_is = refl; resident = holds.resident; untested = refl; far = refl; locals = refl });
+  eof = tells-eof program choice item ahead text_code fits there (record { unit_is = sym holds.is_there; routine_is = refl; resident = holds.resident; untested = refl; far = refl; locals = refl });
+  eoln = tells-eoln program choice item ahead text_code fits there (record { unit_is = sym holds.is_there; routine_is = refl; resident = holds.resident; untested = refl; far = refl; locals = refl });
+  read_char = reads-char program choice item ahead text_code fits there (record { unit_is = sym holds.is_there; routine_is = refl; resident = holds.resident; untested = refl; far = refl; locals = refl });
+  read_line = reads-line program choice item ahead text_code fits there (record { unit_is = sym holds.is_there; routine_is = refl; resident = holds.resident; untested = refl; far = refl; locals = refl });
+  write_integer = writes-integer program choice item ahead text_code fits there (record { unit_is = sym holds.is_there; routine_is = refl; resident = holds.resident; untested = refl; far = refl; locals = refl });
+  read_string = reads-string program choice item ahead text_code fits there (record { unit_is = sym holds.is_there; routine_is = refl; resident = holds.resident; untested = refl; far = refl; locals = refl });
+  val_value = gives-value program choice text_code fits (record { unit_is = sym holds.is_there; routine_is = refl; resident = holds.resident; untested = refl; far = refl; locals = refl });
+  val_place = gives-place program choice text_code fits (record { unit_is = sym holds.is_there; routine_is = refl; resident = holds.resident; untested = refl; far = refl; locals = refl });
+  read_number = reads-number program choice item ahead text_code fits there (record { unit_is = sym holds.is_there; routine_is = refl; resident = holds.resident; untested = refl; far = refl; locals = refl });
+}
