@@ -190,11 +190,7 @@ fn enter(scope: &mut Scope, name: &str, entry: Entry) -> Result<(), AllocError> 
 }
 
 /// Declares names in the innermost block.
-pub fn declare(
-    alloc: Global,
-    scope: &mut Scope,
-    rows: &[(&str, Known)],
-) -> Result<(), AllocError> {
+pub fn declare(alloc: Global, scope: &mut Scope, rows: &[(&str, Known)]) -> Result<(), AllocError> {
     for (name, known) in rows {
         enter(scope, name, entry(alloc, *known)?)?;
     }
