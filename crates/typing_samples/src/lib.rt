@@ -2,9 +2,9 @@
 #![tactic(auto)]
 
 mod declared;
-mod sample;
+mod tables;
 mod texts;
 
 pub use declared::{Known, Shape, add_types, declare};
-pub use sample::sample;
+pub use tables::sample;
 pub use texts::{constant, expression, lexemes};
