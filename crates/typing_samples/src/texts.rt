@@ -24,13 +24,20 @@ fn texts(alloc: Global, source: &str) -> Result<Vec<Text>, AllocError> {
     Ok(texts)
 }
 
-/// The lexemes of a text, which begins in column 1 of line 1.
-pub fn lexemes(alloc: Global, source: &str) -> Result<Sequence<Lexeme>, AllocError> {
-    let texts = texts(alloc, source)?;
-    match tokens(alloc, texts.as_slice(), 0, &[]) {
+fn lexemes_in(alloc: Global, texts: &[Text]) -> Result<Sequence<Lexeme>, AllocError> {
+    if texts.is_empty() {
+        return Err(AllocError);
+    }
+    match tokens(alloc, texts, 0, &[]) {
         Ok(list) => lexemes_of(alloc, list.as_slice()),
         Err(_) => Err(AllocError),
     }
+}
+
+/// The lexemes of a text, which begins in column 1 of line 1.
+pub fn lexemes(alloc: Global, source: &str) -> Result<Sequence<Lexeme>, AllocError> {
+    let texts = texts(alloc, source)?;
+    lexemes_in(alloc, texts.as_slice())
 }
 
 /// The expression that a text begins with.
