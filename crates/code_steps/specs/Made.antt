@@ -29,7 +29,7 @@ pub record Made (w : World) (site : Site) (name : Name) (unit : UnitCode) (r : R
 
 -- What the stack holds for a call in this frame. A routine of the sources, whose frame counts, is tested by what is left of the stack; one of the runtime, whose frame is 0, has room for its chain.
 pub record HasStack (w : World) (f : Frame) (r : Routine) : Type 0 where
-  pub shallow : r.arguments ≤ 256
+  pub shallow : r.arguments ≤ 258
   pub tall : 0 < r.frame → 512 ≤ f.sp
   pub counted : 0 < r.frame → r.frame ≡ activation_bytes r
   pub sum : 0 < r.frame → f.sp + f.sum ≡ stack_top w.program

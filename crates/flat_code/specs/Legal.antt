@@ -216,12 +216,12 @@ RuntimeCalls program chain bytes key (ToRoutine callee) = MatchOption (routine_o
 RuntimeCalls program chain bytes key (ToDatum datum) = Unit {0}
 RuntimeCalls program chain bytes key (ToVmt vmt) = Unit {0}
 
--- routines of the sources count what they take; routines of the runtime call each other alone, in chains of at most 384 bytes; arguments have at most 256 bytes, and expressions keep at most 24 words aside
+-- routines of the sources count what they take; routines of the runtime call each other alone, in chains of at most 384 bytes; arguments have at most 256 bytes and the static link of a nested routine, and expressions keep at most 24 words aside
 pub record IsShallow (program : FlatProgram) : Type 0 where
   -- the bytes of the deepest chain that a routine of the runtime begins
   pub chain : Key → ℕ
   pub frames : (key : Key) (r : Routine) → routine_of program key ≡ Some r → (r.frame ≡ activation_bytes r) ⊎ (r.frame ≡ 0)
-  pub arguments : (key : Key) (r : Routine) → routine_of program key ≡ Some r → r.arguments ≤ 256
+  pub arguments : (key : Key) (r : Routine) → routine_of program key ≡ Some r → r.arguments ≤ 258
   pub depth : (key : Key) (r : Routine) → routine_of program key ≡ Some r → code_depth r.body ≤ 24
   pub chains : (key : Key) (unit : UnitCode) (r : Routine) → program.unit key.unit ≡ Some unit → routine_of program key ≡ Some r → r.frame ≡ 0 →
       CodeNames (λ mention. RuntimeCalls program chain (activation_bytes r) key mention) key.unit unit.names r.body
