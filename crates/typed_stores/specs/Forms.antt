@@ -1,5 +1,5 @@
 -- What the cells of a variable are, by its type.
-use Rattle.std.specs.Prelude.{◌≡◌, ℕ, zero, suc, ◌+◌, pos, IsTrue, List, [], ◌∷◌, map, slice_get, Option, Some, None, Ok}
+use Rattle.std.specs.Prelude.{◌≡◌, ℕ, zero, suc, ◌+◌, pos, List, [], ◌∷◌, map, slice_get, Option, Some, None, Ok}
 use Rattle.std.specs.Option.{option_map}
 use Rattle.type_layout.specs.declared.definitions.TypeId.{TypeId}
 use Rattle.type_layout.specs.declared.definitions.Host.TheVariants as host
@@ -8,10 +8,10 @@ use Rattle.type_layout.specs.declared.definitions.Header.{Header}
 use Rattle.type_layout.specs.declared.definitions.TypeDef.{TypeDef}
 use Rattle.type_layout.specs.declared.definitions.TypeDef.TheVariants as type
 use Rattle.type_layout.specs.Layouts.{bounds_at}
-use Rattle.type_layout.specs.Storage.{storage_of, holds, count_between}
+use Rattle.type_layout.specs.Storage.{count_between}
 use Rattle.type_layout.specs.Table.{Table}
 use Rattle.typed_tree.specs.declared.units.Program.{Program}
-use Rattle.well_formed.specs.Fits.{ancestor}
+use Rattle.well_formed.specs.Fits.{ancestor, IsStored}
 use Rattle.meaning.specs.Trees.{Key, Value, Ordinal, Elements, Nil, Block, Code, Class, Tree, Leaf, Tip, Fork}
 use Rattle.meaning.specs.Shapes.{Part, FieldPart, ClassPart, field_parts, parts_at}
 use Rattle.meaning.specs.Programs.{Sort, class_key, class_sort}
@@ -69,7 +69,7 @@ pub record IsClass (w : World) (class : Key) : Type 0 where
 
 -- a value that a cell of a type may hold
 abbrev pub IsHeld : World → Table → TypeDef → Value → Type 0
-IsHeld w table (type.Ordinal host low high) (Ordinal z) = IsTrue (holds (storage_of host low high) z z)
+IsHeld w table (type.Ordinal host low high) (Ordinal z) = IsStored host low high z
 IsHeld w table (type.SetOf base) (Elements set) = Unit {0}
 IsHeld w table (type.PointerTo target) Nil = Unit {0}
 IsHeld w table (type.PointerTo target) (Block serial) = LeadsTo w serial (record { table = table; ty = target })

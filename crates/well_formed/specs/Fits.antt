@@ -173,10 +173,25 @@ abbrev pub AreElements : ℤ → ℤ → List ℕ → Type 0
 AreElements least most [] = Unit {0}
 AreElements least most (element ∷ elements) = (least ≤ℤ pos element) × (pos element ≤ℤ most) × AreElements (pos (suc element)) most elements
 
--- A constant of a type: a number that the type's storage holds, a text that is no longer than its strings, nil, or
+-- what the bytes of an ordinal may hold: a Boolean's byte may be any, and every one but 0 is true
+abbrev pub held_as : Host → Host
+held_as host.ShortInt = host.ShortInt
+held_as host.Byte = host.Byte
+held_as host.Integer = host.Integer
+held_as host.Word = host.Word
+held_as host.LongInt = host.LongInt
+held_as host.Char = host.Char
+held_as host.Boolean = host.Byte
+held_as host.Enumeration = host.Enumeration
+
+-- a number that the bytes of an ordinal low..high of a host hold, whether it lies within these bounds or not
+abbrev pub IsStored : Host → ℤ → ℤ → ℤ → Type 0
+IsStored host low high n = IsTrue (holds (held_as (storage_of host low high)) n n)
+
+-- A constant of a type: a number that the type's bytes hold, a text that is no longer than its strings, nil, or
 -- elements of its base.
 abbrev pub IsValue : List TypeDef → Value → Option TypeDef → Type 0
-IsValue types (Number n) (Some (type.Ordinal host low high)) = IsTrue (holds (storage_of host low high) n n)
+IsValue types (Number n) (Some (type.Ordinal host low high)) = IsStored host low high n
 IsValue types (Chars bytes) (Some (type.Str max)) = length bytes ≤ max
 IsValue types Nil (Some (type.PointerTo target)) = Unit {0}
 IsValue types (Elements bytes) (Some (type.SetOf base)) = AreElements (bounds_at types base).0 (bounds_at types base).1 bytes
