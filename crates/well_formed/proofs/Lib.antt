@@ -1,3 +1,4 @@
 mod TypedLaws
 mod FieldLaws
+mod StandardLaws
 mod ExampleLaws

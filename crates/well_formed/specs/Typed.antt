@@ -1,6 +1,5 @@
 -- When each number in a tree names something, and each node has the type that its parts give it.
 use Rattle.std.specs.Prelude.{◌≡◌, ◌⊎◌, ℕ, zero, suc, ◌<◌, ◌≤ℤ◌, Bool, true, false, List, [], ◌∷◌, Option, Some, None, slice_get}
-use Rattle.std.specs.Option.{option_and_then}
 use Rattle.type_layout.specs.declared.definitions.TypeId.{TypeId}
 use Rattle.type_layout.specs.declared.definitions.Param.{Param}
 use Rattle.type_layout.specs.declared.definitions.Header.{Header}
@@ -14,11 +13,9 @@ use Rattle.typed_tree.specs.declared.expressions.BinaryOp.TheVariants.{Add, Subt
 use Rattle.typed_tree.specs.declared.units.Routine.{Routine}
 use Rattle.typed_tree.specs.Expressions.{type_of, Expression, Place, Receiver, Elements, Arguments, Const, RoutineValue, Load, Unary, Binary, Convert, Range, SetOf, Call, CallVirtual, CallThrough, Std, Make, Var, Deref, Index, FieldOf, NoReceiver, Own, NoElements, One, Span, NoArguments, ByValue, ByPlace}
 use Rattle.well_formed.specs.Fits.{definition, stored_as, family_of, IsSome, IsInteger, IsBoolean, IsChar, AreOfOneFamily, AreStoredAlike, IsWide, IsString, IsSet, IsPointer, IsObject, Descends, field_type, AreSameHeaders, Joins, IsValue}
+pub use Rattle.well_formed.specs.Standard.{sort_of}
+use Rattle.well_formed.specs.Standard.{Slot, FitsValue, FitsVariable, Outcome, Gives, IsStandard}
 use Rattle.well_formed.specs.Scopes.{Scope, HasType, HasResult, HasVariable, HasRoutine}
-
--- what the type of an expression is, which a call of a procedure does not have
-abbrev pub sort_of : List TypeDef → Expression → Option TypeDef
-sort_of types e = option_and_then (definition types) (type_of e)
 
 -- ---- operators: the types of the operands and of the result
 
@@ -166,7 +163,8 @@ abbrev mutual
       HasResult s ty
       × ((of : TypeId) × (header : Header) × (definition s.types of ≡ Some (type.Procedural header)) × (header.result ≡ ty)
       × HasPlace s through of × TakeEach s header.params args)
-  IsTyped s (Std ty number args) = HasResult s ty × AreTypedArguments s args
+  IsTyped s (Std ty number args) =
+      HasResult s ty × ((slots : List Slot) × (outcome : Outcome) × IsStandard number slots outcome × FillEach s slots args × Gives s.types outcome ty args)
   IsTyped s (Make ty routine args) =
       (class : TypeId) × (definition s.types ty ≡ Some (type.PointerTo class)) × IsObject (definition s.types class)
       × MakeFits s class routine.unit routine.number (λ params. TakeEach s params args) (AreTypedArguments s args)
@@ -202,6 +200,15 @@ abbrev mutual
   TakeEach s (param ∷ params) (ByPlace at rest) =
       (param.by_ref ≡ true) × ((ty : TypeId) × HasPlace s at ty × Descends s.types ty param.ty) × TakeEach s params rest
   TakeEach s _ _ = ⊥
+
+  -- as many arguments as a standard routine takes, and each as it takes it
+  pub FillEach : Scope → List Slot → Arguments → Type 0
+  FillEach s [] NoArguments = Unit {0}
+  FillEach s (slot ∷ slots) (ByValue value rest) =
+      IsTyped s value × FitsValue slot (sort_of s.types value) × FillEach s slots rest
+  FillEach s (slot ∷ slots) (ByPlace at rest) =
+      ((ty : TypeId) × HasPlace s at ty × FitsVariable slot (definition s.types ty)) × FillEach s slots rest
+  FillEach s _ _ = ⊥
 
   pub AreTypedElements : Scope → TypeId → Elements → Type 0
   AreTypedElements s base NoElements = Unit {0}
