@@ -4,9 +4,9 @@ ghost use Rattle.std.specs.Prelude.{◌≡◌, map, Err};
 ghost use Rattle.std.specs.Option.{option_map};
 ghost use Rattle.typed_tree.specs.Expressions.{view_place};
 ghost use Rattle.meaning.specs.Outcomes.{State, looked, known};
-ghost use Rattle.meaning.specs.Programs.{overlay_file, routine_key, dispatched};
+ghost use Rattle.meaning.specs.Programs.{overlay_file, routine_key, class_sort};
 ghost use Rattle.meaning.specs.Activations.{held_routine};
-ghost use Rattle.meaning.specs.Calls.{is_file, installed_if, with_overlay_result, without_class, with_method, method_of, overlay_called};
+ghost use Rattle.meaning.specs.Calls.{is_file, installed_if, with_overlay_result, without_class, with_method, dispatched_in, method_of, overlay_called};
 ghost use Rattle.meaning.specs.Expressions.{class_for, instance_at};
 ghost use Rattle.cell_store.specs.Views.{view_key, view_value};
 ghost use Rattle.typed_cells.specs.Sorts.{view_sort, view_reached};
@@ -17,7 +17,7 @@ ghost use Rattle.interpreter_steps.specs.Entering.{new_instance};
 use crate::state::{Interpreter, Over, Run};
 use activations::Activation;
 use cell_store::{Key, Spot, Value};
-use program_names::{class_key, dispatched, is_overlay_file, routine_key};
+use program_names::{class_key, class_sort, is_overlay_file, method_in, routine_key};
 use std::alloc::Global;
 use type_layout::RoutineId;
 use typed_cells::{Reached, Sort};
@@ -98,15 +98,34 @@ fn without_class(checked: bool) -> Over
     }
 }
 
-impl Interpreter<'_> {
-    // A class that lacks the method has nothing to call.
-    fn dispatched_by(&self, class: &Key, slot: u32) -> Result<Key, Over>
-        ensures { (s : State) → Comes view_key result s (with_method (dispatched (program_of self.now) (view_key class.now) slot) s) }
-    {
-        match dispatched(self.alloc, self.sources.program, class, slot)? {
-            None => Err(Over::Undefined(4)),
-            Some(key) => Ok(key),
+// A class that lacks the method has nothing to call.
+fn with_method(found: Option<Key>) -> Result<Key, Over>
+    ensures { (s : State) → Comes view_key result s (with_method (option_map view_key found) s) }
+{
+    match found {
+        None => Err(Over::Undefined(4)),
+        Some(key) => Ok(key),
+    }
+}
+
+// What a class has for a slot. A class that no unit declares has nothing.
+fn dispatched_in(alloc: Global, slot: u32, sort: Option<Sort>) -> Result<Key, Over>
+    ensures { (s : State) → Comes view_key result s (dispatched_in slot (option_map view_sort sort.entry) s) }
+{
+    match sort {
+        None => Err(Over::Stuck),
+        Some(sort) => {
+            let found = method_in(alloc, slot, &sort)?;
+            with_method(found)
         }
+    }
+}
+
+impl Interpreter<'_> {
+    fn dispatched_by(&self, class: &Key, slot: u32) -> Result<Key, Over>
+        ensures { (s : State) → Comes view_key result s (dispatched_in slot (class_sort (program_of self.now) (view_key class.now)) s) }
+    {
+        dispatched_in(self.alloc, slot, class_sort(self.sources.program, class))
     }
 
     /// The routine that the class of an instance has for a slot. One without class is error 210 where that is checked, and

@@ -15,11 +15,11 @@ use Rattle.well_formed.specs.Scopes.{variables_of}
 use Rattle.meaning.specs.Trees.{Key, Spot, Value, Ordinal, Text, Elements, Block, Code, Void}
 use Rattle.meaning.specs.Shapes.{parts_at, field_place}
 use Rattle.meaning.specs.Store.{next_serial, followed, number_of, without}
-use Rattle.meaning.specs.Programs.{routine_key, Sort, definition, beside, sort_in, class_key, is_overlay, is_overlaid, char_sort, dispatched}
+use Rattle.meaning.specs.Programs.{routine_key, Sort, definition, beside, sort_in, class_key, is_overlay, is_overlaid, char_sort, class_sort, method_in}
 use Rattle.meaning.specs.Outcomes.{Does}
 use Rattle.meaning.specs.Operators.{unary, binary, decided, converted, ranged, is_between, element_of}
 use Rattle.meaning.specs.Activations.{Reached, Activation, Callee, callee_of, whole, inside, variable_at, loaded, held_routine, opened, class_set, class_at, levels_around, result_of, assigned}
-use Rattle.meaning.specs.Calls.{Task, Do, Runs, activation_of, activated, is_too_deep, entered, without_class, with_method, dispatched_by, method_of, with_overlay_result, overlay_variable, installed_if, is_file, overlay_called}
+use Rattle.meaning.specs.Calls.{Task, Do, Runs, activation_of, activated, is_too_deep, entered, without_class, with_method, dispatched_in, dispatched_by, method_of, with_overlay_result, overlay_variable, installed_if, is_file, overlay_called}
 use Rattle.meaning.specs.Programs.{overlay_file}
 use Rattle.meaning.specs.Standard.{Operand, Given, Named, handed, standard, Effect, Gives, Changes, Makes, Asks, effect_of, target, made}
 use Rattle.meaning.specs.Expressions.{constant_value, sort_of, storage, field_of, outside, element_between, element_in, Instance, no_instance, instance_at, called, called_by_class, called_through, effect_done, block_made, unless, value, place, receiver, elements, operands}
@@ -57,9 +57,13 @@ like_with_method : {k m n : ℕ} (key : Option Key) → Like k m n (with_method 
 like_with_method None = like_undefined 4
 like_with_method (Some key) = like_give key
 
+like_dispatched_in : {k m n : ℕ} (slot : ℕ) (sort : Option Sort) → Like k m n (dispatched_in slot sort) (dispatched_in slot sort)
+like_dispatched_in slot None = like_stuck
+like_dispatched_in slot (Some sort) = like_with_method (method_in slot sort)
+
 pub like_dispatched_by : {k m n : ℕ} (program : Program) (slot : ℕ) (checked : Bool) (class : Option Key) → Like k m n (dispatched_by program slot checked class) (dispatched_by program slot checked class)
 like_dispatched_by program slot checked None = like_without_class checked
-like_dispatched_by program slot checked (Some class) = like_with_method (dispatched program class slot)
+like_dispatched_by program slot checked (Some class) = like_dispatched_in slot (class_sort program class)
 
 pub like_method_of : {k m n : ℕ} (program : Program) (at : Reached) (slot : ℕ) (checked : Bool) → Like k m n (method_of program at slot checked) (method_of program at slot checked)
 like_method_of program at slot checked = like_bind (like_looked (class_at at)) (like_dispatched_by program slot checked)

@@ -10,7 +10,7 @@ use Rattle.values.specs.Strings.{upper}
 use Rattle.well_formed.specs.Scopes.{variables_of}
 use Rattle.meaning.specs.Trees.{Key, Spot, Value, Ordinal, Text, Void}
 use Rattle.meaning.specs.Store.{next_serial, without}
-use Rattle.meaning.specs.Programs.{is_overlaid, stack_of, overlay_file, integer_sort, overlay_result, dispatched}
+use Rattle.meaning.specs.Programs.{is_overlaid, stack_of, overlay_file, integer_sort, overlay_result, Sort, class_sort, method_in}
 use Rattle.meaning.specs.Outcomes.{Does, ◌>>=◌, ◌>>◌, give, raised, undefined, stuck, found, raised_if, looked, changed, is_installed, install}
 use Rattle.meaning.specs.Activations.{Reached, Level, Activation, whole, Callee, callee_of, opened, levels_around, class_set, class_at, result_of, assigned}
 
@@ -75,9 +75,14 @@ abbrev pub with_method : Option Key → Does Key
 with_method None = undefined 4
 with_method (Some key) = give key
 
+-- an instance of a class that no unit of the program declares is none that a typed program makes
+abbrev pub dispatched_in : ℕ → Option Sort → Does Key
+dispatched_in slot None = stuck
+dispatched_in slot (Some sort) = with_method (method_in slot sort)
+
 abbrev pub dispatched_by : Program → ℕ → Bool → Option Key → Does Key
 dispatched_by program slot checked None = without_class checked
-dispatched_by program slot checked (Some class) = with_method (dispatched program class slot)
+dispatched_by program slot checked (Some class) = dispatched_in slot (class_sort program class)
 
 -- the routine that the class of an instance has for a slot
 abbrev pub method_of : Program → Reached → ℕ → Bool → Does Key

@@ -144,12 +144,9 @@ class_size program class = option_map size_in (class_sort program class)
 abbrev pub method_key : Table → Method → Option Key
 method_key table method = option_map (λ name. record { unit = name; number = method.routine.number }) (slice_get table.units method.routine.unit)
 
+-- the routine that answers a slot of a class
 abbrev pub method_in : ℕ → Sort → Option Key
 method_in slot sort = option_and_then (method_key sort.table) (method_at (members_in (members_of sort.table.types) sort.ty) slot)
-
--- the routine that answers a slot of a class
-abbrev pub dispatched : Program → Key → ℕ → Option Key
-dispatched program class slot = option_and_then (method_in slot) (class_sort program class)
 
 -- ---- globals: the variable of the unit Overlay is the first object, and then come those of the units in order
 

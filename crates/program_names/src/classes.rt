@@ -8,7 +8,7 @@ ghost use Rattle.type_layout.specs.Storage.{width_of};
 ghost use Rattle.type_layout.specs.Layouts.{size_of};
 ghost use Rattle.object_vmt.specs.Members.{members_of, members_in};
 ghost use Rattle.object_vmt.specs.Slots.{method_at};
-ghost use Rattle.meaning.specs.Programs.{size_in, class_key, is_name, is_origin, sort_by, class_sort, class_size, method_in, dispatched};
+ghost use Rattle.meaning.specs.Programs.{size_in, class_key, is_name, is_origin, sort_by, class_sort, class_size, method_in};
 ghost use Rattle.cell_store.specs.Views.{view_key};
 ghost use Rattle.program_names.specs.Keys.{key_at};
 ghost use Rattle.typed_cells.specs.Sorts.{alone, view_sort};
@@ -188,8 +188,9 @@ fn routine_in(
     Ok(Some(classes.method_of(ty, slot)))
 }
 
+/// The routine that answers a slot of a class.
 #[tactic(auto, using(crate::proofs::Methods::method_through))]
-fn method_in(alloc: Global, slot: u32, sort: &Sort) -> Result<Option<Key>, AllocError>
+pub fn method_in(alloc: Global, slot: u32, sort: &Sort) -> Result<Option<Key>, AllocError>
     ensures { IfOk result (λ found. option_map view_key found ≡ method_in slot (view_sort sort.now)) }
 {
     let Sort::Of { types, ty } = sort else {
@@ -198,20 +199,5 @@ fn method_in(alloc: Global, slot: u32, sort: &Sort) -> Result<Option<Key>, Alloc
     match routine_in(alloc, types, *ty, slot)? {
         None => Ok(None),
         Some(routine) => Ok(key_at(types, routine)),
-    }
-}
-
-/// The routine that answers a slot of a class.
-pub fn dispatched(
-    alloc: Global,
-    program: &Program,
-    class: &Key,
-    slot: u32,
-) -> Result<Option<Key>, AllocError>
-    ensures { IfOk result (λ found. option_map view_key found ≡ dispatched program.now (view_key class.now) slot) }
-{
-    match class_sort(program, class) {
-        None => Ok(None),
-        Some(sort) => method_in(alloc, slot, &sort),
     }
 }

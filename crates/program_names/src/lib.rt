@@ -6,7 +6,7 @@ mod globals;
 mod sources;
 mod units;
 
-pub use classes::{class_key, class_size, class_sort, dispatched, size_in};
+pub use classes::{class_key, class_size, class_sort, method_in, size_in};
 pub use globals::global_serial;
 pub use sources::Sources;
 pub use units::{
