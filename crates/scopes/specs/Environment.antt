@@ -74,6 +74,10 @@ outer blocks = take (length blocks - 1) blocks
 abbrev pub innermost : List OpenBlock → Option OpenBlock
 innermost blocks = last_or None blocks
 
+-- the names of the innermost block, in order
+abbrev pub own_symbols : Environment → Option SymbolList
+own_symbols environment = option_map (λ block. block.symbols) (slice_get environment.blocks (length environment.blocks - 1))
+
 abbrev pub has_own : Option OpenBlock → List ℕ → Bool
 has_own None name = false
 has_own (Some block) name = has block.symbols name

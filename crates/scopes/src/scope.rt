@@ -4,7 +4,7 @@ ghost use Rattle.std.specs.Prelude.{◌≡◌, ◌↔◌, ◌<◌, ℕ, IsTrue, 
 ghost use Rattle.type_layout.specs.Words.{same_bytes};
 ghost use Rattle.type_layout.specs.Table.{IsAddable, place_of, with_unit, with_type};
 ghost use Rattle.type_layout.specs.Layouts.{size_over};
-ghost use Rattle.scopes.specs.Environment.{shown, find, has_innermost, with_used, with_name, with_block, without_block, block_count, kind_of};
+ghost use Rattle.scopes.specs.Environment.{shown, find, has_innermost, with_used, with_name, with_block, without_block, block_count, kind_of, own_symbols};
 ghost use Rattle.scopes.specs.Predeclared.{first};
 
 use crate::copies::{Tables, copied_blocks, copied_names, copied_tables, copied_types};
@@ -225,6 +225,16 @@ impl Scope {
         ensures { result.now ≡ self.now.units }
     {
         self.units.as_slice()
+    }
+
+    /// The names of the innermost block, in order. Where no block is open there are none.
+    pub fn own_symbols(&self) -> Option<&Symbols>
+        ensures { option_copied result ≡ own_symbols self.now }
+    {
+        match self.blocks.as_slice().last() {
+            Some(open) => Some(&open.symbols),
+            None => None,
+        }
     }
 
     /// How many blocks are counted.
