@@ -1,8 +1,10 @@
 -- The rules once more, for all states in which an activation is seen.
-use Rattle.std.proofs.Common.{◌≡◌, ℕ, ◌+◌, ◌≤◌, Ok}
-use Rattle.flat_code.specs.Tree.{Code, End, Loop, ◌then◌}
+use Rattle.std.proofs.Common.{◌≡◌, ℕ, suc, ◌+◌, ◌≤◌, true, [], None, Ok, refl, ap, ◌∙◌, arith}
+use Rattle.flat_code.specs.Tree.{Runtime, Code, End, Do, Loop, ◌then◌}
 use Rattle.flat_code.specs.Program.{FlatProgram, Choice}
 use Rattle.flat_code.specs.Meaning.{Frame, State, begun}
+use Rattle.flat_code.specs.Gives.{with_turns}
+use Rattle.flat_code.proofs.Nodes.{run-alone}
 use Rattle.routine_proofs.specs.Activation.{Activation, IsSeen, IsPlaced}
 use Rattle.routine_proofs.specs.Straight.{Exit, Onward, straight, code_size}
 use Rattle.routine_proofs.specs.Comes.{Does}
@@ -30,3 +32,37 @@ module _ (program : FlatProgram) (choice : Choice) (own : Frame) (sp : ℕ) wher
 
   pub straight-does : (above : ℕ) → IsPlaced choice own sp above → (code : Code) (a : Activation) (exit : Exit) (b : Activation) → straight choice own above code a ≡ Ok (record { exit = exit; there = b }) → Does program choice own sp code 0 (code_size code) a exit b
   straight-does above placed code a exit b e s seen = straight-comes program choice own sp above placed code a (record { exit = exit; there = b }) e s seen
+
+  -- ---- acts of the machine that ask nothing but a turn
+
+  -- the overlay buffer is emptied, which flat code doesn't see
+  pub clear-does : (a : Activation) → Does program choice own sp (Do (Runtime 3 [] None) End) 1 1 a Onward a
+  clear-does a s seen = record {
+    spent = 1;
+    few = omega arith;
+    after = begun 1 s;
+    seen = record { cells = seen.cells; flag = seen.flag; input = seen.input; out = seen.out; err = seen.err };
+    worked = omega arith;
+    ends = λ t.
+        let same : 1 + t ≡ suc t = omega arith in
+        ap (λ k. run program choice (Do (Runtime 3 [] None) End) own (with_turns s k)) same
+        ∙ run-alone program choice (Runtime 3 [] None) own (with_turns s (suc t)) (begun 1 (with_turns s (suc t))) refl;
+    quiet = λ some. (begun 1 (with_turns s 0), run-alone program choice (Runtime 3 [] None) own (with_turns s 0) (begun 1 (with_turns s 0)) refl, refl, refl);
+    silent = λ none. absurd (omega (arith, none));
+  }
+
+  -- the overlays are installed
+  pub flag-does : (a : Activation) → Does program choice own sp (Do (Runtime 4 [] None) End) 1 1 a Onward (record a { flag = true })
+  flag-does a s seen = record {
+    spent = 1;
+    few = omega arith;
+    after = record (begun 1 s) { flag = true };
+    seen = record { cells = seen.cells; flag = refl; input = seen.input; out = seen.out; err = seen.err };
+    worked = omega arith;
+    ends = λ t.
+        let same : 1 + t ≡ suc t = omega arith in
+        ap (λ k. run program choice (Do (Runtime 4 [] None) End) own (with_turns s k)) same
+        ∙ run-alone program choice (Runtime 4 [] None) own (with_turns s (suc t)) (begun 1 (with_turns s (suc t))) refl;
+    quiet = λ some. (begun 1 (with_turns s 0), run-alone program choice (Runtime 4 [] None) own (with_turns s 0) (begun 1 (with_turns s 0)) refl, refl, refl);
+    silent = λ none. absurd (omega (arith, none));
+  }

@@ -17,7 +17,7 @@ use Rattle.flat_code.specs.Program.{Choice}
 use Rattle.flat_code.specs.Meaning.{Frame, stack_place, datum_place, place_of, value_of, op_of}
 use Rattle.flat_code.proofs.Stack.{HasWord, word-read, offset-above, offset-below, LiesAt, byte-lies, local-word, op-value}
 use Rattle.routine_proofs.specs.Activation.{Slot, Shut, Free, Holds, Activation, slot_no, index_of, is_index, HoldsSlot, word_address, Shows, IsPlaced}
-use Rattle.routine_proofs.specs.Straight.{held, local_word, pointer_no, outer_place, byte_seen, word_seen, word_value, seen_value}
+use Rattle.routine_proofs.specs.Straight.{held, local_word, pointer_no, outer_place, byte_seen, word_seen, word_value, segment_seen, seen_value}
 use Rattle.routine_proofs.proofs.Words.{op-small}
 
 -- ---- what was found
@@ -173,6 +173,14 @@ module _ (choice : Choice) (own : Frame) (sp above : ℕ) (placed : IsPlaced cho
         small : (q p : Place) (plus : ℕ) → (let r : Found Place = Ok (place_after q plus) in r ≡ Ok p) → p.offset < 65536
         small q p plus e = let same = ap (λ (x : Place). x.offset) (ok-same (place_after q plus) p e) in omega (arith, same)
 
+    seen-segment : (p : Place) (v : ℕ) → segment_seen p ≡ Ok v → (let r : Found ℕ = Ok p.segment in r ≡ Ok v) × (v < 65536)
+    seen-segment p v e =
+        let test = if-ok (nat_lt p.segment 65536) (Ok p.segment) (Bad 1) v e in
+        (test.1, below p.segment v (ok-same p.segment v test.1) test.0)
+      where
+        below : (n v : ℕ) → n ≡ v → nat_lt n 65536 ≡ true → v < 65536
+        below n v e f = grind (arith, nat_tests)
+
     -- ---- values
 
     outer-word : (at : Address) (v : ℕ) → (outer_place choice own above a at >>= λ p. word_seen a.memory p) ≡ Ok v → (value_of choice own m (Word at) ≡ Ok v) × (v < 65536)
@@ -205,7 +213,11 @@ module _ (choice : Choice) (own : Frame) (sp above : ℕ) (placed : IsPlaced cho
         let found = bind-ok (outer_place choice own above a at) (λ p. Ok p.offset) v e in
         let place = place-seen at found.0 found.1 in
         (ap (λ (x : Found Place). x >>= λ p. Ok p.offset) place.0 ∙ found.2, subst (λ n. n < 65536) (ok-same found.0.offset v found.2) place.1)
-    value-seen (SegmentOf at) v e = absurd (cc)
+    value-seen (SegmentOf at) v e =
+        let found = bind-ok (outer_place choice own above a at) segment_seen v e in
+        let place = place-seen at found.0 found.1 in
+        let segment = seen-segment found.0 v found.2 in
+        (ap (λ (x : Found Place). x >>= λ p. Ok p.segment) place.0 ∙ segment.0, segment.1)
     value-seen (VmtOf unit number) v e = absurd (cc)
     value-seen (Op op x y) v e =
         let left = bind-ok (seen_value choice own above a x) (λ v. seen_value choice own above a y >>= λ w. op_of op v w) v e in

@@ -44,12 +44,16 @@ abbrev pub word_value : Choice → Frame → ℕ → Activation → Address → 
 word_value choice own above a (Local at) = local_word above a at
 word_value choice own above a at = outer_place choice own above a at >>= λ p. word_seen a.memory p
 
+-- a segment that no word holds is of no use
+abbrev pub segment_seen : Place → Found ℕ
+segment_seen p = if nat_lt p.segment 65536 then Ok p.segment else Err (Bad 1)
+
 abbrev pub seen_value : Choice → Frame → ℕ → Activation → Expr → Found ℕ
 seen_value choice own above a (Number n) = if nat_lt n 65536 then Ok n else Err (Bad 1)
 seen_value choice own above a (Byte at) = outer_place choice own above a at >>= λ p. byte_seen a.memory p 0
 seen_value choice own above a (Word at) = word_value choice own above a at
 seen_value choice own above a (AddressOf at) = outer_place choice own above a at >>= λ p. Ok p.offset
-seen_value choice own above a (SegmentOf at) = Err (Bad 1)
+seen_value choice own above a (SegmentOf at) = outer_place choice own above a at >>= segment_seen
 seen_value choice own above a (VmtOf unit number) = Err (Bad 1)
 seen_value choice own above a (Op op x y) = seen_value choice own above a x >>= λ v. seen_value choice own above a y >>= λ w. op_of op v w
 
