@@ -44,9 +44,7 @@ impl Registers {
         self.si = source;
         self.di = destination;
     }
-}
 
-impl Registers {
     /// The effective address of an operand goes to a register.
     pub(crate) fn load_offset(&mut self, register: WordReg, memory: &Memory)
         ensures { self.new ≡ with_word_reg self.old register (offset_of self.old memory.now.place) }
