@@ -46,7 +46,7 @@ pub enum Address {
 }
 
 /// An expression, whose value is a word.
-#[derive(Debug, Drop)]
+#[derive(Drop)]
 pub enum FlatExpr {
     Number(u16),
     Byte(Address),
@@ -78,7 +78,7 @@ pub struct FlatResult {
 }
 
 /// A statement.
-#[derive(Debug, Drop)]
+#[derive(Drop)]
 pub enum FlatStmt {
     StoreByte {
         to: Address,

@@ -4,7 +4,7 @@ use crate::tree::{FlatList, FlatResult};
 use type_layout::{Bytes, Name, Names, RoutineId, Sequence};
 
 /// A routine.
-#[derive(Debug, Drop)]
+#[derive(Drop)]
 pub struct FlatRoutine {
     pub name: Name,
     /// Whether its callers push a segment too.
@@ -43,7 +43,7 @@ pub type FlatData = Sequence<FlatDatum>;
 pub type FlatVmts = Sequence<FlatVmt>;
 
 /// A unit.
-#[derive(Debug, Drop)]
+#[derive(Drop)]
 pub struct FlatUnit {
     /// The unit itself and then the units that it refers to; a `unit` of its nodes is a place here.
     pub names: Names,
