@@ -1,5 +1,5 @@
 -- The nodes of New and Dispose, from their arguments.
-use Rattle.std.proofs.Common.{◌≡◌, List, [], Option, map, ap, ◌∙◌, Vec, Global}
+use Rattle.std.proofs.Common.{◌≡◌, List, [], Option, map, ap, ◌∙◌, Vec, Box, Global}
 use Rattle.type_layout.specs.declared.definitions.TypeId.{TypeId}
 use Rattle.type_layout.specs.declared.definitions.RoutineId.{RoutineId}
 use Rattle.typed_tree.specs.declared.expressions.Arg.{Arg}
@@ -19,6 +19,6 @@ blank_node ty args e = view_std ty 28 args ∙ ap (λ (l : List Arg). Std ty 28 
 pub make_node : (ty : TypeId) (routine : RoutineId) (args : Vec Arg Global) → view_expr (expr.Make ty routine args) ≡ Make ty routine (arguments_of (map view_handed args.items))
 make_node ty routine args = view_make ty routine args ∙ ap (λ (z : Arguments). Make ty routine z) (viewed args.items)
 
-pub unmake_node : (pointer : Expr) (one : Destructor) (args : Vec Arg Global)
-    → view_stmt (stmt.Unmake pointer one args) ≡ Unmake (view_expr pointer) one (arguments_of (map view_handed args.items))
-unmake_node pointer one args = ap (λ (z : Arguments). Unmake (view_expr pointer) one z) (viewed args.items)
+pub unmake_node : (pointer : Box Expr Global) (one : Destructor) (args : Vec Arg Global)
+    → view_stmt (stmt.Unmake pointer one args) ≡ Unmake (view_expr pointer.value) one (arguments_of (map view_handed args.items))
+unmake_node pointer one args = ap (λ (z : Arguments). Unmake (view_expr pointer.value) one z) (viewed args.items)

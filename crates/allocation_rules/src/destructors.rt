@@ -84,8 +84,8 @@ fn destructor_as(checked: bool, callee: Callee) -> Destructor
     }
 }
 
-fn unmake_node(pointer: Expr, destructor: Destructor, args: Vec<Arg>) -> Stmt
-    ensures { view_stmt result ≡ Unmake (view_expr pointer) destructor (arguments_of (map view_handed args.items)) }
+fn unmake_node(pointer: Box<Expr>, destructor: Destructor, args: Vec<Arg>) -> Stmt
+    ensures { view_stmt result ≡ Unmake (view_expr pointer.value) destructor (arguments_of (map view_handed args.items)) }
 {
     Stmt::Unmake {
         pointer,
@@ -110,5 +110,6 @@ pub fn unmade(
 {
     let params = one.header.params.as_slice();
     let args = given(alloc, types, place, checked, params, values)?;
+    let pointer = Box::new(alloc, pointer)?;
     Ok(unmake_node(pointer, destructor_as(checked, one.callee), args))
 }

@@ -3,7 +3,7 @@
 ghost use Rattle.std.specs.Prelude.{◌≡◌, map};
 ghost use Rattle.std.specs.Option.{option_map};
 ghost use Rattle.typed_tree.specs.declared.units.Program.{Program};
-ghost use Rattle.typed_tree.specs.Expressions.{view_expr};
+ghost use Rattle.typed_tree.specs.Expressions.{view_boxed};
 ghost use Rattle.typed_tree.specs.Statements.{view_stmt, view_stmts, view_arms, view_written, view_taken};
 ghost use Rattle.meaning.specs.Outcomes.{State};
 ghost use Rattle.meaning.specs.Calls.{Runs};
@@ -116,11 +116,11 @@ impl<'a> Machine<'a> {
         work: &mut Work<'a>,
         sort: Sort<'a>,
         value: Value,
-        width: &'a Option<Expr>,
+        width: &'a Option<Box<Expr>>,
         rest: &'a [WriteItem],
         line: bool,
     ) -> Result<Next<'a>, Over>
-        ensures { let p = program_of self.now.steps in Goes p result work.new (view_run run.new) (then_flow p work.old (λ f. item_widened p f (view_sort sort.entry) (view_value value) (option_map view_expr width.now) (map view_written rest.now) line) (view_run run.old)) }
+        ensures { let p = program_of self.now.steps in Goes p result work.new (view_run run.new) (then_flow p work.old (λ f. item_widened p f (view_sort sort.entry) (view_value value) (option_map view_boxed width.now) (map view_written rest.now) line) (view_run run.old)) }
     {
         match width {
             None => self.print(run, work, &sort, &value, 0, rest, line),

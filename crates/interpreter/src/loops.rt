@@ -23,10 +23,10 @@ use value_operators::is_true;
 /// The condition of a `while` comes next.
 pub fn test_while<'a>(
     work: &mut Work<'a>,
-    condition: &'a Expr,
+    condition: &'a Box<Expr>,
     body: &'a Box<Stmt>,
 ) -> Result<Next<'a>, Over>
-    ensures { (p : Program) (s : State) → Goes p result work.new s (then_flow p work.old (λ f. statement p (runs p) f (While (view_expr condition.now) (view_stmt body.now.value))) s) }
+    ensures { (p : Program) (s : State) → Goes p result work.new s (then_flow p work.old (λ f. statement p (runs p) f (While (view_expr condition.now.value) (view_stmt body.now.value))) s) }
 {
     work.evaluate(condition, OnValue::While { condition, body })
 }
@@ -35,11 +35,11 @@ pub fn test_while<'a>(
 pub fn turn_while<'a>(
     run: &mut Run,
     work: &mut Work<'a>,
-    condition: &'a Expr,
+    condition: &'a Box<Expr>,
     body: &'a Box<Stmt>,
     value: &Value,
 ) -> Result<Next<'a>, Over>
-    ensures { (p : Program) → Goes p result work.new (view_run run.new) (then_flow p work.old (λ f. while_turned p f (view_expr condition.now) (view_stmt body.now.value) (view_value value.now)) (view_run run.old)) }
+    ensures { (p : Program) → Goes p result work.new (view_run run.new) (then_flow p work.old (λ f. while_turned p f (view_expr condition.now.value) (view_stmt body.now.value) (view_value value.now)) (view_run run.old)) }
 {
     let z = number_of(value)?;
     if is_true(z) {
@@ -53,11 +53,11 @@ pub fn turn_while<'a>(
 /// The next turn of a `while` comes behind its body.
 pub fn follow_while<'a>(
     work: &mut Work<'a>,
-    condition: &'a Expr,
+    condition: &'a Box<Expr>,
     body: &'a Box<Stmt>,
     flow: Flow,
 ) -> Result<Next<'a>, Over>
-    ensures { (p : Program) (s : State) → Goes p result work.new s (then_flow p work.old (λ f. then_next (view_flow flow) (runs p (Do (While (view_expr condition.now) (view_stmt body.now.value))) f)) s) }
+    ensures { (p : Program) (s : State) → Goes p result work.new s (then_flow p work.old (λ f. then_next (view_flow flow) (runs p (Do (While (view_expr condition.now.value) (view_stmt body.now.value))) f)) s) }
 {
     match flow {
         Flow::Next => test_while(work, condition, body),
@@ -70,9 +70,9 @@ pub fn turn_repeat<'a>(
     run: &mut Run,
     work: &mut Work<'a>,
     body: &'a Box<Stmt>,
-    condition: &'a Expr,
+    condition: &'a Box<Expr>,
 ) -> Result<Next<'a>, Over>
-    ensures { (p : Program) → Goes p result work.new (view_run run.new) (then_flow p work.old (λ f. statement p (runs p) f (Repeat (view_stmt body.now.value) (view_expr condition.now))) (view_run run.old)) }
+    ensures { (p : Program) → Goes p result work.new (view_run run.new) (then_flow p work.old (λ f. statement p (runs p) f (Repeat (view_stmt body.now.value) (view_expr condition.now.value))) (view_run run.old)) }
 {
     run.spend()?;
     work.execute(body, OnFlow::Repeat { body, condition })
@@ -82,10 +82,10 @@ pub fn turn_repeat<'a>(
 pub fn follow_repeat<'a>(
     work: &mut Work<'a>,
     body: &'a Box<Stmt>,
-    condition: &'a Expr,
+    condition: &'a Box<Expr>,
     flow: Flow,
 ) -> Result<Next<'a>, Over>
-    ensures { (p : Program) (s : State) → Goes p result work.new s (then_flow p work.old (λ f. repeat_followed p f (view_stmt body.now.value) (view_expr condition.now) (view_flow flow)) s) }
+    ensures { (p : Program) (s : State) → Goes p result work.new s (then_flow p work.old (λ f. repeat_followed p f (view_stmt body.now.value) (view_expr condition.now.value) (view_flow flow)) s) }
 {
     match flow {
         Flow::Next => work.evaluate(condition, OnValue::Until { body, condition }),
@@ -98,10 +98,10 @@ pub fn end_repeat<'a>(
     run: &mut Run,
     work: &mut Work<'a>,
     body: &'a Box<Stmt>,
-    condition: &'a Expr,
+    condition: &'a Box<Expr>,
     value: &Value,
 ) -> Result<Next<'a>, Over>
-    ensures { (p : Program) → Goes p result work.new (view_run run.new) (then_flow p work.old (λ f. until_turned p f (view_stmt body.now.value) (view_expr condition.now) (view_value value.now)) (view_run run.old)) }
+    ensures { (p : Program) → Goes p result work.new (view_run run.new) (then_flow p work.old (λ f. until_turned p f (view_stmt body.now.value) (view_expr condition.now.value) (view_value value.now)) (view_run run.old)) }
 {
     let z = number_of(value)?;
     if is_true(z) {

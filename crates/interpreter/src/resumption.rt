@@ -101,10 +101,10 @@ fn select<'a>(value: &Value, arms: &'a [Arm], other: &'a Stmt) -> Result<Next<'a
 fn count_from<'a>(
     work: &mut Work<'a>,
     counting: Counting<'a>,
-    to: &'a Expr,
+    to: &'a Box<Expr>,
     value: &Value,
 ) -> Result<Next<'a>, Over>
-    ensures { (p : Program) (s : State) → Goes p result work.new s (then_flow p work.old (λ f. counting_up p counting.entry f (view_expr to.now) (view_value value.now)) s) }
+    ensures { (p : Program) (s : State) → Goes p result work.new s (then_flow p work.old (λ f. counting_up p counting.entry f (view_expr to.now.value) (view_value value.now)) s) }
 {
     let first = number_of(value)?;
     work.evaluate(to, OnValue::To { counting, first })
@@ -163,12 +163,12 @@ impl<'a> Machine<'a> {
         &self,
         run: &mut Run,
         work: &mut Work<'a>,
-        pointer: &'a Expr,
+        pointer: &'a Box<Expr>,
         destructor: Destructor,
         args: &'a [Arg],
         value: &Value,
     ) -> Result<Next<'a>, Over>
-        ensures { let p = program_of self.now.steps in Goes p result work.new (view_run run.new) (then_flow p work.old (λ f. disposed_with p f (view_expr pointer.now) destructor (view_args args.now) (view_value value.now)) (view_run run.old)) }
+        ensures { let p = program_of self.now.steps in Goes p result work.new (view_run run.new) (then_flow p work.old (λ f. disposed_with p f (view_expr pointer.now.value) destructor (view_args args.now) (view_value value.now)) (view_run run.old)) }
     {
         let at = self.steps.block_of(run, &work.f, pointer, value)?;
         let call = Callable::Destructor { at, destructor };

@@ -6,7 +6,7 @@ use Rattle.type_layout.specs.declared.definitions.TypeId.{TypeId}
 use Rattle.type_layout.specs.declared.definitions.RoutineId.{RoutineId}
 use Rattle.typed_tree.specs.declared.expressions.BinaryOp.{BinaryOp}
 use Rattle.typed_tree.specs.declared.statements.Destructor.{Destructor}
-use Rattle.typed_tree.specs.Expressions.{Expression, Elements as Listed, Arguments, view_expr, view_place, view_elements, view_args}
+use Rattle.typed_tree.specs.Expressions.{view_boxed, Expression, Elements as Listed, Arguments, view_expr, view_place, view_elements, view_args}
 use Rattle.typed_tree.specs.Statements.{Written, Taken, Statement, Arms, While, Repeat, view_stmt, view_stmts, view_arms, view_written, view_taken}
 use Rattle.well_formed.specs.Fits.{stored_as}
 use Rattle.values.specs.Sets.{with_range}
@@ -220,18 +220,18 @@ resumed_value p rest (on_value.Freed at) v f = with_flow rest f (freed_at p (vie
 resumed_value p rest (on_value.Assign at) v f = with_flow rest f (changed (assigned (view_reached at) v) >> give Next)
 resumed_value p rest on_value.Run v f = rest.flow Next f
 resumed_value p rest (on_value.If taken other) v f = with_flow rest f (branched p f (view_stmt taken.now.value) (view_stmt other.now.value) v)
-resumed_value p rest (on_value.While test body) v f = with_flow rest f (while_turned p f (view_expr test.now) (view_stmt body.now.value) v)
-resumed_value p rest (on_value.Until body test) v f = with_flow rest f (until_turned p f (view_stmt body.now.value) (view_expr test.now) v)
+resumed_value p rest (on_value.While test body) v f = with_flow rest f (while_turned p f (view_expr test.now.value) (view_stmt body.now.value) v)
+resumed_value p rest (on_value.Until body test) v f = with_flow rest f (until_turned p f (view_stmt body.now.value) (view_expr test.now.value) v)
 resumed_value p rest (on_value.Case arms other) v f = with_flow rest f (selected p f (view_arms arms.now) (view_stmt other.now.value) v)
-resumed_value p rest (on_value.From counting to) v f = with_flow rest f (counting_up p counting f (view_expr to.now) v)
+resumed_value p rest (on_value.From counting to) v f = with_flow rest f (counting_up p counting f (view_expr to.now.value) v)
 resumed_value p rest (on_value.To counting first) v f = with_flow rest f (counting_to p counting f first v)
 resumed_value p rest (on_value.Write sort width more line) v f =
-    with_flow rest f (item_widened p f (view_sort sort) v (option_map view_expr width.now) (map view_written more.now) line)
+    with_flow rest f (item_widened p f (view_sort sort) v (option_map view_boxed width.now) (map view_written more.now) line)
 resumed_value p rest (on_value.Width sort item more line) v f =
     with_flow rest f (wide_printed p f (view_sort sort) (view_value item) (map view_written more.now) line v)
 resumed_value p rest on_value.Halt v f = with_flow rest f (halted_by v)
 resumed_value p rest (on_value.Unmake pointer destructor args) v f =
-    with_flow rest f (disposed_with p f (view_expr pointer.now) destructor (view_args args.now) v)
+    with_flow rest f (disposed_with p f (view_expr pointer.now.value) destructor (view_args args.now) v)
 
 abbrev pub resumed_place : Program → Rest → OnPlace → Reached → Activation → Does Value
 resumed_place p rest on_place.Load at f = with_value rest f (looked (loaded at))
@@ -249,11 +249,11 @@ resumed_place p rest (on_place.Through args) at f = with_value rest f do
 resumed_place p rest (on_place.Argument more front call) at f =
     on_arguments p rest call (map view_operand front.items) f (arguments_behind p f (Named at) (view_args more.now))
 resumed_place p rest (on_place.AssignTo from) at f = with_flow rest f do
-  v ← value p (run p) f (view_expr from.now)
+  v ← value p (run p) f (view_expr from.now.value)
   changed (assigned at v)
   give Next
 resumed_place p rest (on_place.CopyTo from) at f = with_flow rest f do
-  of ← place p (run p) f (view_place from.now)
+  of ← place p (run p) f (view_place from.now.value)
   changed (copied at of.spot)
   give Next
 resumed_place p rest (on_place.CopyFrom to) at f = with_flow rest f (changed (copied (view_reached to) at.spot) >> give Next)
@@ -264,8 +264,8 @@ resumed_place p rest (on_place.Read item more line) at f =
 abbrev pub resumed_flow : Program → Rest → OnFlow → Flow → Activation → Does Value
 resumed_flow p rest (on_flow.Block more) flow f = with_flow rest f (then_next flow (statements p (run p) f (view_stmts more.now)))
 resumed_flow p rest (on_flow.While test body) flow f =
-    with_flow rest f (then_next flow (run p (Do (While (view_expr test.now) (view_stmt body.now.value))) f))
-resumed_flow p rest (on_flow.Repeat body test) flow f = with_flow rest f (repeat_followed p f (view_stmt body.now.value) (view_expr test.now) flow)
+    with_flow rest f (then_next flow (run p (Do (While (view_expr test.now.value) (view_stmt body.now.value))) f))
+resumed_flow p rest (on_flow.Repeat body test) flow f = with_flow rest f (repeat_followed p f (view_stmt body.now.value) (view_expr test.now.value) flow)
 resumed_flow p rest (on_flow.Turn c last) flow f =
     with_flow rest f (then_next flow (turned p (run p) f c.variable last c.down (view_stmt c.body.now.value)))
 resumed_flow p rest on_flow.With flow f = rest.flow flow (released f)

@@ -91,12 +91,12 @@ pub enum OnValue<'a> {
         no: &'a Box<Stmt>,
     },
     While {
-        condition: &'a Expr,
+        condition: &'a Box<Expr>,
         body: &'a Box<Stmt>,
     },
     Until {
         body: &'a Box<Stmt>,
-        condition: &'a Expr,
+        condition: &'a Box<Expr>,
     },
     Case {
         arms: &'a [Arm],
@@ -104,7 +104,7 @@ pub enum OnValue<'a> {
     },
     From {
         counting: Counting<'a>,
-        to: &'a Expr,
+        to: &'a Box<Expr>,
     },
     To {
         counting: Counting<'a>,
@@ -112,7 +112,7 @@ pub enum OnValue<'a> {
     },
     Write {
         sort: Sort<'a>,
-        width: &'a Option<Expr>,
+        width: &'a Option<Box<Expr>>,
         rest: &'a [WriteItem],
         line: bool,
     },
@@ -124,7 +124,7 @@ pub enum OnValue<'a> {
     },
     Halt,
     Unmake {
-        pointer: &'a Expr,
+        pointer: &'a Box<Expr>,
         destructor: Destructor,
         args: &'a [Arg],
     },
@@ -162,10 +162,10 @@ pub enum OnPlace<'a> {
         call: Callable<'a>,
     },
     AssignTo {
-        value: &'a Expr,
+        value: &'a Box<Expr>,
     },
     CopyTo {
-        from: &'a PlaceExpr,
+        from: &'a Box<PlaceExpr>,
     },
     CopyFrom {
         to: Reached<'a>,
@@ -195,12 +195,12 @@ pub enum OnFlow<'a> {
         rest: &'a [Stmt],
     },
     While {
-        condition: &'a Expr,
+        condition: &'a Box<Expr>,
         body: &'a Box<Stmt>,
     },
     Repeat {
         body: &'a Box<Stmt>,
-        condition: &'a Expr,
+        condition: &'a Box<Expr>,
     },
     Turn {
         counting: Counting<'a>,

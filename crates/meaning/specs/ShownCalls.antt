@@ -32,6 +32,10 @@ use Rattle.meaning.specs.Examples.{types, integer, id, global, seen, ends, error
 abbrev pub Boxed : Type 0
 Boxed = Box (Unit {0}) Heap
 
+-- something in a box that lies where another one does
+abbrev pub boxed : {X : Type 0} → Boxed → X → Box X Heap
+boxed b x = record { ptr = b.ptr; alloc = b.alloc; value = x }
+
 -- ---- two object types, the second one a descendant of the first
 
 abbrev pub header_of : Kind → List Param → Option TypeId → Header
@@ -76,27 +80,27 @@ param by_ref = record { name = codes "N"; by_ref = by_ref; ty = integer }
 abbrev pub routines : Boxed → List Routine
 routines b =
     -- 0: function (n): n + n
-    routine kind.Function (param false ∷ []) (Some integer) None (stmt.Assign (place.Var (local 1)) (expr.Binary' integer two.Add b (own b 0) b (own b 0) false))
+    routine kind.Function (param false ∷ []) (Some integer) None (stmt.Assign (boxed b (place.Var (local 1))) (boxed b (expr.Binary' integer two.Add b (own b 0) b (own b 0) false)))
     -- 1: procedure (var n): n := n + 1
-    ∷ routine kind.Procedure (param true ∷ []) None None (stmt.Assign (place.Var (local 0)) (expr.Binary' integer two.Add b (own b 0) b (expr.Const integer (constant.Number (pos 1))) false))
+    ∷ routine kind.Procedure (param true ∷ []) None None (stmt.Assign (boxed b (place.Var (local 0))) (boxed b (expr.Binary' integer two.Add b (own b 0) b (expr.Const integer (constant.Number (pos 1))) false)))
     -- 2: a function that sets no result
     ∷ routine kind.Function [] (Some integer) None stmt.Exit
     -- 3: constructor T.Init: n := 7
-    ∷ routine kind.Constructor [] None (Some (id 13)) (stmt.Assign (place.FieldOf' b (place.Var (local 0)) 0) (expr.Const integer (constant.Number (pos 7))))
+    ∷ routine kind.Constructor [] None (Some (id 13)) (stmt.Assign (boxed b (place.FieldOf' b (place.Var (local 0)) 0)) (boxed b (expr.Const integer (constant.Number (pos 7)))))
     -- 4: function T.V: 1
-    ∷ routine kind.Function [] (Some integer) (Some (id 13)) (stmt.Assign (place.Var (local 1)) (expr.Const integer (constant.Number (pos 1))))
+    ∷ routine kind.Function [] (Some integer) (Some (id 13)) (stmt.Assign (boxed b (place.Var (local 1))) (boxed b (expr.Const integer (constant.Number (pos 1)))))
     -- 5: function U.V: 2
-    ∷ routine kind.Function [] (Some integer) (Some (id 14)) (stmt.Assign (place.Var (local 1)) (expr.Const integer (constant.Number (pos 2))))
+    ∷ routine kind.Function [] (Some integer) (Some (id 14)) (stmt.Assign (boxed b (place.Var (local 1))) (boxed b (expr.Const integer (constant.Number (pos 2)))))
     -- 6: procedure (a, b)
     ∷ routine kind.Procedure (param false ∷ param false ∷ []) None None stmt.Exit
     -- 7: destructor T.Done
     ∷ routine kind.Destructor [] None (Some (id 13)) stmt.Exit
     -- 8: a procedure with a variable, and 9: one inside it that makes the variable 6
     ∷ record (routine kind.Procedure [] None None stmt.Exit) { locals = integer ∷ [] }
-    ∷ record (routine kind.Procedure [] None None (stmt.Assign (place.Var (record { unit = 0; level = 2; number = 0 })) (expr.Const integer (constant.Number (pos 6))))) { outer = Some 8 }
+    ∷ record (routine kind.Procedure [] None None (stmt.Assign (boxed b (place.Var (record { unit = 0; level = 2; number = 0 }))) (boxed b (expr.Const integer (constant.Number (pos 6)))))) { outer = Some 8 }
     -- 10: an initialisation part that makes a global 5, and 11: a main part that ends with it
-    ∷ routine kind.Procedure [] None None (stmt.Assign (place.Var (record { unit = 0; level = 0; number = 0 })) (expr.Const integer (constant.Number (pos 5))))
-    ∷ routine kind.Procedure [] None None (stmt.Halt (expr.Load' integer b (place.Var (record { unit = 1; level = 0; number = 0 }))))
+    ∷ routine kind.Procedure [] None None (stmt.Assign (boxed b (place.Var (record { unit = 0; level = 0; number = 0 }))) (boxed b (expr.Const integer (constant.Number (pos 5)))))
+    ∷ routine kind.Procedure [] None None (stmt.Halt (boxed b (expr.Load' integer b (place.Var (record { unit = 1; level = 0; number = 0 })))))
     ∷ []
 
 -- ---- a program

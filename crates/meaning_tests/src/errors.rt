@@ -94,8 +94,8 @@ fn sum(alloc: Global) -> Result<Program, AllocError> {
     };
     let last = both(
         alloc,
-        assign(global(0), number(5)),
-        assign(global(0), tested),
+        assign(alloc, global(0), number(5))?,
+        assign(alloc, global(0), tested)?,
     )?;
     behind_a(alloc, &[SMALL], last)
 }
@@ -104,7 +104,7 @@ fn disposed_nil(alloc: Global) -> Result<Program, AllocError> {
     behind_a(
         alloc,
         &[],
-        run(standard(None, 29, one_value(alloc, nil())?)),
+        run(alloc, standard(None, 29, one_value(alloc, nil())?))?,
     )
 }
 
@@ -120,14 +120,14 @@ fn virtual_call(alloc: Global, checked: bool) -> Result<Program, AllocError> {
 }
 
 fn recursion(alloc: Global) -> Result<Program, AllocError> {
-    let p = procedure(alloc, run(call(0, None, Vec::new(alloc))))?;
-    let start = run(call(0, None, Vec::new(alloc)));
+    let p = procedure(alloc, run(alloc, call(0, None, Vec::new(alloc)))?)?;
+    let start = run(alloc, call(0, None, Vec::new(alloc)))?;
     let main = both(alloc, write_text(alloc, b"a")?, start)?;
     program(alloc, &[], one_routine(alloc, p)?, main)
 }
 
 fn new_block(alloc: Global) -> Result<Stmt, AllocError> {
-    Ok(run(standard(None, 28, one_place(alloc, global(0))?)))
+    run(alloc, standard(None, 28, one_place(alloc, global(0))?))
 }
 
 fn blocks(alloc: Global, count: u32) -> Result<Program, AllocError> {
@@ -142,7 +142,7 @@ fn blocks(alloc: Global, count: u32) -> Result<Program, AllocError> {
 fn numeral(alloc: Global) -> Result<Program, AllocError> {
     let mut items = Vec::new(alloc);
     items.push(ReadItem {
-        place: global(0),
+        place: Box::new(alloc, global(0))?,
         ty: INTEGER,
         checked: false,
     })?;
@@ -164,7 +164,7 @@ fn nowhere(alloc: Global) -> Result<Program, AllocError> {
 
 fn disposed(alloc: Global, ty: TypeId) -> Result<Stmt, AllocError> {
     let args = one_value(alloc, held(alloc, ty, 0)?)?;
-    Ok(run(standard(None, 29, args)))
+    run(alloc, standard(None, 29, args))
 }
 
 fn dangling(alloc: Global) -> Result<Program, AllocError> {
@@ -176,7 +176,11 @@ fn dangling(alloc: Global) -> Result<Program, AllocError> {
 // A pointer to the ancestor leads to a block that was made for the descendant.
 fn wrong_size(alloc: Global) -> Result<Program, AllocError> {
     let made = standard(Some(TO_HEIR), 28, Vec::new(alloc));
-    let last = both(alloc, assign(global(0), made), disposed(alloc, TO_BASE)?)?;
+    let last = both(
+        alloc,
+        assign(alloc, global(0), made)?,
+        disposed(alloc, TO_BASE)?,
+    )?;
     behind_a(alloc, &[TO_BASE], last)
 }
 

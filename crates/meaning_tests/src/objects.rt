@@ -35,7 +35,7 @@ impl Sample for Dynamic {
 
 // A function of an object type that gives a number. Self is its variable 0, and the result 1.
 fn giving(alloc: Global, owner: TypeId, gives: i32) -> Result<Routine, AllocError> {
-    let body = assign(variable(1, 1), number(gives));
+    let body = assign(alloc, variable(1, 1), number(gives))?;
     routine(alloc, Kind::Function, Some(INTEGER), Some(owner), body)
 }
 
@@ -83,7 +83,7 @@ fn making(alloc: Global) -> Result<Stmt, AllocError> {
     let through = at_pointer(alloc, TO_BASE, 0)?;
     both(
         alloc,
-        assign(global(0), made(alloc)),
+        assign(alloc, global(0), made(alloc))?,
         of_class(alloc, through, 0)?,
     )
 }
@@ -94,7 +94,7 @@ fn called(alloc: Global) -> Result<Program, AllocError> {
 
 fn unmaking(alloc: Global) -> Result<Stmt, AllocError> {
     Ok(Stmt::Unmake {
-        pointer: held(alloc, TO_BASE, 0)?,
+        pointer: Box::new(alloc, held(alloc, TO_BASE, 0)?)?,
         destructor: Destructor::Routine(RoutineId { unit: 0, number: 3 }),
         args: Vec::new(alloc),
     })
@@ -121,7 +121,9 @@ fn begun(alloc: Global, at: PlaceExpr) -> Result<Stmt, AllocError> {
         own: Some(Box::new(alloc, at)?),
         args: Vec::new(alloc),
     };
-    Ok(Stmt::Run { call })
+    Ok(Stmt::Run {
+        call: Box::new(alloc, call)?,
+    })
 }
 
 fn field(alloc: Global, number: u32) -> Result<PlaceExpr, AllocError> {
@@ -133,13 +135,17 @@ fn field(alloc: Global, number: u32) -> Result<PlaceExpr, AllocError> {
 
 fn filled(alloc: Global) -> Result<Stmt, AllocError> {
     let constructed = both(alloc, begun(alloc, global(0))?, begun(alloc, global(1))?)?;
-    both(alloc, constructed, assign(field(alloc, 1)?, number(7)))
+    both(
+        alloc,
+        constructed,
+        assign(alloc, field(alloc, 1)?, number(7))?,
+    )
 }
 
 fn copied(alloc: Global) -> Result<Program, AllocError> {
     let copy = Stmt::CopyAll {
-        to: global(0),
-        from: global(1),
+        to: Box::new(alloc, global(0))?,
+        from: Box::new(alloc, global(1))?,
     };
     let told = write(alloc, load(alloc, INTEGER, field(alloc, 0)?)?)?;
     let main = three(
@@ -154,8 +160,8 @@ fn copied(alloc: Global) -> Result<Program, AllocError> {
 fn lowered(alloc: Global) -> Result<Program, AllocError> {
     let shared = both(
         alloc,
-        assign(global(1), made(alloc)),
-        assign(global(0), held(alloc, TO_HEIR, 1)?),
+        assign(alloc, global(1), made(alloc))?,
+        assign(alloc, global(0), held(alloc, TO_HEIR, 1)?)?,
     )?;
     let main = three(
         alloc,

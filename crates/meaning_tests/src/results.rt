@@ -68,8 +68,8 @@ fn numbers(
 fn mixed(alloc: Global, op: BinaryOp) -> Result<Program, AllocError> {
     let set = both(
         alloc,
-        assign(global(0), constant(WORD, 65_535)),
-        assign(global(1), number(-1)),
+        assign(alloc, global(0), constant(WORD, 65_535))?,
+        assign(alloc, global(1), number(-1))?,
     )?;
     let compared = operation(
         alloc,
@@ -91,14 +91,14 @@ fn texts(alloc: Global, op: BinaryOp, left: &[u8], right: &[u8]) -> Result<Progr
 }
 
 fn cut(alloc: Global, bytes: &[u8]) -> Result<Program, AllocError> {
-    let set = assign(global(0), text(alloc, bytes)?);
+    let set = assign(alloc, global(0), text(alloc, bytes)?)?;
     let told = write(alloc, held(alloc, SHORT_TEXT, 0)?)?;
     alone(alloc, &[SHORT_TEXT], both(alloc, set, told)?)
 }
 
 fn longer(alloc: Global, by: Expr) -> Result<Stmt, AllocError> {
     let joined = operation(alloc, TEXT, BinaryOp::Add, held(alloc, TEXT, 0)?, by)?;
-    Ok(assign(global(0), joined))
+    assign(alloc, global(0), joined)
 }
 
 fn first_hundred(alloc: Global) -> Result<Expr, AllocError> {
@@ -115,8 +115,8 @@ fn grown(alloc: Global, count: i32) -> Result<Program, AllocError> {
             number: 1,
         },
         ty: INTEGER,
-        from: number(1),
-        to: number(count),
+        from: Box::new(alloc, number(1))?,
+        to: Box::new(alloc, number(count))?,
         down: false,
         checked: false,
         body: Box::new(alloc, longer(alloc, text(alloc, b"a")?)?)?,
@@ -127,7 +127,7 @@ fn grown(alloc: Global, count: i32) -> Result<Program, AllocError> {
         longer(alloc, first_hundred(alloc)?)?,
         write(alloc, length)?,
     )?;
-    let empty = assign(global(0), text(alloc, b"")?);
+    let empty = assign(alloc, global(0), text(alloc, b"")?)?;
     alone(alloc, &[TEXT, INTEGER], three(alloc, empty, turns, last)?)
 }
 
@@ -140,7 +140,7 @@ fn constructor(alloc: Global) -> Result<Expr, AllocError> {
 }
 
 fn membership(alloc: Global, member: i32) -> Result<Program, AllocError> {
-    let set = assign(global(0), constructor(alloc)?);
+    let set = assign(alloc, global(0), constructor(alloc)?)?;
     let tested = operation(
         alloc,
         BOOLEAN,
@@ -183,7 +183,7 @@ fn told(alloc: Global, bytes: &[u8]) -> Result<Program, AllocError> {
     let mut args = one_value(alloc, text(alloc, bytes)?)?;
     args.push(Arg::Place(global(0)))?;
     args.push(Arg::Place(global(1)))?;
-    let valued = run(standard(None, 21, args));
+    let valued = run(alloc, standard(None, 21, args))?;
     let number = write(alloc, held(alloc, INTEGER, 0)?)?;
     let code = write(alloc, held(alloc, INTEGER, 1)?)?;
     alone(
@@ -196,7 +196,7 @@ fn told(alloc: Global, bytes: &[u8]) -> Result<Program, AllocError> {
 fn taken(alloc: Global, place: u32, ty: TypeId) -> Result<Stmt, AllocError> {
     let mut items = Vec::new(alloc);
     items.push(ReadItem {
-        place: global(place),
+        place: Box::new(alloc, global(place))?,
         ty,
         checked: false,
     })?;

@@ -52,7 +52,12 @@ impl Sample for Flowing {
             Flowing::Repeat => repeat_loop(alloc),
             Flowing::Case(number) => choice(alloc, number),
             Flowing::Exit => cut(alloc, Stmt::Exit),
-            Flowing::Halt => cut(alloc, Stmt::Halt { code: number(258) }),
+            Flowing::Halt => cut(
+                alloc,
+                Stmt::Halt {
+                    code: Box::new(alloc, number(258))?,
+                },
+            ),
             Flowing::With => with_field(alloc),
             Flowing::Forever => forever(alloc),
         }
@@ -61,7 +66,7 @@ impl Sample for Flowing {
 
 // A function that writes a text and gives a number.
 fn telling(alloc: Global, told: &[u8], ty: TypeId, gives: i32) -> Result<Routine, AllocError> {
-    let result = assign(variable(1, 0), constant(ty, gives));
+    let result = assign(alloc, variable(1, 0), constant(ty, gives))?;
     let body = both(alloc, write_text(alloc, told)?, result)?;
     routine(alloc, Kind::Function, Some(ty), None, body)
 }
@@ -88,7 +93,12 @@ fn called(alloc: Global, number: u32) -> Expr {
 
 fn arguments(alloc: Global) -> Result<Program, AllocError> {
     let args = two_values(alloc, called(alloc, 0), called(alloc, 1))?;
-    program(alloc, &[], order_routines(alloc)?, run(call(2, None, args)))
+    program(
+        alloc,
+        &[],
+        order_routines(alloc)?,
+        run(alloc, call(2, None, args))?,
+    )
 }
 
 fn operands(alloc: Global) -> Result<Program, AllocError> {
@@ -104,7 +114,7 @@ fn operands(alloc: Global) -> Result<Program, AllocError> {
 
 fn chosen(alloc: Global, condition: Expr) -> Result<Stmt, AllocError> {
     Ok(Stmt::If {
-        condition,
+        condition: Box::new(alloc, condition)?,
         yes: Box::new(alloc, write_text(alloc, b"y")?)?,
         no: Box::new(alloc, write_text(alloc, b"n")?)?,
     })
@@ -132,8 +142,8 @@ fn for_loop(alloc: Global, from: i32, to: i32, down: bool) -> Result<Program, Al
             number: 0,
         },
         ty: INTEGER,
-        from: number(from),
-        to: number(to),
+        from: Box::new(alloc, number(from))?,
+        to: Box::new(alloc, number(to))?,
         down,
         checked: false,
         body: Box::new(alloc, body)?,
@@ -146,7 +156,7 @@ fn from_zero(alloc: Global, rest: Stmt) -> Result<Program, AllocError> {
     alone(
         alloc,
         &[INTEGER],
-        both(alloc, assign(global(0), number(0)), rest)?,
+        both(alloc, assign(alloc, global(0), number(0))?, rest)?,
     )
 }
 
@@ -160,7 +170,7 @@ fn telling_step(alloc: Global) -> Result<Stmt, AllocError> {
         held(alloc, INTEGER, 0)?,
         number(1),
     )?;
-    both(alloc, told, assign(global(0), next))
+    both(alloc, told, assign(alloc, global(0), next)?)
 }
 
 fn compared(alloc: Global, op: BinaryOp, with: i32) -> Result<Expr, AllocError> {
@@ -169,7 +179,7 @@ fn compared(alloc: Global, op: BinaryOp, with: i32) -> Result<Expr, AllocError> 
 
 fn while_loop(alloc: Global) -> Result<Program, AllocError> {
     let turning = Stmt::While {
-        condition: compared(alloc, BinaryOp::Less, 3)?,
+        condition: Box::new(alloc, compared(alloc, BinaryOp::Less, 3)?)?,
         body: Box::new(alloc, telling_step(alloc)?)?,
     };
     from_zero(alloc, turning)
@@ -178,14 +188,14 @@ fn while_loop(alloc: Global) -> Result<Program, AllocError> {
 fn repeat_loop(alloc: Global) -> Result<Program, AllocError> {
     let turning = Stmt::Repeat {
         body: Box::new(alloc, telling_step(alloc)?)?,
-        condition: compared(alloc, BinaryOp::GreaterOrEqual, 2)?,
+        condition: Box::new(alloc, compared(alloc, BinaryOp::GreaterOrEqual, 2)?)?,
     };
     from_zero(alloc, turning)
 }
 
 fn forever(alloc: Global) -> Result<Program, AllocError> {
     let turning = Stmt::While {
-        condition: truth(true),
+        condition: Box::new(alloc, truth(true))?,
         body: Box::new(alloc, write_text(alloc, b"a")?)?,
     };
     alone(alloc, &[], turning)
@@ -214,7 +224,7 @@ fn choice(alloc: Global, number: i32) -> Result<Program, AllocError> {
     arms.push(arm(alloc, &[(1, 3)], b"first")?)?;
     arms.push(arm(alloc, &[(3, 5), (7, 7)], b"second")?)?;
     let chosen = Stmt::Case {
-        selector: constant(INTEGER, number),
+        selector: Box::new(alloc, constant(INTEGER, number))?,
         arms,
         other: Box::new(alloc, write_text(alloc, b"other")?)?,
     };
@@ -236,9 +246,9 @@ fn field_of(alloc: Global, place: PlaceExpr) -> Result<PlaceExpr, AllocError> {
 }
 
 fn with_field(alloc: Global) -> Result<Program, AllocError> {
-    let set = assign(field_of(alloc, variable(1, 0x8000_0000))?, number(7));
+    let set = assign(alloc, field_of(alloc, variable(1, 0x8000_0000))?, number(7))?;
     let body = Stmt::With {
-        place: global(0),
+        place: Box::new(alloc, global(0))?,
         body: Box::new(alloc, set)?,
     };
     let told = write(alloc, load(alloc, INTEGER, field_of(alloc, global(0))?)?)?;

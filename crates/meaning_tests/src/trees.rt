@@ -105,16 +105,19 @@ pub fn call(routine: u32, ty: Option<TypeId>, args: Vec<Arg>) -> Expr {
     }
 }
 
-pub fn run(call: Expr) -> Stmt {
-    Stmt::Run { call }
+pub fn run(alloc: Global, call: Expr) -> Result<Stmt, AllocError> {
+    let call = Box::new(alloc, call)?;
+    Ok(Stmt::Run { call })
 }
 
 pub fn standard(ty: Option<TypeId>, number: u32, args: Vec<Arg>) -> Expr {
     Expr::Std { ty, number, args }
 }
 
-pub fn assign(place: PlaceExpr, value: Expr) -> Stmt {
-    Stmt::Assign { place, value }
+pub fn assign(alloc: Global, place: PlaceExpr, value: Expr) -> Result<Stmt, AllocError> {
+    let place = Box::new(alloc, place)?;
+    let value = Box::new(alloc, value)?;
+    Ok(Stmt::Assign { place, value })
 }
 
 pub fn write(alloc: Global, value: Expr) -> Result<Stmt, AllocError> {
@@ -122,6 +125,11 @@ pub fn write(alloc: Global, value: Expr) -> Result<Stmt, AllocError> {
 }
 
 pub fn write_wide(alloc: Global, value: Expr, width: Option<Expr>) -> Result<Stmt, AllocError> {
+    let value = Box::new(alloc, value)?;
+    let width = match width {
+        None => None,
+        Some(width) => Some(Box::new(alloc, width)?),
+    };
     let mut items = Vec::new(alloc);
     items.push(WriteItem { value, width })?;
     Ok(Stmt::WriteItems { items, line: false })

@@ -27,7 +27,7 @@ impl Sample for Joined {
         match *self {
             Joined::Parts => parts(alloc),
             Joined::Mutual(n) => mutual(alloc, n),
-            Joined::Overlaid(None) => overlaid(alloc, called(alloc)),
+            Joined::Overlaid(None) => overlaid(alloc, called(alloc)?),
             Joined::Overlaid(Some(name)) => overlaid(alloc, installing(alloc, name.as_bytes())?),
         }
     }
@@ -99,10 +99,10 @@ fn function(alloc: Global) -> Result<Routine, AllocError> {
         parameter(alloc)?,
         number(0),
     )?;
-    let no = assign(variable(1, 1), one_more(alloc)?);
+    let no = assign(alloc, variable(1, 1), one_more(alloc)?)?;
     let body = Stmt::If {
-        condition,
-        yes: Box::new(alloc, assign(variable(1, 1), number(0)))?,
+        condition: Box::new(alloc, condition)?,
+        yes: Box::new(alloc, assign(alloc, variable(1, 1), number(0))?)?,
         no: Box::new(alloc, no)?,
     };
     taking(
@@ -131,28 +131,30 @@ fn mutual(alloc: Global, n: i32) -> Result<Program, AllocError> {
     Ok(Program { units, start: 2 })
 }
 
-fn call_of(alloc: Global, unit: u32) -> Stmt {
-    run(Expr::Call {
+fn call_of(alloc: Global, unit: u32) -> Result<Stmt, AllocError> {
+    let call = Expr::Call {
         ty: None,
         routine: RoutineId { unit, number: 0 },
         own: None,
         args: Vec::new(alloc),
-    })
+    };
+    run(alloc, call)
 }
 
 // The procedure of the overlaid unit.
-fn called(alloc: Global) -> Stmt {
+fn called(alloc: Global) -> Result<Stmt, AllocError> {
     call_of(alloc, 1)
 }
 
 // OvrInit
 fn installed(alloc: Global, name: &[u8]) -> Result<Stmt, AllocError> {
-    Ok(run(Expr::Call {
+    let call = Expr::Call {
         ty: None,
         routine: RoutineId { unit: 2, number: 0 },
         own: None,
         args: one_value(alloc, text(alloc, name)?)?,
-    }))
+    };
+    run(alloc, call)
 }
 
 fn overlay_result(alloc: Global) -> Result<Stmt, AllocError> {
@@ -166,7 +168,7 @@ fn overlay_result(alloc: Global) -> Result<Stmt, AllocError> {
 
 fn installing(alloc: Global, name: &[u8]) -> Result<Stmt, AllocError> {
     let told = both(alloc, installed(alloc, name)?, overlay_result(alloc)?)?;
-    both(alloc, told, called(alloc))
+    both(alloc, told, called(alloc)?)
 }
 
 fn overlaid_unit(alloc: Global) -> Result<Unit, AllocError> {

@@ -22,7 +22,7 @@ pub enum Callee {
 }
 
 /// A method with the object that it is called on.
-#[derive(Debug, Drop)]
+#[derive(Drop)]
 pub struct BoundMethod<'a> {
     pub header: &'a Header,
     pub callee: Callee,

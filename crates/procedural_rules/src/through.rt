@@ -13,7 +13,7 @@ use typed_tree::{Arg, Expr, PlaceExpr};
 use typing_rules::{Refusal, Rule, broken, definition};
 
 /// Where a routine is held, and the header of what the place may hold.
-#[derive(Debug, Drop)]
+#[derive(Drop)]
 pub struct HeldRoutine<'a> {
     pub header: &'a Header,
     pub place: PlaceExpr,

@@ -2,7 +2,7 @@
 
 ghost use Rattle.std.specs.Prelude.{◌≡◌, map};
 ghost use Rattle.std.specs.Option.{option_map};
-ghost use Rattle.typed_tree.specs.Expressions.{Load, view_expr, view_place};
+ghost use Rattle.typed_tree.specs.Expressions.{Load, view_expr, view_boxed, view_place};
 ghost use Rattle.typed_tree.specs.Statements.{view_written};
 ghost use Rattle.typing_rules.specs.Judgements.{Gives};
 ghost use Rattle.call_rules.specs.Given.{view_handed};
@@ -170,9 +170,9 @@ fn told_number(
     types: &Types,
     place: Place,
     number: Expr,
-    width: Option<Expr>,
+    width: Option<Box<Expr>>,
 ) -> Result<Vec<Arg>, Refusal>
-    ensures { Gives (λ args. map view_handed args.items) result (told_number types.now.types place (view_expr number) (option_map view_expr width)).run }
+    ensures { Gives (λ args. map view_handed args.items) result (told_number types.now.types place (view_expr number) (option_map view_boxed width)).run }
 {
     let mut args = Vec::new(alloc);
     let number = whole(alloc, types, place, number)?;
@@ -180,7 +180,7 @@ fn told_number(
     match width {
         None => {}
         Some(width) => {
-            let width = whole(alloc, types, place, width)?;
+            let width = whole(alloc, types, place, Box::into_inner(width))?;
             args.push(width)?;
         }
     }
@@ -192,10 +192,10 @@ fn told_into(
     types: &Types,
     place: Place,
     number: Expr,
-    width: Option<Expr>,
+    width: Option<Box<Expr>>,
     to: Expr,
 ) -> Result<Expr, Refusal>
-    ensures { Gives view_expr result (told_into types.now.types place (view_expr number) (option_map view_expr width) (view_expr to)).run }
+    ensures { Gives view_expr result (told_into types.now.types place (view_expr number) (option_map view_boxed width) (view_expr to)).run }
 {
     let mut args = told_number(alloc, types, place, number, width)?;
     let to = variable(types, place, Slot::Line, to)?;
@@ -219,7 +219,17 @@ pub fn told(
     ensures { Gives view_expr result (told types.now.types place (view_written one) (view_written to)).run }
 {
     match to.width {
-        None => told_into(alloc, types, place, one.value, one.width, to.value),
+        None => {
+            let number = Box::into_inner(one.value);
+            told_into(
+                alloc,
+                types,
+                place,
+                number,
+                one.width,
+                Box::into_inner(to.value),
+            )
+        }
         Some(_) => Err(Refusal::Because(broken(place, Rule::Called))),
     }
 }

@@ -33,7 +33,7 @@ fn place_between(out: &mut Line, before: &str, place: &PlaceExpr, behind: &str) 
     put(out, behind);
 }
 
-fn show_width(out: &mut Line, width: Option<&Expr>) {
+fn show_width(out: &mut Line, width: &Option<Box<Expr>>) {
     match width {
         Some(width) => show_between(out, " : ", width, ")"),
         None => put(out, ")"),
@@ -44,7 +44,7 @@ fn show_items(out: &mut Line, items: &[WriteItem], line: bool) {
     put_either(out, line, "writeln", "write");
     for item in items {
         show_between(out, " (", &item.value, "");
-        show_width(out, item.width.as_ref());
+        show_width(out, &item.width);
     }
 }
 

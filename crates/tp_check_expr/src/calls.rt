@@ -25,7 +25,7 @@ use typing_rules::{Refusal, Rule, broken, loaded, not_yet, selected, undeclared}
 
 /// What stands before arguments: what is declared under a name; a method with its object; a variable that holds a routine; or a
 /// constructor for a new block, behind a pointer type in a New.
-#[derive(Debug, Drop)]
+#[derive(Drop)]
 pub enum CallTarget<'a> {
     Declared(&'a Entry),
     Method(BoundMethod<'a>),

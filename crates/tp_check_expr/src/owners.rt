@@ -21,7 +21,7 @@ use typed_tree::{Expr, PlaceExpr, Variable};
 use typing_rules::{Refusal, Rule, broken, loaded, not_yet};
 
 /// The variable Self that is known: the object of a method, and the block in which it is declared.
-#[derive(Debug, Drop)]
+#[derive(Drop)]
 pub(crate) struct Instance {
     pub block: u32,
     pub class: TypeId,

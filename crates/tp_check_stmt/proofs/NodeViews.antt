@@ -20,6 +20,6 @@ arms_viewed (one ∷ rest) = ap (λ (z : Arms). Branch one.labels.items (view_st
 pub block_viewed : (all : Vec Stmt Global) → view_stmt (stmt.Block all) ≡ block_of (map view_stmt all.items)
 block_viewed all = view_block all ∙ ap (λ (z : Statements). Block z) (statements_viewed all.items)
 
-pub case_viewed : (selector : Expr) (arms : Vec Arm Global) (other : Box Stmt Global)
-    → view_stmt (stmt.Case selector arms other) ≡ Case (view_expr selector) (arms_of (map view_arm arms.items)) (view_stmt other.value)
-case_viewed selector arms other = view_case selector arms other ∙ ap (λ (z : Arms). Case (view_expr selector) z (view_stmt other.value)) (arms_viewed arms.items)
+pub case_viewed : (selector : Box Expr Global) (arms : Vec Arm Global) (other : Box Stmt Global)
+    → view_stmt (stmt.Case selector arms other) ≡ Case (view_expr selector.value) (arms_of (map view_arm arms.items)) (view_stmt other.value)
+case_viewed selector arms other = view_case selector arms other ∙ ap (λ (z : Arms). Case (view_expr selector.value) z (view_stmt other.value)) (arms_viewed arms.items)

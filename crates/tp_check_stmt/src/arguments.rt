@@ -7,6 +7,7 @@ ghost use Rattle.expression_tree.specs.Trees.{call, begins, view_expression, vie
 ghost use Rattle.typing_rules.specs.Judgements.{Gives};
 ghost use Rattle.tp_check_stmt.specs.Arguments.{view_named, named_call, sized};
 
+use crate::nodes::{plain_item, wide_item};
 use scopes::Scope;
 use std::alloc::Global;
 use syntax_tree::{Argument, Designator, Expression, Factor, Identifier, SimpleExpression, Term};
@@ -81,17 +82,14 @@ pub(crate) fn sized(alloc: Global, argument: &Argument, scope: &Scope) -> Result
     ensures { Gives view_written result (sized scope.now (view_argument argument.now)).run }
 {
     match argument {
-        Argument::Plain(one) => Ok(WriteItem {
-            value: judged_expression(alloc, one, scope)?,
-            width: None,
-        }),
+        Argument::Plain(one) => {
+            let value = judged_expression(alloc, one, scope)?;
+            plain_item(alloc, value)
+        }
         Argument::Wide(one, by) => {
             let value = judged_expression(alloc, one, scope)?;
             let width = judged_expression(alloc, by, scope)?;
-            Ok(WriteItem {
-                value,
-                width: Some(width),
-            })
+            wide_item(alloc, value, width)
         }
     }
 }

@@ -11,6 +11,7 @@ ghost use Rattle.typing_rules.specs.Judgements.{Gives};
 ghost use Rattle.tp_check_stmt.specs.Places.{view_target};
 ghost use Rattle.tp_check_stmt.specs.Assignments.{held_target, is_body_at, is_inside, result_spot, result_target, method_result, is_numbered, method_target, entry_target, meant_target, target, is_structured, stored, assigned_to};
 
+use crate::nodes::{assign_node, copy_node};
 use crate::places::{Target, spot_of};
 use method_rules::{method_in, routine_in};
 use pascal_grammar::Position;
@@ -210,20 +211,20 @@ fn is_structured(one: Option<&TypeDef>) -> bool
     }
 }
 
-fn stored(types: &Types, place: Place, to: Target, value: Expr) -> Result<Stmt, Refusal>
+fn stored(
+    alloc: Global,
+    types: &Types,
+    place: Place,
+    to: Target,
+    value: Expr,
+) -> Result<Stmt, Refusal>
     ensures { Gives view_stmt result (stored types.now.types place (view_target to) (view_expr value)).run }
 {
     if !is_structured(definition(types, to.ty)) {
-        return Ok(Stmt::Assign {
-            place: to.at,
-            value,
-        });
+        return assign_node(alloc, to.at, value);
     }
     match spot_of(value) {
-        Some(from) => Ok(Stmt::CopyAll {
-            to: to.at,
-            from: from.at,
-        }),
+        Some(from) => copy_node(alloc, to.at, from.at),
         None => Err(Refusal::Because(broken(place, Rule::Assigned))),
     }
 }
@@ -240,5 +241,5 @@ pub(crate) fn assigned_to(
 {
     let place = here.place;
     let value = assigned(alloc, types, place, to.ty, here.switches.r, value)?;
-    stored(types, place, to, value)
+    stored(alloc, types, place, to, value)
 }

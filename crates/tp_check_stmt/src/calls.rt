@@ -8,6 +8,7 @@ ghost use Rattle.typing_rules.specs.Judgements.{Gives};
 ghost use Rattle.tp_check_expr.specs.Calls.{view_callable};
 ghost use Rattle.tp_check_stmt.specs.Calls.{performed_entry, run_entry, run_target, run_of};
 
+use crate::nodes::run_node;
 use crate::standard::standard_run;
 use call_rules::performed;
 use method_rules::performed_on;
@@ -39,7 +40,7 @@ fn performed_entry(
         } => {
             let checked = here.switches.r;
             let call = performed(alloc, types, place, checked, *routine, header, values)?;
-            Ok(Stmt::Run { call })
+            run_node(alloc, call)
         }
         _ => Err(Refusal::Because(broken(place, Rule::Stands))),
     }
@@ -81,13 +82,13 @@ fn run_target(
             let params = one.header.params.as_slice();
             let values = operands(alloc, given, params, here, scope)?;
             let call = performed_on(alloc, types, here.place, checked, one, values)?;
-            Ok(Stmt::Run { call })
+            run_node(alloc, call)
         }
         CallTarget::Through(one) => {
             let params = one.header.params.as_slice();
             let values = operands(alloc, given, params, here, scope)?;
             let call = performed_through(alloc, types, here.place, checked, one, values)?;
-            Ok(Stmt::Run { call })
+            run_node(alloc, call)
         }
         CallTarget::Making(..) => Err(Refusal::Because(broken(here.place, Rule::Stands))),
     }

@@ -14,6 +14,7 @@ ghost use Rattle.tp_check_stmt.specs.Standard.{item, written, taken_from, taken_
 use crate::arguments::{SoleCall, named_call, sized};
 use crate::asked::{is_readable, width, written_value};
 use crate::assignments::assigned_to;
+use crate::nodes::{halt_node, plain_item, read_item, run_node, wide_item};
 use crate::places::spot_of;
 use allocation_rules::{destructor_of, unmade};
 use pascal_grammar::Position;
@@ -43,17 +44,14 @@ fn item(alloc: Global, argument: &Argument, scope: &Scope) -> Result<WriteItem, 
     ensures { Gives view_written result (item scope.now (view_argument argument.now)).run }
 {
     match argument {
-        Argument::Plain(one) => Ok(WriteItem {
-            value: written_value(alloc, one, scope)?,
-            width: None,
-        }),
+        Argument::Plain(one) => {
+            let value = written_value(alloc, one, scope)?;
+            plain_item(alloc, value)
+        }
         Argument::Wide(one, by) => {
             let value = written_value(alloc, one, scope)?;
             let width = width(alloc, by, scope)?;
-            Ok(WriteItem {
-                value,
-                width: Some(width),
-            })
+            wide_item(alloc, value, width)
         }
     }
 }
@@ -76,15 +74,19 @@ fn written(alloc: Global, line: bool, given: &[Argument], scope: &Scope) -> Resu
     Ok(Stmt::WriteItems { items, line })
 }
 
-fn taken_from(types: &Types, place: Place, checked: bool, value: Expr) -> Result<ReadItem, Refusal>
+fn taken_from(
+    alloc: Global,
+    types: &Types,
+    place: Place,
+    checked: bool,
+    value: Expr,
+) -> Result<ReadItem, Refusal>
     ensures { Gives view_taken result (taken_from types.now.types place checked (spot_of (view_expr value))).run }
 {
     match spot_of(value) {
-        Some(from) if is_readable(sort_of_type(types, from.ty)) => Ok(ReadItem {
-            place: from.at,
-            ty: from.ty,
-            checked,
-        }),
+        Some(from) if is_readable(sort_of_type(types, from.ty)) => {
+            read_item(alloc, from.at, from.ty, checked)
+        }
         _ => Err(Refusal::Because(broken(place, Rule::Read))),
     }
 }
@@ -100,7 +102,7 @@ fn taken_one(
     match argument {
         Argument::Plain(one) => {
             let value = judged_expression(alloc, one, scope)?;
-            taken_from(scope.types(), place_of(one), here.switches.r, value)
+            taken_from(alloc, scope.types(), place_of(one), here.switches.r, value)
         }
         Argument::Wide(one, by) => {
             let _value = judged_expression(alloc, one, scope)?;
@@ -139,7 +141,7 @@ fn taken(
     Ok(Stmt::ReadItems { items, line })
 }
 
-fn halted(types: &Types, place: Place, values: Vec<Expr>) -> Result<Stmt, Refusal>
+fn halted(alloc: Global, types: &Types, place: Place, values: Vec<Expr>) -> Result<Stmt, Refusal>
     ensures { Gives view_stmt result (halted types.now.types place (map view_expr values.items)).run }
 {
     let mut values = values;
@@ -147,13 +149,14 @@ fn halted(types: &Types, place: Place, values: Vec<Expr>) -> Result<Stmt, Refusa
         return Err(Refusal::Because(broken(place, Rule::Called)));
     }
     match values.pop() {
-        None => Ok(Stmt::Halt {
-            code: Expr::Const {
+        None => halt_node(
+            alloc,
+            Expr::Const {
                 ty: INTEGER,
                 value: Value::Number(0),
             },
-        }),
-        Some(code) if is_integer(sort_of(types, &code)) => Ok(Stmt::Halt { code }),
+        ),
+        Some(code) if is_integer(sort_of(types, &code)) => halt_node(alloc, code),
         Some(_) => Err(Refusal::Because(broken(place, Rule::Called))),
     }
 }
@@ -192,7 +195,7 @@ fn told_pair(
     let one = sized(alloc, one, scope)?;
     let to = sized(alloc, to, scope)?;
     let call = told(alloc, scope.types(), place, one, to)?;
-    Ok(Stmt::Run { call })
+    run_node(alloc, call)
 }
 
 fn told_two(
@@ -267,7 +270,7 @@ fn proceeding(
 {
     let values = operands(alloc, given, &[], here, scope)?;
     let call = standard_performed(alloc, scope.types(), here.place, number, values)?;
-    Ok(Stmt::Run { call })
+    run_node(alloc, call)
 }
 
 // A new block to what an expression loads from.
@@ -444,7 +447,7 @@ fn statement_of(
         StandardStatement::Read(line) => taken(alloc, here, line, given, scope),
         StandardStatement::Halt => {
             let values = operands(alloc, given, &[], here, scope)?;
-            halted(scope.types(), place, values)
+            halted(alloc, scope.types(), place, values)
         }
         StandardStatement::Exit => {
             let values = operands(alloc, given, &[], here, scope)?;

@@ -11,7 +11,12 @@ type Measures = (u64, u64, u64);
 
 fn measured_expr(alloc: Global, code: Expr) -> Result<Measures, AllocError> {
     let slot = slot_of(&sample_types(alloc), &code);
-    let (need, weight) = measured(alloc, Stmt::Halt { code })?;
+    let (need, weight) = measured(
+        alloc,
+        Stmt::Halt {
+            code: Box::new(alloc, code)?,
+        },
+    )?;
     Ok((slot, need, weight.saturating_sub(48)))
 }
 

@@ -7,8 +7,10 @@ use typed_tree::{
     Arm, Destructor, Expr, LabelRange, PlaceExpr, ReadItem, Stmt, Variable, WriteItem,
 };
 
-fn assign(place: PlaceExpr, value: Expr) -> Stmt {
-    Stmt::Assign { place, value }
+fn assign(alloc: Global, place: PlaceExpr, value: Expr) -> Result<Stmt, AllocError> {
+    let place = Box::new(alloc, place)?;
+    let value = Box::new(alloc, value)?;
+    Ok(Stmt::Assign { place, value })
 }
 
 fn body(alloc: Global, stmt: Stmt) -> Result<Box<Stmt>, AllocError> {
@@ -39,24 +41,27 @@ const SIMPLE_STATEMENTS: [(Simple, u64, u64); 7] = [
 
 fn simple_of(alloc: Global, kind: Simple) -> Result<Stmt, AllocError> {
     match kind {
-        Simple::Assign => Ok(assign(variable(1), number(INTEGER, 1))),
-        Simple::AssignTarget => Ok(assign(target(alloc)?, number(LONG, 1))),
+        Simple::Assign => assign(alloc, variable(1), number(INTEGER, 1)),
+        Simple::AssignTarget => assign(alloc, target(alloc)?, number(LONG, 1)),
         Simple::CopyAll => Ok(Stmt::CopyAll {
-            to: variable(1),
-            from: variable(1),
+            to: Box::new(alloc, variable(1))?,
+            from: Box::new(alloc, variable(1))?,
         }),
         Simple::Run => Ok(Stmt::Run {
-            call: Expr::Call {
-                ty: None,
-                routine: ROUTINE,
-                own: None,
-                args: args_of(alloc, number(INTEGER, 1))?,
-            },
+            call: Box::new(
+                alloc,
+                Expr::Call {
+                    ty: None,
+                    routine: ROUTINE,
+                    own: None,
+                    args: args_of(alloc, number(INTEGER, 1))?,
+                },
+            )?,
         }),
-        Simple::Halt => Ok(halt(INTEGER)),
+        Simple::Halt => halt(alloc, INTEGER),
         Simple::Exit => Ok(Stmt::Exit),
         Simple::Unmake => Ok(Stmt::Unmake {
-            pointer: load(alloc, POINTER)?,
+            pointer: Box::new(alloc, load(alloc, POINTER)?)?,
             destructor: Destructor::Routine(ROUTINE),
             args: args_of(alloc, number(INTEGER, 1))?,
         }),
@@ -97,7 +102,7 @@ const STRUCTURED_STATEMENTS: [(Structured, u64, u64); 7] = [
 fn exit_and_halt(alloc: Global) -> Result<Stmt, AllocError> {
     let mut statements = Vec::new(alloc);
     statements.push(Stmt::Exit)?;
-    statements.push(halt(INTEGER))?;
+    statements.push(halt(alloc, INTEGER)?)?;
     Ok(Stmt::Block { statements })
 }
 
@@ -108,7 +113,7 @@ fn first_arm(alloc: Global) -> Result<Arm, AllocError> {
     labels.push(LabelRange { low: 3, high: 4 })?;
     Ok(Arm {
         labels,
-        body: halt(LONG),
+        body: halt(alloc, LONG)?,
     })
 }
 
@@ -127,7 +132,7 @@ fn choice(alloc: Global) -> Result<Stmt, AllocError> {
     arms.push(first_arm(alloc)?)?;
     arms.push(last_arm(alloc)?)?;
     Ok(Stmt::Case {
-        selector: load(alloc, INTEGER)?,
+        selector: Box::new(alloc, load(alloc, INTEGER)?)?,
         arms,
         other: body(alloc, empty(alloc))?,
     })
@@ -142,8 +147,8 @@ fn counted(alloc: Global) -> Result<Stmt, AllocError> {
             number: 0,
         },
         ty: INTEGER,
-        from: number(INTEGER, 1),
-        to: product(alloc)?,
+        from: Box::new(alloc, number(INTEGER, 1))?,
+        to: Box::new(alloc, product(alloc)?)?,
         down: false,
         checked: true,
         body: body(alloc, Stmt::Exit)?,
@@ -153,24 +158,24 @@ fn counted(alloc: Global) -> Result<Stmt, AllocError> {
 fn structured_of(alloc: Global, kind: Structured) -> Result<Stmt, AllocError> {
     match kind {
         Structured::If => Ok(Stmt::If {
-            condition: number(BOOLEAN, 1),
+            condition: Box::new(alloc, number(BOOLEAN, 1))?,
             yes: body(alloc, Stmt::Exit)?,
             no: body(alloc, empty(alloc))?,
         }),
         Structured::While => Ok(Stmt::While {
-            condition: number(BOOLEAN, 1),
-            body: body(alloc, halt(LONG))?,
+            condition: Box::new(alloc, number(BOOLEAN, 1))?,
+            body: body(alloc, halt(alloc, LONG)?)?,
         }),
         Structured::Repeat => Ok(Stmt::Repeat {
-            body: body(alloc, halt(LONG))?,
-            condition: number(BOOLEAN, 1),
+            body: body(alloc, halt(alloc, LONG)?)?,
+            condition: Box::new(alloc, number(BOOLEAN, 1))?,
         }),
         Structured::Block => exit_and_halt(alloc),
         Structured::Case => choice(alloc),
         Structured::For => counted(alloc),
         Structured::With => Ok(Stmt::With {
-            place: variable(1),
-            body: body(alloc, halt(LONG))?,
+            place: Box::new(alloc, variable(1))?,
+            body: body(alloc, halt(alloc, LONG)?)?,
         }),
     }
 }
@@ -204,10 +209,11 @@ const TRANSFERS: [(Transfer, u64, u64); 4] = [
 fn written(alloc: Global) -> Result<Vec<WriteItem>, AllocError> {
     let mut items = Vec::new(alloc);
     let value = text(alloc, b"abc")?;
-    let width = Some(load(alloc, INTEGER)?);
+    let width = Some(Box::new(alloc, load(alloc, INTEGER)?)?);
+    let value = Box::new(alloc, value)?;
     items.push(WriteItem { value, width })?;
     items.push(WriteItem {
-        value: number(LONG, 1),
+        value: Box::new(alloc, number(LONG, 1))?,
         width: None,
     })?;
     Ok(items)
@@ -216,12 +222,12 @@ fn written(alloc: Global) -> Result<Vec<WriteItem>, AllocError> {
 fn taken(alloc: Global) -> Result<Vec<ReadItem>, AllocError> {
     let mut items = Vec::new(alloc);
     items.push(ReadItem {
-        place: variable(1),
+        place: Box::new(alloc, variable(1))?,
         ty: INTEGER,
         checked: true,
     })?;
     items.push(ReadItem {
-        place: element(alloc)?,
+        place: Box::new(alloc, element(alloc)?)?,
         ty: INTEGER,
         checked: false,
     })?;

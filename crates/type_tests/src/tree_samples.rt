@@ -265,10 +265,9 @@ pub(crate) fn product(alloc: Global) -> Result<Expr, AllocError> {
     )
 }
 
-pub(crate) fn halt(ty: TypeId) -> Stmt {
-    Stmt::Halt {
-        code: number(ty, 1),
-    }
+pub(crate) fn halt(alloc: Global, ty: TypeId) -> Result<Stmt, AllocError> {
+    let code = Box::new(alloc, number(ty, 1))?;
+    Ok(Stmt::Halt { code })
 }
 
 /// What a statement needs and weighs.

@@ -11,12 +11,15 @@ use typed_tree::{
 // A call of routine 0 of the unit itself.
 fn call(alloc: Global, argument: Expr) -> Result<Stmt, AllocError> {
     Ok(Stmt::Run {
-        call: Expr::Call {
-            ty: None,
-            routine: ROUTINE,
-            own: None,
-            args: args_of(alloc, argument)?,
-        },
+        call: Box::new(
+            alloc,
+            Expr::Call {
+                ty: None,
+                routine: ROUTINE,
+                own: None,
+                args: args_of(alloc, argument)?,
+            },
+        )?,
     })
 }
 
@@ -27,7 +30,7 @@ fn recursive_body(alloc: Global) -> Result<Stmt, AllocError> {
     let n = load(alloc, INTEGER)?;
     let less = binary(alloc, INTEGER, BinaryOp::Subtract, n, number(INTEGER, 1))?;
     Ok(Stmt::If {
-        condition,
+        condition: Box::new(alloc, condition)?,
         yes: Box::new(alloc, call(alloc, less)?)?,
         no: Box::new(alloc, empty(alloc))?,
     })

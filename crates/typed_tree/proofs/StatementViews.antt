@@ -28,8 +28,8 @@ view_block statements =
     let row = stmts_of (stmt.Block statements) in
     ap (λ (z : Statements). Block z) (stmt_row row.0 row.1 ∙ ap view_stmts (items_hidden-the_row-Stmt-0 statements))
 
-pub view_case : (selector : Expr) (arms : Vec Arm Global) (other : Box Stmt Global)
-    → view_stmt (stmt.Case selector arms other) ≡ Case (view_expr selector) (view_arms arms.items) (view_stmt other.value)
+pub view_case : (selector : Box Expr Global) (arms : Vec Arm Global) (other : Box Stmt Global)
+    → view_stmt (stmt.Case selector arms other) ≡ Case (view_expr selector.value) (view_arms arms.items) (view_stmt other.value)
 view_case selector arms other =
     let row = arms_of (stmt.Case selector arms other) in
-    ap (λ (z : Arms). Case (view_expr selector) z (view_stmt other.value)) (arm_row row.0 row.1 ∙ ap view_arms (items_hidden-the_row-Arm-1 arms))
+    ap (λ (z : Arms). Case (view_expr selector.value) z (view_stmt other.value)) (arm_row row.0 row.1 ∙ ap view_arms (items_hidden-the_row-Arm-1 arms))

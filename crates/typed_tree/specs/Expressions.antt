@@ -97,6 +97,10 @@ abbrev mutual
   view_arg (arg.Value value) rest = ByValue (view_expr value) rest
   view_arg (arg.Place at) rest = ByPlace (view_place at) rest
 
+-- an expression in a box
+abbrev pub view_boxed : Box Expr Global → Expression
+view_boxed held = view_expr held.value
+
 -- the elements of a list
 abbrev pub view_elements : List SetElement → Elements
 view_elements [] = NoElements

@@ -10,7 +10,7 @@ use Rattle.typed_tree.specs.declared.statements.ReadItem.{ReadItem}
 use Rattle.typed_tree.specs.declared.statements.Stmt.{Stmt, Row_of-Stmt, end_of-Stmt, more_of-Stmt, Row_of-Arm, end_of-Arm, more_of-Arm}
 use Rattle.typed_tree.specs.declared.statements.Stmt.TheVariants as stmt
 use Rattle.typed_tree.specs.declared.statements.Arm.{Arm}
-use Rattle.typed_tree.specs.Expressions.{Expression, Place, Arguments, view_expr, view_place, view_args}
+use Rattle.typed_tree.specs.Expressions.{Expression, Place, Arguments, view_expr, view_boxed, view_place, view_args}
 
 -- a value that is written, and its width
 pub record Written : Type 0 where
@@ -50,28 +50,28 @@ mutual
     Branch : List LabelRange → Statement → Arms → Arms
 
 abbrev pub view_written : WriteItem → Written
-view_written item = record { value = view_expr item.value; width = option_map view_expr item.width }
+view_written item = record { value = view_expr item.value.value; width = option_map view_boxed item.width }
 
 abbrev pub view_taken : ReadItem → Taken
-view_taken item = record { at = view_place item.place; ty = item.ty; checked = item.checked }
+view_taken item = record { at = view_place item.place.value; ty = item.ty; checked = item.checked }
 
 abbrev mutual
   pub view_stmt : Stmt → Statement
-  view_stmt (stmt.Assign place value) = Assign (view_place place) (view_expr value)
-  view_stmt (stmt.CopyAll to from) = CopyAll (view_place to) (view_place from)
-  view_stmt (stmt.Run call) = Run (view_expr call)
-  view_stmt (stmt.If' condition p taken q otherwise) = If (view_expr condition) (view_stmt taken) (view_stmt otherwise)
-  view_stmt (stmt.While' condition p body) = While (view_expr condition) (view_stmt body)
-  view_stmt (stmt.Repeat' p body condition) = Repeat (view_stmt body) (view_expr condition)
+  view_stmt (stmt.Assign place value) = Assign (view_place place.value) (view_expr value.value)
+  view_stmt (stmt.CopyAll to from) = CopyAll (view_place to.value) (view_place from.value)
+  view_stmt (stmt.Run call) = Run (view_expr call.value)
+  view_stmt (stmt.If' condition p taken q otherwise) = If (view_expr condition.value) (view_stmt taken) (view_stmt otherwise)
+  view_stmt (stmt.While' condition p body) = While (view_expr condition.value) (view_stmt body)
+  view_stmt (stmt.Repeat' p body condition) = Repeat (view_stmt body) (view_expr condition.value)
   view_stmt (stmt.Block' shape statements) = Block (view_stmt_row statements)
-  view_stmt (stmt.Case' selector shape arms p other) = Case (view_expr selector) (view_arm_row arms) (view_stmt other)
-  view_stmt (stmt.For' variable ty from to down checked p body) = For variable ty (view_expr from) (view_expr to) down checked (view_stmt body)
-  view_stmt (stmt.With' place p body) = With (view_place place) (view_stmt body)
+  view_stmt (stmt.Case' selector shape arms p other) = Case (view_expr selector.value) (view_arm_row arms) (view_stmt other)
+  view_stmt (stmt.For' variable ty from to down checked p body) = For variable ty (view_expr from.value) (view_expr to.value) down checked (view_stmt body)
+  view_stmt (stmt.With' place p body) = With (view_place place.value) (view_stmt body)
   view_stmt (stmt.WriteItems items line) = WriteItems (map view_written items.items) line
   view_stmt (stmt.ReadItems items line) = ReadItems (map view_taken items.items) line
-  view_stmt (stmt.Halt code) = Halt (view_expr code)
+  view_stmt (stmt.Halt code) = Halt (view_expr code.value)
   view_stmt stmt.Exit = Exit
-  view_stmt (stmt.Unmake pointer destructor args) = Unmake (view_expr pointer) destructor (view_args args.items)
+  view_stmt (stmt.Unmake pointer destructor args) = Unmake (view_expr pointer.value) destructor (view_args args.items)
 
   pub view_stmt_row : {n : _} → Row_of-Stmt n → Statements
   view_stmt_row end_of-Stmt = NoStatements

@@ -54,7 +54,7 @@ pub enum BinaryOp {
 
 /// An expression with its type. The type of a call is that of its result, which a procedure does not have.
 #[cycle(expression)]
-#[derive(Debug, Drop)]
+#[derive(Drop)]
 pub enum Expr {
     Const {
         ty: TypeId,
@@ -136,7 +136,7 @@ pub enum Expr {
 
 /// A place in memory.
 #[cycle(expression)]
-#[derive(Debug, Drop)]
+#[derive(Drop)]
 pub enum PlaceExpr {
     Var(Variable),
     Deref {
@@ -155,7 +155,7 @@ pub enum PlaceExpr {
 
 /// What a set constructor lists: an ordinal, or all from one to another.
 #[cycle(expression)]
-#[derive(Debug, Drop)]
+#[derive(Drop)]
 pub enum SetElement {
     One(Expr),
     Span(Expr, Expr),
@@ -163,7 +163,7 @@ pub enum SetElement {
 
 /// An argument: a value, or the place that a `var` parameter takes.
 #[cycle(expression)]
-#[derive(Debug, Drop)]
+#[derive(Drop)]
 pub enum Arg {
     Value(Expr),
     Place(PlaceExpr),

@@ -2,7 +2,7 @@
 
 ghost use Rattle.std.specs.Prelude.{◌≡◌, map};
 ghost use Rattle.std.specs.Option.{option_map};
-ghost use Rattle.typed_tree.specs.Expressions.{view_expr};
+ghost use Rattle.typed_tree.specs.Expressions.{view_boxed};
 ghost use Rattle.typed_tree.specs.Statements.{view_stmt, view_stmts, view_arms, view_written, view_taken};
 ghost use Rattle.typed_tree.specs.Slots.{capped};
 ghost use Rattle.typed_tree.specs.Needs.{width_need, written_need, taken_need, statement_need, statements_need, arms_need};
@@ -12,8 +12,8 @@ use crate::slots::{is_var, slot_of, slot_of_type};
 use crate::{Arm, Expr, ReadItem, Stmt, WriteItem};
 use type_layout::Types;
 
-fn need_of_width(types: &Types, slot: u64, width: &Option<Expr>) -> u64
-    ensures { result ≡ capped (width_need types.now.types slot (option_map view_expr width.now)) }
+fn need_of_width(types: &Types, slot: u64, width: &Option<Box<Expr>>) -> u64
+    ensures { result ≡ capped (width_need types.now.types slot (option_map view_boxed width.now)) }
 {
     match width {
         None => 0,

@@ -2,7 +2,7 @@
 
 ghost use Rattle.std.specs.Prelude.{◌≡◌, map};
 ghost use Rattle.std.specs.Option.{option_map};
-ghost use Rattle.typed_tree.specs.Expressions.{view_expr};
+ghost use Rattle.typed_tree.specs.Expressions.{view_boxed};
 ghost use Rattle.typed_tree.specs.Statements.{view_stmt, view_stmts, view_arms, view_written, view_taken};
 ghost use Rattle.typed_tree.specs.Slots.{capped};
 ghost use Rattle.typed_tree.specs.Weights.{width_weight, written_weight, taken_weight, statement_weight, statements_weight, arms_weight, labels_weight};
@@ -10,8 +10,8 @@ ghost use Rattle.typed_tree.specs.Weights.{width_weight, written_weight, taken_w
 use crate::weights::{weight_of_args, weight_of_expr, weight_of_place};
 use crate::{Arm, Expr, LabelRange, ReadItem, Stmt, WriteItem};
 
-fn weight_of_width(width: &Option<Expr>) -> u64
-    ensures { result ≡ capped (width_weight (option_map view_expr width.now)) }
+fn weight_of_width(width: &Option<Box<Expr>>) -> u64
+    ensures { result ≡ capped (width_weight (option_map view_boxed width.now)) }
 {
     match width {
         None => 0,

@@ -19,54 +19,54 @@ pub enum Destructor {
 }
 
 /// A value that is written, and its width.
-#[derive(Debug, Drop)]
+#[derive(Drop)]
 pub struct WriteItem {
-    pub value: Expr,
-    pub width: Option<Expr>,
+    pub value: Box<Expr>,
+    pub width: Option<Box<Expr>>,
 }
 
 /// A place that is read, and its type. With `checked`, a number outside the bounds of the type is error 201.
-#[derive(Debug, Drop)]
+#[derive(Drop)]
 pub struct ReadItem {
-    pub place: PlaceExpr,
+    pub place: Box<PlaceExpr>,
     pub ty: TypeId,
     pub checked: bool,
 }
 
 /// A statement. One that is missing is a `Block` of none.
 #[cycle(statement)]
-#[derive(Debug, Drop)]
+#[derive(Drop)]
 pub enum Stmt {
     Assign {
-        place: PlaceExpr,
-        value: Expr,
+        place: Box<PlaceExpr>,
+        value: Box<Expr>,
     },
     /// A record, array or object from one place to another.
     CopyAll {
-        to: PlaceExpr,
-        from: PlaceExpr,
+        to: Box<PlaceExpr>,
+        from: Box<PlaceExpr>,
     },
     Run {
-        call: Expr,
+        call: Box<Expr>,
     },
     If {
-        condition: Expr,
+        condition: Box<Expr>,
         yes: Box<Stmt>,
         no: Box<Stmt>,
     },
     While {
-        condition: Expr,
+        condition: Box<Expr>,
         body: Box<Stmt>,
     },
     Repeat {
         body: Box<Stmt>,
-        condition: Expr,
+        condition: Box<Expr>,
     },
     Block {
         statements: Vec<Stmt>,
     },
     Case {
-        selector: Expr,
+        selector: Box<Expr>,
         arms: Vec<Arm>,
         other: Box<Stmt>,
     },
@@ -74,14 +74,14 @@ pub enum Stmt {
     For {
         variable: Variable,
         ty: TypeId,
-        from: Expr,
-        to: Expr,
+        from: Box<Expr>,
+        to: Box<Expr>,
         down: bool,
         checked: bool,
         body: Box<Stmt>,
     },
     With {
-        place: PlaceExpr,
+        place: Box<PlaceExpr>,
         body: Box<Stmt>,
     },
     /// With `line`, the end of the line follows.
@@ -95,12 +95,12 @@ pub enum Stmt {
         line: bool,
     },
     Halt {
-        code: Expr,
+        code: Box<Expr>,
     },
     Exit,
     /// Calls a destructor on a block and frees it.
     Unmake {
-        pointer: Expr,
+        pointer: Box<Expr>,
         destructor: Destructor,
         args: Vec<Arg>,
     },
@@ -108,7 +108,7 @@ pub enum Stmt {
 
 /// A branch of a `case`.
 #[cycle(statement)]
-#[derive(Debug, Drop)]
+#[derive(Drop)]
 pub struct Arm {
     pub labels: Vec<LabelRange>,
     pub body: Stmt,

@@ -12,7 +12,7 @@ pub struct Global {
 
 /// A routine, method, main part or initialisation part. `outer` is the number of the routine round it, `owner` the
 /// object type of a method, and `locals` has the types of the variables that it declares itself.
-#[derive(Debug, Drop)]
+#[derive(Drop)]
 pub struct Routine {
     pub name: Name,
     pub header: Header,
@@ -67,7 +67,7 @@ pub type Units = Sequence<Unit>;
 /// that its nodes refer to; the `unit` of a node is a place in it. `items` are those of the interface part, none in
 /// a program. `initial` is the number of the main or initialisation part, `uses` the units of the clauses, and
 /// `overlaid` the units that a program overlays. `stack` and `heap` are in bytes.
-#[derive(Debug, Drop)]
+#[derive(Drop)]
 pub struct Unit {
     pub name: Name,
     pub names: Names,
@@ -84,7 +84,7 @@ pub struct Unit {
 }
 
 /// The units of a program in order of initialisation, and the place of the program itself among them.
-#[derive(Debug, Drop)]
+#[derive(Drop)]
 pub struct Program {
     pub units: Units,
     pub start: u32,

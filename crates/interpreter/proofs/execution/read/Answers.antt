@@ -16,4 +16,4 @@ returns-in-empty c =
 pub returns-in-len1-up : goal.returns-in-len1-up
 returns-in-len1-up c =
     let s = view_run c.args.run.now in
-    λ p. rw (cons_of c.args.items.now c.item-item.result c.in-len1-up.len_at_least c.item-item.is) (rw three_binds (c.locate.ensures p s))
+    λ p. rw (cons_of c.args.items.now c.item-item.result c.in-len1-up.len_at_least c.item-item.is) (rw three_binds (rw c.deref.ensures at (c.locate.ensures p s)))

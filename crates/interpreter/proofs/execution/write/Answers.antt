@@ -17,9 +17,9 @@ pub returns-in_err-sort-in-len1-up : goal.returns-in_err-sort-in-len1-up
 returns-in_err-sort-in-len1-up c =
     let s = view_run c.args.run.now in
     let q = err_from_is_err_and c.from_residual.result c.from_residual.ensures.1 in
-    λ p. rw (q.1, q.2, cons_of c.args.items.now c.item-item.result c.in-len1-up.len_at_least c.item-item.is) (ends_three c.in_err-sort-in-len1-up.field-0.0 s _ _ _ _ (c.in_err-sort-in-len1-up.ensures s))
+    λ p. rw (q.1, q.2, cons_of c.args.items.now c.item-item.result c.in-len1-up.len_at_least c.item-item.is) (ends_three c.in_err-sort-in-len1-up.field-0.0 s _ _ _ _ (rw c.deref.ensures at (c.in_err-sort-in-len1-up.ensures s)))
 
 pub returns-in_ok-sort-in-len1-up : goal.returns-in_ok-sort-in-len1-up
 returns-in_ok-sort-in-len1-up c =
     let s = view_run c.args.run.now in
-    λ p. rw (cons_of c.args.items.now c.item-item.result c.in-len1-up.len_at_least c.item-item.is) (moves_found2 p _ _ s _ _ _ _ _ (c.in_ok-sort-in-len1-up.ensures s) (rw three_binds (c.evaluate.ensures p s)))
+    λ p. rw (cons_of c.args.items.now c.item-item.result c.in-len1-up.len_at_least c.item-item.is) (moves_found2 p _ _ s _ _ _ _ _ (rw c.deref.ensures at (c.in_ok-sort-in-len1-up.ensures s)) (rw three_binds (rw c.deref-2.ensures at (c.evaluate.ensures p s))))

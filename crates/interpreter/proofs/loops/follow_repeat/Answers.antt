@@ -11,7 +11,7 @@ use Rattle.interpreter.proofs.loops.follow_repeat.Goals as goal
 
 pub returns-in-Next : goal.returns-in-Next
 returns-in-Next c =
-    λ p s. rw c.in-Next.is (rw four_binds (c.evaluate.ensures p s))
+    λ p s. rw c.in-Next.is (rw four_binds (rw c.deref.ensures at (c.evaluate.ensures p s)))
 
 pub returns-in-Left : goal.returns-in-Left
 returns-in-Left c =

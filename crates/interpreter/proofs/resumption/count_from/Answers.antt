@@ -16,4 +16,4 @@ returns-in_err-first c =
 
 pub returns : goal.returns
 returns c =
-    λ p s. moves_found p _ _ s _ _ _ _ (c.in_ok-first.ensures s) (let first : to_z w32 (of_z w32 c.in_ok-first.first) ≡ c.in_ok-first.first = search rules in rw three_binds (rw first at (c.evaluate.ensures p s)))
+    λ p s. moves_found p _ _ s _ _ _ _ (c.in_ok-first.ensures s) (let first : to_z w32 (of_z w32 c.in_ok-first.first) ≡ c.in_ok-first.first = search rules in rw three_binds (rw (c.deref.ensures, first) at (c.evaluate.ensures p s)))

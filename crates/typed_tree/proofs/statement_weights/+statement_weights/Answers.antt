@@ -13,8 +13,9 @@ weight_of_stmt-returns-in-Block t c =
 
 pub weight_of_stmt-returns-in-Case : goal.weight_of_stmt-returns-in-Case
 weight_of_stmt-returns-in-Case t c =
-    let e : view_stmt c.args.stmt.now ≡ Case (view_expr c.in-Case.selector) (view_arms c.in-Case.arms.items) (view_stmt c.in-Case.other.value) =
+    let e : view_stmt c.args.stmt.now ≡ Case (view_expr c.in-Case.selector.value) (view_arms c.in-Case.arms.items) (view_stmt c.in-Case.other.value) =
     ap view_stmt c.in-Case.is ∙ view_case c.in-Case.selector c.in-Case.arms c.in-Case.other in
     let arms = rw c.as_slice-in-Case.ensures.value at c.weight_of_arms.ensures in
     let other = rw c.deref-in-Case.ensures at c.weight_of_stmt-in-Case.ensures in
+    let selector = rw c.deref-in-Case-2.ensures at c.weight_of_expr-in-Case.ensures in
     rw e (omega arith)

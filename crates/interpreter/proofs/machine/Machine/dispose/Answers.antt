@@ -35,7 +35,7 @@ returns-in_err-at c =
     let f = view_activation c.args.work.now.f in
     let k : Flow → Does Value = λ flow. (rest_of p c.args.work.now).flow flow f in
     let q = err_from_is_err_and c.from_residual.result c.from_residual.ensures.1 in
-    rw (q.1, q.2) (ends_disposed c.in_err-at.field-0.0 p f (view_expr c.args.pointer.now) c.args.destructor (view_args c.args.args.now) (view_value c.args.value.now) k s c.in_err-at.ensures)
+    rw (q.1, q.2) (ends_disposed c.in_err-at.field-0.0 p f (view_expr c.args.pointer.now.value) c.args.destructor (view_args c.args.args.now) (view_value c.args.value.now) k s (rw c.deref.ensures at c.in_err-at.ensures))
 
 pub returns : goal.returns
 returns c =
@@ -45,6 +45,6 @@ returns c =
     let k : Flow → Does Value = λ flow. (rest_of p c.args.work.now).flow flow f in
     let args = view_args c.args.args.now in
     let at : Reached = view_reached c.in_ok-at.at in
-    moves_disposed p c.argue.result c.argue.new.work (view_run c.argue.new.run) f (view_expr c.args.pointer.now) c.args.destructor args (view_value c.args.value.now) at k s c.in_ok-at.ensures
+    moves_disposed p c.argue.result c.argue.new.work (view_run c.argue.new.run) f (view_expr c.args.pointer.now.value) c.args.destructor args (view_value c.args.value.now) at k s (rw c.deref.ensures at c.in_ok-at.ensures)
     (moves1 p c.argue.result c.argue.new.work (view_run c.argue.new.run) (operands p (run p) f args s) (λ xs. freed p (run p) f c.args.destructor xs at.spot.object at) k
     (argued_alone p c.argue.result c.argue.new.work (view_run c.argue.new.run) s (rest_of p c.args.work.now) (callable.Destructor c.in_ok-at.at c.args.destructor) c.new.result.items f (operands p (run p) f args) c.new.ensures.items c.argue.ensures))

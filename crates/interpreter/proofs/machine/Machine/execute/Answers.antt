@@ -13,28 +13,28 @@ returns-in-Assign c =
     let p = program_of c.args.self.now.steps in
     let s = view_run c.args.run.now in
     let e = ap view_stmt c.in-Assign.is in
-    rw e (rw two_binds (c.locate.ensures p s))
+    rw e (rw two_binds (rw c.deref.ensures at (c.locate.ensures p s)))
 
 pub returns-in-CopyAll : goal.returns-in-CopyAll
 returns-in-CopyAll c =
     let p = program_of c.args.self.now.steps in
     let s = view_run c.args.run.now in
     let e = ap view_stmt c.in-CopyAll.is in
-    rw e (rw two_binds (c.locate-in-CopyAll.ensures p s))
+    rw e (rw two_binds (rw c.deref-in-CopyAll.ensures at (c.locate-in-CopyAll.ensures p s)))
 
 pub returns-in-Run : goal.returns-in-Run
 returns-in-Run c =
     let p = program_of c.args.self.now.steps in
     let s = view_run c.args.run.now in
     let e = ap view_stmt c.in-Run.is in
-    rw e (rw two_binds (c.evaluate.ensures p s))
+    rw e (rw two_binds (rw c.deref-in-Run.ensures at (c.evaluate.ensures p s)))
 
 pub returns-in-If : goal.returns-in-If
 returns-in-If c =
     let p = program_of c.args.self.now.steps in
     let s = view_run c.args.run.now in
     let e = ap view_stmt c.in-If.is in
-    rw e (rw four_binds (c.evaluate-in-If.ensures p s))
+    rw e (rw four_binds (rw c.deref-in-If.ensures at (c.evaluate-in-If.ensures p s)))
 
 pub returns-in-While : goal.returns-in-While
 returns-in-While c =
@@ -62,21 +62,21 @@ returns-in-Case c =
     let p = program_of c.args.self.now.steps in
     let s = view_run c.args.run.now in
     let e = ap view_stmt c.in-Case.is ∙ view_case c.in-Case.selector c.in-Case.arms c.in-Case.other in
-    rw e (rw three_binds (rw c.as_slice-in-Case.ensures.value at (c.evaluate-in-Case.ensures p s)))
+    rw e (rw three_binds (rw (c.deref-in-Case.ensures, c.as_slice-in-Case.ensures.value) at (c.evaluate-in-Case.ensures p s)))
 
 pub returns-in-For : goal.returns-in-For
 returns-in-For c =
     let p = program_of c.args.self.now.steps in
     let s = view_run c.args.run.now in
     let e = ap view_stmt c.in-For.is in
-    rw e (rw three_binds (c.evaluate-in-For.ensures p s))
+    rw e (rw three_binds (rw c.deref-in-For.ensures at (c.evaluate-in-For.ensures p s)))
 
 pub returns-in-With : goal.returns-in-With
 returns-in-With c =
     let p = program_of c.args.self.now.steps in
     let s = view_run c.args.run.now in
     let e = ap view_stmt c.in-With.is in
-    rw e (rw two_binds (c.locate-in-With.ensures p s))
+    rw e (rw two_binds (rw c.deref-in-With.ensures at (c.locate-in-With.ensures p s)))
 
 pub returns-in-WriteItems : goal.returns-in-WriteItems
 returns-in-WriteItems c =
@@ -97,11 +97,11 @@ returns-in-Halt c =
     let p = program_of c.args.self.now.steps in
     let s = view_run c.args.run.now in
     let e = ap view_stmt c.in-Halt.is in
-    rw e (rw three_binds (c.evaluate-in-Halt.ensures p s))
+    rw e (rw three_binds (rw c.deref-in-Halt.ensures at (c.evaluate-in-Halt.ensures p s)))
 
 pub returns-in-Unmake : goal.returns-in-Unmake
 returns-in-Unmake c =
     let p = program_of c.args.self.now.steps in
     let s = view_run c.args.run.now in
     let e = ap view_stmt c.in-Unmake.is in
-    rw e (rw two_binds (rw c.as_slice-in-Unmake.ensures.value at (c.evaluate-in-Unmake.ensures p s)))
+    rw e (rw two_binds (rw (c.deref-in-Unmake.ensures, c.as_slice-in-Unmake.ensures.value) at (c.evaluate-in-Unmake.ensures p s)))

@@ -58,14 +58,14 @@ returns-in-AssignTo c =
     let p = program_of c.args.self.now.steps in
     let s = view_run c.args.run.now in
     let w = c.args.work.now in
-    rw c.in-AssignTo.is (rw two_binds (c.evaluate-in-AssignTo.ensures p s))
+    rw c.in-AssignTo.is (rw two_binds (rw c.deref-in-AssignTo.ensures at (c.evaluate-in-AssignTo.ensures p s)))
 
 pub returns-in-CopyTo : goal.returns-in-CopyTo
 returns-in-CopyTo c =
     let p = program_of c.args.self.now.steps in
     let s = view_run c.args.run.now in
     let w = c.args.work.now in
-    rw c.in-CopyTo.is (rw two_binds (c.locate.ensures p s))
+    rw c.in-CopyTo.is (rw two_binds (rw c.deref-in-CopyTo.ensures at (c.locate.ensures p s)))
 
 pub returns-in-CopyFrom : goal.returns-in-CopyFrom
 returns-in-CopyFrom c =

@@ -17,4 +17,4 @@ pub returns : goal.returns
 returns c =
     let p = program_of c.args.self.now.steps in
     let s = view_run c.args.run.now in
-    rw c.in-Some.is (rw four_binds (c.evaluate.ensures p s))
+    rw c.in-Some.is (rw four_binds (rw c.deref.ensures at (c.evaluate.ensures p s)))
