@@ -5,6 +5,7 @@ ghost use Rattle.expression_parser.specs.Gives.{Gives};
 ghost use Rattle.statement_parser.specs.Reading.{named_statement_at, named_with, after_at, called_at, designator_at};
 
 use crate::front::{BehindArguments, BehindDesignator, behind_arguments, behind_designator};
+use crate::node::{assignment_node, bare_call_node, call_node};
 use expression_parser::{ReadError, read_arguments, read_designator, read_expression, skip};
 use pascal_grammar::{Kind, Lexeme, Omission};
 use std::alloc::Global;
@@ -36,14 +37,10 @@ fn next_after(
         BehindDesignator::Becomes => {
             let rest = skip(lexemes, Kind::Becomes)?;
             let (value, rest) = read_expression(alloc, depth, rest)?;
-            let assignment = Statement::Assignment {
-                target: designator,
-                value,
-            };
-            Ok((assignment, rest))
+            Ok((assignment_node(alloc, designator, value)?, rest))
         }
         BehindDesignator::Arguments => next_call(alloc, depth, designator, lexemes),
-        BehindDesignator::Nothing => Ok((Statement::BareCall { callee: designator }, lexemes)),
+        BehindDesignator::Nothing => Ok((bare_call_node(alloc, designator)?, lexemes)),
     }
 }
 
@@ -62,7 +59,7 @@ fn next_call(
         BehindArguments::Caret => Err(ReadError::LeftOut(Omission::DereferencedCast, rest.len())),
         BehindArguments::Dot => Err(ReadError::LeftOut(Omission::SelectedCast, rest.len())),
         BehindArguments::Bracket => Err(ReadError::LeftOut(Omission::IndexedCast, rest.len())),
-        BehindArguments::Nothing => Ok((Statement::ProcedureCall { callee, arguments }, rest)),
+        BehindArguments::Nothing => Ok((call_node(alloc, callee, arguments)?, rest)),
     }
 }
 

@@ -1,18 +1,53 @@
 //! Nodes that hold other nodes.
 
 ghost use Rattle.std.specs.Prelude.{◌≡◌, IfErr, IfOk, List, [], ◌∷◌};
-ghost use Rattle.pascal_grammar.specs.Productions.{compound_statement, if_statement, with_else, while_statement, for_statement, with_statement, with_body, next_designator};
+ghost use Rattle.pascal_grammar.specs.Productions.{assignment, no_arguments, called, no_more_arguments, no_cast, compound_statement, if_statement, with_else, while_statement, for_statement, with_statement, with_body, next_designator};
 ghost use Rattle.syntax_tree.specs.Expressions.{of, word, mark_at, name_of, of_expression};
-ghost use Rattle.syntax_tree.specs.Statements.{of_statement, compound_of, of_else, of_with, designator_of, direction_of};
+ghost use Rattle.syntax_tree.specs.Statements.{of_statement, named_of, arguments_of, compound_of, of_else, of_with, designator_of, direction_of};
 ghost use Rattle.expression_parser.specs.declared.error.ReadError.TheVariants.{NoMemory};
 
 use expression_parser::ReadError;
 use pascal_grammar::Position;
 use std::alloc::Global;
 use syntax_tree::{
-    CompoundStatement, Designator, ElsePart, Expression, Identifier, PlacedDirection, Statement,
-    WithRest,
+    Argument, CompoundStatement, Designator, ElsePart, Expression, Identifier, PlacedDirection,
+    Statement, WithRest,
 };
+
+/// An assignment.
+pub fn assignment_node(
+    alloc: Global,
+    target: Designator,
+    value: Expression,
+) -> Result<Statement, ReadError>
+    ensures ok { IfOk result (λ x. of_statement x ≡ named_of target (of assignment (word ∷ of_expression value ∷ []))) }
+    ensures err { IfErr result (λ e. e ≡ NoMemory) }
+{
+    let target = Box::new(alloc, target)?;
+    Ok(Statement::Assignment { target, value })
+}
+
+/// A call for which no arguments are written.
+pub fn bare_call_node(alloc: Global, callee: Designator) -> Result<Statement, ReadError>
+    ensures ok { IfOk result (λ x. of_statement x ≡ named_of callee (of no_arguments [])) }
+    ensures err { IfErr result (λ e. e ≡ NoMemory) }
+{
+    let callee = Box::new(alloc, callee)?;
+    Ok(Statement::BareCall { callee })
+}
+
+/// A call with arguments.
+pub fn call_node(
+    alloc: Global,
+    callee: Designator,
+    arguments: Vec<Argument>,
+) -> Result<Statement, ReadError>
+    ensures ok { IfOk result (λ x. of_statement x ≡ named_of callee (of called (arguments_of arguments.items (of no_more_arguments []) ∷ of no_cast [] ∷ []))) }
+    ensures err { IfErr result (λ e. e ≡ NoMemory) }
+{
+    let callee = Box::new(alloc, callee)?;
+    Ok(Statement::ProcedureCall { callee, arguments })
+}
 
 /// A compound statement as a statement.
 #[tactic(auto, using(crate::proofs::Rows::compound_is))]
@@ -107,6 +142,7 @@ pub fn with_node(
     ensures ok { IfOk result (λ x. of_statement x ≡ of with_statement (mark_at position ∷ designator_of designator ∷ of_with rest ∷ [])) }
     ensures err { IfErr result (λ e. e ≡ NoMemory) }
 {
+    let designator = Box::new(alloc, designator)?;
     let rest = Box::new(alloc, rest)?;
     Ok(Statement::With {
         position,
@@ -133,6 +169,7 @@ pub fn with_next_node(
     ensures ok { IfOk result (λ x. of_with x ≡ of next_designator (word ∷ designator_of designator ∷ of_with rest ∷ [])) }
     ensures err { IfErr result (λ e. e ≡ NoMemory) }
 {
+    let designator = Box::new(alloc, designator)?;
     let rest = Box::new(alloc, rest)?;
     Ok(WithRest::Next(designator, rest))
 }

@@ -51,16 +51,16 @@ view_label (l.Range low high) = from_to (view_simple low) (view_simple high)
 abbrev mutual
   pub view_statement : Statement → Task
   view_statement s.Empty = empty
-  view_statement (s.Assignment target value) = assignment (begins target) (view_designator target) (view_expression value)
-  view_statement (s.BareCall callee) = run (begins callee) (view_designator callee) no_operands
-  view_statement (s.ProcedureCall callee arguments) = run (begins callee) (view_designator callee) (view_arguments arguments.items)
+  view_statement (s.Assignment target value) = assignment (begins target.value) (view_designator target.value) (view_expression value)
+  view_statement (s.BareCall callee) = run (begins callee.value) (view_designator callee.value) no_operands
+  view_statement (s.ProcedureCall callee arguments) = run (begins callee.value) (view_designator callee.value) (view_arguments arguments.items)
   view_statement (s.Compound' here shape all) = compound (view_statement_row all)
   view_statement (s.If' here condition p body otherwise) = choice here (view_expression condition) (view_statement body) (view_else otherwise)
   view_statement (s.Case' here selector shape arms semicolon otherwise) = selection here (view_expression selector) (view_arm_row arms) (view_case_else otherwise)
   view_statement (s.While' here condition p body) = while_loop here (view_expression condition) (view_statement body)
   view_statement (s.Repeat' here shape all condition) = repeat_loop here (view_statement_row all) (view_expression condition)
   view_statement (s.For' here variable first way last p body) = for_loop here variable.position variable.name (view_expression first) way.direction (view_expression last) (view_statement body)
-  view_statement (s.With' here designator p rest) = opened (begins designator) (view_designator designator) (view_with rest)
+  view_statement (s.With' here designator p rest) = opened (begins designator.value) (view_designator designator.value) (view_with rest)
 
   pub view_statement_row : {n : _} → Row_of-Statement n → Tasks
   view_statement_row end_of-Statement = no_tasks
@@ -76,7 +76,7 @@ abbrev mutual
 
   pub view_with : WithRest → Task
   view_with (w.Body' p one) = view_statement one
-  view_with (w.Next' designator p rest) = opened (begins designator) (view_designator designator) (view_with rest)
+  view_with (w.Next' designator p rest) = opened (begins designator.value) (view_designator designator.value) (view_with rest)
 
   pub view_arm_row : {n : _} → Row_of-CaseArm n → Branches
   view_arm_row end_of-CaseArm = no_branches

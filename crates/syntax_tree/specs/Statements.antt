@@ -78,16 +78,16 @@ arm_of all body = of p.arm (first_label all ∷ other_labels all (of p.no_labels
 abbrev mutual
   pub of_statement : Statement → Parsed
   of_statement s.Empty = of p.empty_statement []
-  of_statement (s.Assignment d i) = named_of d (of p.assignment (word ∷ of_expression i ∷ []))
-  of_statement (s.BareCall d) = named_of d (of p.no_arguments [])
-  of_statement (s.ProcedureCall d all) = named_of d (of p.called (arguments_of all.items (of p.no_more_arguments []) ∷ of p.no_cast [] ∷ []))
+  of_statement (s.Assignment d i) = named_of d.value (of p.assignment (word ∷ of_expression i ∷ []))
+  of_statement (s.BareCall d) = named_of d.value (of p.no_arguments [])
+  of_statement (s.ProcedureCall d all) = named_of d.value (of p.called (arguments_of all.items (of p.no_more_arguments []) ∷ of p.no_cast [] ∷ []))
   of_statement (s.Compound' here shape all) = of p.compound_statement (of p.compound (mark_at here ∷ of_statements all ∷ word ∷ []) ∷ [])
   of_statement (s.If' here i q x y) = of p.if_statement (mark_at here ∷ of_expression i ∷ word ∷ of_statement x ∷ of_else y ∷ [])
   of_statement (s.Case' here i shape arms b y) = of p.case_statement (mark_at here ∷ of_expression i ∷ word ∷ first_arm arms ∷ other_arms arms b ∷ of_case_else y ∷ word ∷ [])
   of_statement (s.While' here i q x) = of p.while_statement (mark_at here ∷ of_expression i ∷ word ∷ of_statement x ∷ [])
   of_statement (s.Repeat' here shape all i) = of p.repeat_statement (mark_at here ∷ of_statements all ∷ word ∷ of_expression i ∷ [])
   of_statement (s.For' here name i way j q x) = of p.for_statement (mark_at here ∷ name_of name ∷ word ∷ of_expression i ∷ direction_of way ∷ of_expression j ∷ word ∷ of_statement x ∷ [])
-  of_statement (s.With' here d q x) = of p.with_statement (mark_at here ∷ designator_of d ∷ of_with x ∷ [])
+  of_statement (s.With' here d q x) = of p.with_statement (mark_at here ∷ designator_of d.value ∷ of_with x ∷ [])
 
   -- no statements at all are spelled by nothing
   pub of_statements : {n : _} → Row_of-Statement n → Parsed
@@ -108,7 +108,7 @@ abbrev mutual
 
   pub of_with : WithRest → Parsed
   of_with (w.Body' q x) = of p.with_body (word ∷ of_statement x ∷ [])
-  of_with (w.Next' d q x) = of p.next_designator (word ∷ designator_of d ∷ of_with x ∷ [])
+  of_with (w.Next' d q x) = of p.next_designator (word ∷ designator_of d.value ∷ of_with x ∷ [])
 
   -- the first arm; no arms at all are spelled by nothing
   pub first_arm : {n : _} → Row_of-CaseArm n → Parsed

@@ -25,16 +25,16 @@ pub struct CompoundStatement {
 pub enum Statement {
     Empty,
     Assignment {
-        target: Designator,
+        target: Box<Designator>,
         value: Expression,
     },
     /// A call for which no arguments are written.
     BareCall {
-        callee: Designator,
+        callee: Box<Designator>,
     },
     /// A call with the arguments in its parentheses, of which there is at least one.
     ProcedureCall {
-        callee: Designator,
+        callee: Box<Designator>,
         arguments: Vec<Argument>,
     },
     Compound(CompoundStatement),
@@ -72,7 +72,7 @@ pub enum Statement {
     },
     With {
         position: Position,
-        designator: Designator,
+        designator: Box<Designator>,
         rest: Box<WithRest>,
     },
 }
@@ -98,7 +98,7 @@ pub enum CaseElse {
 #[derive(Drop)]
 pub enum WithRest {
     Body(Box<Statement>),
-    Next(Designator, Box<WithRest>),
+    Next(Box<Designator>, Box<WithRest>),
 }
 
 /// A label of a `case`.
