@@ -1,5 +1,6 @@
 -- Types as they are written, without where nodes lie in memory.
 use Rattle.std.specs.Prelude.{List, [], ◌∷◌, Option, Some, None}
+use Rattle.std.proofs.Common.{Box, Global}
 use Rattle.type_layout.specs.declared.texts.Place.{Place}
 use Rattle.syntax_tree.specs.declared.expression.SimpleExpression.{SimpleExpression}
 use Rattle.syntax_tree.specs.declared.identifier.Identifier.{Identifier}
@@ -46,9 +47,9 @@ abbrev pub view_target : PointerTarget → Identifier
 view_target (target.Letter i) = i
 view_target (target.Long i) = i
 
-abbrev pub view_string : Place → Option SimpleExpression → Denoter
+abbrev pub view_string : Place → Option (Box SimpleExpression Global) → Denoter
 view_string place None = string
-view_string place (Some size) = sized place (view_simple size)
+view_string place (Some size) = sized place (view_simple size.value)
 
 abbrev pub structured_place : StructuredType → Place
 structured_place (s.Array' here shape indexes p element) = here.place
@@ -58,7 +59,7 @@ structured_place (s.Set' here p element) = here.place
 abbrev mutual
   pub view_denoter : TypeDenoter → Denoter
   view_denoter (t.Name i) = named i
-  view_denoter (t.Range low high) = range (view_simple low) (view_simple high)
+  view_denoter (t.Range low high) = range (view_simple low.value) (view_simple high.value)
   view_denoter (t.Enumeration here names) = enumeration here.place names.items
   view_denoter (t.Pointer here one) = pointer (view_target one)
   view_denoter (t.String here size) = view_string here.place size

@@ -1,8 +1,12 @@
 //! Types that open a construct and hold no type.
 
+ghost use Rattle.std.specs.Prelude.{◌≡◌, IfErr, IfOk, List, [], ◌∷◌};
+ghost use Rattle.pascal_grammar.specs.Productions.{sized};
+ghost use Rattle.syntax_tree.specs.Expressions.{of, word};
+ghost use Rattle.expression_parser.specs.declared.error.ReadError.TheVariants.{NoMemory};
 ghost use Rattle.expression_parser.specs.Gives.{Gives};
 ghost use Rattle.type_parser.specs.Reading.{length_at, ancestor_at, string_at, enumeration_at, procedural_at, functional_at};
-ghost use Rattle.type_tree.specs.Types.{of_type, length_of, ancestor_of};
+ghost use Rattle.type_tree.specs.Types.{of_type, simple_of, length_of, ancestor_of};
 
 use expression_parser::{ReadError, begins, identifier, mark, read_simple, skip};
 use parameter_parser::{deeper, read_identifiers, read_parameters, read_result_type};
@@ -11,13 +15,25 @@ use std::alloc::Global;
 use syntax_tree::{Identifier, SimpleExpression};
 use type_tree::TypeDenoter;
 
+// A length in brackets.
+fn length_node(
+    alloc: Global,
+    length: SimpleExpression,
+) -> Result<Option<Box<SimpleExpression>>, ReadError>
+    ensures ok { IfOk result (λ x. length_of x ≡ of sized (word ∷ simple_of length ∷ word ∷ [])) }
+    ensures err { IfErr result (λ e. e ≡ NoMemory) }
+{
+    let length = Box::new(alloc, length)?;
+    Ok(Some(length))
+}
+
 /// The length of a string in brackets, if it stands there, and what stands behind it.
 #[tactic(auto, unfolding(crate::specs::Reading::length_by))]
 fn string_length(
     alloc: Global,
     depth: u32,
     lexemes: &[Lexeme],
-) -> Result<(Option<SimpleExpression>, &[Lexeme]), ReadError>
+) -> Result<(Option<Box<SimpleExpression>>, &[Lexeme]), ReadError>
     ensures gives { Gives (λ x. (length_of x.0, x.1.now)) result (length_at depth lexemes.now) }
 {
     if !begins(lexemes, Kind::OpenBracket) {
@@ -27,7 +43,7 @@ fn string_length(
     let rest = skip(lexemes, Kind::OpenBracket)?;
     let (length, rest) = read_simple(alloc, inner, rest)?;
     let rest = skip(rest, Kind::CloseBracket)?;
-    Ok((Some(length), rest))
+    Ok((length_node(alloc, length)?, rest))
 }
 
 /// The ancestor of an object type in parentheses, if it stands there, and what stands behind it.

@@ -1,15 +1,34 @@
 //! Names, subranges and pointers.
 
+ghost use Rattle.std.specs.Prelude.{◌≡◌, IfErr, IfOk, List, [], ◌∷◌};
+ghost use Rattle.syntax_tree.specs.Expressions.{word};
+ghost use Rattle.expression_parser.specs.declared.error.ReadError.TheVariants.{NoMemory};
 ghost use Rattle.expression_parser.specs.Gives.{Gives};
 ghost use Rattle.type_parser.specs.Reading.{range_at, named_type_at, letter_type_at, caret_type_at};
-ghost use Rattle.type_tree.specs.Types.{of_type};
+ghost use Rattle.type_tree.specs.Regrouped.{range_of};
+ghost use Rattle.type_tree.specs.Types.{of_type, simple_of};
 
 use crate::front::{BehindName, behind_caret, behind_name};
 use crate::lexemes::long_identifier;
 use expression_parser::{ReadError, begins, identifier, letter, mark, read_simple, skip, tail};
 use pascal_grammar::{Kind, Lexeme, Omission};
 use std::alloc::Global;
+use syntax_tree::SimpleExpression;
 use type_tree::{PointerTarget, TypeDenoter};
+
+// A subrange.
+fn range_node(
+    alloc: Global,
+    low: SimpleExpression,
+    high: SimpleExpression,
+) -> Result<TypeDenoter, ReadError>
+    ensures ok { IfOk result (λ x. of_type x ≡ range_of (simple_of low) (word ∷ simple_of high ∷ [])) }
+    ensures err { IfErr result (λ e. e ≡ NoMemory) }
+{
+    let low = Box::new(alloc, low)?;
+    let high = Box::new(alloc, high)?;
+    Ok(TypeDenoter::Range(low, high))
+}
 
 /// The subrange that stands there, and what stands behind it.
 #[tactic(auto, unfolding(crate::specs::Reading::range_at))]
@@ -23,7 +42,7 @@ pub fn range(
     let (low, rest) = read_simple(alloc, depth, lexemes)?;
     let rest = skip(rest, Kind::Dots)?;
     let (high, rest) = read_simple(alloc, depth, rest)?;
-    Ok((TypeDenoter::Range(low, high), rest))
+    Ok((range_node(alloc, low, high)?, rest))
 }
 
 /// The type that begins with a name, and what stands behind it.

@@ -1,5 +1,6 @@
 -- What the grammar makes of a type.
 use Rattle.std.specs.Prelude.{Bool, true, false, List, [], ◌∷◌, Option, Some, None}
+use Rattle.std.proofs.Common.{Box, Global}
 use Rattle.pascal_grammar.specs.Productions as p
 use Rattle.predictive_grammar.specs.Grammar.{nil}
 use Rattle.syntax_tree.specs.declared.expression.SimpleExpression.{SimpleExpression}
@@ -24,9 +25,9 @@ abbrev pub pointer_target_of : PointerTarget → Parsed
 pointer_target_of (target.Letter i) = of p.letter_target (name_of i ∷ of p.only_letter [] ∷ [])
 pointer_target_of (target.Long i) = of p.long_target (name_of i ∷ [])
 
-abbrev pub length_of : Option SimpleExpression → Parsed
+abbrev pub length_of : Option (Box SimpleExpression Global) → Parsed
 length_of None = of p.unsized []
-length_of (Some i) = of p.sized (word ∷ simple_of i ∷ word ∷ [])
+length_of (Some i) = of p.sized (word ∷ simple_of i.value ∷ word ∷ [])
 
 abbrev pub ancestor_of : Option Identifier → Parsed
 ancestor_of None = of p.no_ancestor []
@@ -49,7 +50,7 @@ last_record_part false = of p.last_fields []
 abbrev mutual
   pub of_type : TypeDenoter → Parsed
   of_type (t.Name i) = of p.type_name (name_of i ∷ of p.only_name [] ∷ [])
-  of_type (t.Range i j) = range_of (simple_of i) (word ∷ simple_of j ∷ [])
+  of_type (t.Range i j) = range_of (simple_of i.value) (word ∷ simple_of j.value ∷ [])
   of_type (t.Enumeration here names) = of p.enumeration_type (mark_at here ∷ identifiers_of names.items ∷ word ∷ [])
   of_type (t.Pointer here x) = of p.caret_type (mark_at here ∷ pointer_target_of x ∷ [])
   of_type (t.String here n) = of p.string_type (mark_at here ∷ length_of n ∷ [])

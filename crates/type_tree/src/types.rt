@@ -10,7 +10,7 @@ use syntax_tree::{Identifier, SimpleExpression};
 pub enum TypeDenoter {
     Name(Identifier),
     /// A subrange, whose first bound doesn't begin with a parenthesis.
-    Range(SimpleExpression, SimpleExpression),
+    Range(Box<SimpleExpression>, Box<SimpleExpression>),
     /// The constants of an enumeration, at least one.
     Enumeration {
         position: Position,
@@ -23,7 +23,7 @@ pub enum TypeDenoter {
     /// Strings, up to the length in brackets if there is one.
     String {
         position: Position,
-        length: Option<SimpleExpression>,
+        length: Option<Box<SimpleExpression>>,
     },
     Procedure {
         position: Position,
