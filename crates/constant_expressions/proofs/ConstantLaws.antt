@@ -281,7 +281,7 @@ mutual
   lawful g (combined here op a b) = lawful_parts (judged g a) (judged g b) _ (lawful g a) (lawful g b) (λ x y. lawful_combined g.types.types here.place op x y)
   lawful g (name here one) = lawful_name g here.place one
   lawful g (field here a one) = lawful_part (judged g a) _ (lawful g a) (λ x. lawful_refuses _)
-  lawful g (index here a i) = lawful_part (judged g a) _ (lawful g a) (λ x. lawful_refuses _)
+  lawful g (index here a i) = lawful_parts (judged g a) (judged g i) _ (lawful g a) (lawful g i) (λ x y. lawful_refuses _)
   lawful g (followed place a) = lawful_part (judged g a) _ (lawful g a) (λ x. lawful_refuses _)
 
   lawful_spans : (g : Environment) (before : List Span) (all : Elements) → Lawful (spans_judged g before all)
@@ -299,4 +299,4 @@ mutual
 
   lawful_operand : (g : Environment) (place : Place) (one : Operand) → Lawful (operand_judged g place one)
   lawful_operand g place (plain a) = lawful g a
-  lawful_operand g place (wide a width) = lawful_refuses _
+  lawful_operand g place (wide a width) = lawful_parts (judged g a) (judged g width) _ (lawful g a) (lawful g width) (λ x w. lawful_refuses _)

@@ -85,7 +85,7 @@ abbrev mutual
   judged g (combined here op a b) = parts (judged g a) (judged g b) (λ x y. values.combined g.types.types here.place op x y)
   judged g (name here one) = of_name g here.place one
   judged g (field here a one) = part (judged g a) (λ x. refuses (broken here.place rules.Selected))
-  judged g (index here a i) = part (judged g a) (λ x. refuses (broken here.place rules.Indexed))
+  judged g (index here a i) = parts (judged g a) (judged g i) (λ x y. refuses (broken here.place rules.Indexed))
   judged g (followed place a) = part (judged g a) (λ x. refuses (broken place rules.Dereferenced))
 
   -- what a set constructor lists, behind spans before it
@@ -104,7 +104,7 @@ abbrev mutual
 
   pub operand_judged : Environment → Place → Operand → Judgement Constant
   operand_judged g place (plain a) = judged g a
-  operand_judged g place (wide a width) = refuses (broken place rules.Called)
+  operand_judged g place (wide a width) = parts (judged g a) (judged g width) (λ x w. refuses (broken place rules.Called))
 
 -- the expression is this constant: every rule holds in it
 abbrev pub IsConstant : Environment → Tree → Constant → Type 0

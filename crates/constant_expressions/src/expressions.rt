@@ -193,7 +193,11 @@ fn operand_of(
 {
     match argument {
         Argument::Plain(one) => of_expression(alloc, one, scope),
-        Argument::Wide(..) => Err(Refusal::Because(broken(place, Rule::Called))),
+        Argument::Wide(one, by) => {
+            let _value = of_expression(alloc, one, scope)?;
+            let _width = of_expression(alloc, by, scope)?;
+            Err(Refusal::Because(broken(place, Rule::Called)))
+        }
     }
 }
 
@@ -246,6 +250,7 @@ fn span_of(alloc: Global, element: &Element, scope: &Scope) -> Result<Span, Refu
     }
 }
 
+#[cycle(parts)]
 fn of_designator(alloc: Global, tree: &Designator, scope: &Scope) -> Result<Constant, Refusal>
     ensures { Gives itself result (judged scope.now (view_designator tree.now)).run }
 {
@@ -262,9 +267,11 @@ fn of_designator(alloc: Global, tree: &Designator, scope: &Scope) -> Result<Cons
         Designator::Index {
             owner,
             position,
+            index,
             ..
         } => {
             let _owner = of_designator(alloc, owner, scope)?;
+            let _index = of_expression(alloc, index, scope)?;
             Err(Refusal::Because(broken(position.place, Rule::Indexed)))
         }
         Designator::Dereference { owner, position } => {
