@@ -2,7 +2,7 @@
 use Rattle.std.proofs.Common.{◌≡◌, ℕ, suc, ◌+◌, ◌≤◌, true, [], None, Ok, refl, ap, ◌∙◌, arith}
 use Rattle.flat_code.specs.Tree.{Runtime, Code, End, Do, Loop, ◌then◌}
 use Rattle.flat_code.specs.Program.{FlatProgram, Choice}
-use Rattle.flat_code.specs.Meaning.{Frame, State, begun}
+use Rattle.flat_code.specs.Meaning.{Frame, State, begun, run}
 use Rattle.flat_code.specs.Gives.{with_turns}
 use Rattle.flat_code.proofs.Nodes.{run-alone}
 use Rattle.routine_proofs.specs.Activation.{Activation, IsSeen, IsPlaced}
@@ -57,7 +57,13 @@ module _ (program : FlatProgram) (choice : Choice) (own : Frame) (sp : ℕ) wher
     spent = 1;
     few = omega arith;
     after = record (begun 1 s) { flag = true };
-    seen = record { cells = seen.cells; flag = refl; input = seen.input; out = seen.out; err = seen.err };
+    seen = record {
+      cells = record { fits = seen.cells.fits; words = seen.cells.words; outside = seen.cells.outside; below = seen.cells.below };
+      flag = refl;
+      input = seen.input;
+      out = seen.out;
+      err = seen.err;
+    };
     worked = omega arith;
     ends = λ t.
         let same : 1 + t ≡ suc t = omega arith in
