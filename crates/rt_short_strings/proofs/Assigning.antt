@@ -98,7 +98,7 @@ module _ (program : FlatProgram) (choice : Choice) (own : Frame) (sp : ℕ) (is_
   }
 
   -- from the first statement to the last
-  all-does : (to from : ℕ) (m : Cells) (text : List ℕ) → size < 256 → HasString m (place fs from) text → IsReached m (place ts to) (1 + size) → CanMove (place ts to) (place fs from) 256 →
+  all-does : (to from : ℕ) (m : Cells) (text : List ℕ) → size < 256 → HasString m (place fs from) text → IsReached m (place ts to) (1 + size) → CanMove (place ts to) (place fs from) (1 + length (take size text)) →
       (to' : ℕ) × (from' : ℕ) × Does program choice own sp assign_routine.body 256 8192 (at Free to from m) Onward (moving to' from' 0 (laid (put m (address_of (place ts to) 0) (Known (length (take size text)))) (place ts to) 1 (take size text)))
   all-does to from m text small has reached apart =
       let front = take size text in
@@ -107,9 +107,9 @@ module _ (program : FlatProgram) (choice : Choice) (own : Frame) (sp : ℕ) (is_
       let few : n ≤ size = omega (arith, len) in
       let fewer : n ≤ length text = omega (arith, len) in
       let m1 = put m (address_of (place ts to) 0) (Known n) in
-      let source = bytes-kept m m1 (place fs from) 1 front (λ k h. put_other m (address_of (place ts to) 0) (Known n) (address_of (place fs from) (1 + k)) (λ e. apart 0 (1 + k) (omega arith) (omega (arith, h, few, small)) (sym e))) (bytes-front m (place fs from) 1 size text has.bytes) in
+      let source = bytes-kept m m1 (place fs from) 1 front (λ k h. put_other m (address_of (place ts to) 0) (Known n) (address_of (place fs from) (1 + k)) (λ e. apart 0 (1 + k) (omega arith) (omega (arith, h)) (sym e))) (bytes-front m (place fs from) 1 size text has.bytes) in
       let target : IsReached m1 (place ts to) (1 + n) = λ i h. reached-still m (address_of (place ts to) 0) n (address_of (place ts to) i) (reached i (omega (arith, h, few))) in
-      let moved = moves program choice own sp move_byte 18 ts fs moving moves-byte front to from m1 (omega (arith, few, small)) source target (λ i j p q. apart i j p (omega (arith, q, few, small))) in
+      let moved = moves program choice own sp move_byte 18 ts fs moving moves-byte front to from m1 (omega (arith, few, small)) source target apart in
       let s0 = at Free to from m in
       let s1 = moving to from (length text) m in
       let s2 = moving to from n m in

@@ -17,7 +17,7 @@ pub record CanAssign (choice : Choice) (sp : ℕ) (s : State) (to : Place) (size
   pub target : IsReached s.cells to (1 + size)
   pub target_off : IsOffStack choice sp to (1 + size)
   pub source_off : IsOffStack choice sp from (1 + length text)
-  pub apart : CanMove to from 256
+  pub apart : CanMove to from (1 + length (cut size text))
 
 -- The target gets the text, cut to its size; what stands behind that stays.
 abbrev pub Assigns : FlatProgram → Choice → Type 0
