@@ -2,3 +2,4 @@ pub mod HeaderTests
 pub mod RoutineLaws
 pub mod Views
 pub mod Steps
+pub mod MethodSteps

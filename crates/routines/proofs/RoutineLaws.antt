@@ -1,36 +1,40 @@
 -- Routines and declarations are judged lawfully.
-use Rattle.std.proofs.Common.{◌≡◌, ℕ, ◌+◌, ◌≤◌, ◌==◌, nat_le, Bool, true, false, List, [], ◌∷◌, Option, Some, None, Decides}
+use Rattle.std.proofs.Common.{◌≡◌, ℕ, ◌+◌, ◌≤◌, nat_le, Bool, true, false, not, codes, List, [], ◌∷◌, length, Option, Some, None, slice_get}
 use Rattle.std.proofs.lemmas.Bool.{leb-true, le-leb}
+use Rattle.type_layout.specs.declared.definitions.TypeId.{TypeId}
 use Rattle.type_layout.specs.declared.definitions.Param.{Param}
 use Rattle.type_layout.specs.declared.definitions.Kind.{Kind}
 use Rattle.type_layout.specs.declared.definitions.Kind.TheVariants as kind
 use Rattle.type_layout.specs.declared.definitions.Header.{Header}
+use Rattle.type_layout.specs.declared.definitions.Method.{Method}
 use Rattle.type_layout.specs.declared.texts.Place.{Place}
 use Rattle.object_vmt.specs.Rules.{same_header}
+use Rattle.syntax_tree.specs.declared.identifier.Identifier.{Identifier}
 use Rattle.syntax_tree.specs.declared.statement.CompoundStatement.{CompoundStatement}
+use Rattle.type_tree.specs.declared.parameter.ParameterGroup.{ParameterGroup}
+use Rattle.type_tree.specs.declared.parameter.MethodHeader.{MethodHeader}
 use Rattle.source_tree.specs.declared.declaration.DeclarationPart.{DeclarationPart}
-use Rattle.source_tree.specs.declared.declaration.DeclarationPart.TheVariants as part_of
 use Rattle.source_tree.specs.declared.declaration.RoutineHeader.{RoutineHeader}
 use Rattle.source_tree.specs.declared.declaration.RoutineHeader.TheVariants as h
-use Rattle.source_tree.specs.declared.declaration.TypeDeclaration.{TypeDeclaration}
 use Rattle.statement_tree.specs.Trees.{compound, view_statements}
 use Rattle.scopes.specs.declared.entries.Entry.TheVariants as entry
 use Rattle.scopes.specs.declared.entries.BlockKind.TheVariants.{Routine}
 use Rattle.scopes.specs.Members.{narrow}
 use Rattle.scopes.specs.Environment.{Environment, with_block}
-use Rattle.well_formed.specs.Fits.{AreSameHeaders}
+use Rattle.well_formed.specs.Fits.{AreSameHeaders, definition}
 use Rattle.typing_rules.specs.declared.faults.Rule.TheVariants as rules
-use Rattle.typing_rules.specs.Faults.{broken, too_large, not_yet}
-use Rattle.typing_rules.specs.Judgements.{Judgement, makes, refuses, rule, either, part}
+use Rattle.typing_rules.specs.Faults.{broken, too_large}
+use Rattle.typing_rules.specs.Judgements.{Judgement, makes, refuses, rule, part}
 use Rattle.typing_rules.specs.Selectors.{asking}
 use Rattle.typing_rules.specs.Laws.{Lawful}
 use Rattle.typing_rules.proofs.JudgementLaws.{lawful_makes, lawful_refuses, lawful_rule, lawful_either, lawful_part}
 use Rattle.tp_check_stmt.proofs.StatementLaws as statement
-use Rattle.headers.specs.Headers.{procedure_header, function_header, routine_header}
-use Rattle.headers.proofs.HeaderLaws.{lawful_procedure, lawful_function, lawful_routine}
+use Rattle.headers.specs.Names.{type_named}
+use Rattle.headers.specs.Headers.{procedure_header, function_header, routine_header, method_header}
+use Rattle.headers.proofs.HeaderLaws.{tells_not, lawful_type_named, lawful_procedure, lawful_function, lawful_routine, lawful_method}
 use Rattle.type_denoters.specs.Additions.{entered}
 use Rattle.type_denoters.proofs.DenoterLaws.{lawful_entered}
-use Rattle.type_parts.specs.Parts.{method_count}
+use Rattle.type_parts.specs.Objects.{header_place, name_of as method_name}
 use Rattle.declarations.specs.Parts.{part_declared}
 use Rattle.declarations.proofs.PartLaws.{lawful_declared}
 use Rattle.routines.specs.declared.drafts.Site.{Site}
@@ -39,8 +43,9 @@ use Rattle.routines.specs.declared.drafts.Begun.{Begun}
 use Rattle.routines.specs.Trees.{Work, Works, forward, plain, method, no_works, and_part, and_work}
 use Rattle.routines.specs.Drafts.{Numbered, Drafted, knowing, next_number, announcing, Stage, stage, progress_of, with_progress, next_for, depth_of}
 use Rattle.routines.specs.Headings.{name_of, begins, is_far, announced_by, routine_entry, announced, heading, awaited_of, same_kind, is_bare, kind_repeated, whole_repeated, half_repeated, repeated, begun, with_params, Opened, opened, opened_by, opened_of}
-use Rattle.routines.specs.Insides.{site_in, params_entered, inside, IsMet, is_met, all_met, shallow, statements_of, closed, ended}
-use Rattle.routines.specs.Blocks.{without_methods, taken, part_judged, method_place, judged, all_judged}
+use Rattle.routines.specs.Methods.{groups_of, names_of, is_self, none_is_self, without_self, own_method, may_follow, lacks_result, header_repeated, method_begun, method_opened_by, method_opened}
+use Rattle.routines.specs.Insides.{site_in, self_entered, params_entered, inside, IsMet, is_met, all_met, shallow, statements_of, closed, ended}
+use Rattle.routines.specs.Blocks.{with_methods, part_judged, block_judged, judged, all_judged}
 use Rattle.routines.proofs.HeaderTests.{tells_kind, tells_header, tells_met}
 
 -- what is asked, and then something else
@@ -86,16 +91,56 @@ lawful_repeated g first (h.Function here name groups (Some result)) =
 
 lawful_opened_by : (site : Site) (d : Drafted) (one : RoutineHeader) (found : Option Awaited) → Lawful (opened_by site d one found)
 lawful_opened_by site d one (Some first) =
-    lawful_part (repeated d.scope first.header one) (λ params. makes (opened (begun first.number (with_params first.header params)) d))
-    (lawful_repeated d.scope first.header one) (λ params. lawful_makes (opened (begun first.number (with_params first.header params)) d))
+    lawful_part (repeated d.scope first.header one) (λ params. makes (opened (begun first.number (with_params first.header params) None) d))
+    (lawful_repeated d.scope first.header one) (λ params. lawful_makes (opened (begun first.number (with_params first.header params) None) d))
 lawful_opened_by site d one None =
-    lawful_part (routine_header d.scope one) (λ header. part (announced false site d one header) (λ e. makes (opened (begun (next_number d) header) e))) (lawful_routine d.scope one)
-    (λ header. lawful_part (announced false site d one header) (λ e. makes (opened (begun (next_number d) header) e)) (lawful_announced false site d one header)
-    (λ e. lawful_makes (opened (begun (next_number d) header) e)))
+    lawful_part (routine_header d.scope one) (λ header. part (announced false site d one header) (λ e. makes (opened (begun (next_number d) header None) e))) (lawful_routine d.scope one)
+    (λ header. lawful_part (announced false site d one header) (λ e. makes (opened (begun (next_number d) header None) e)) (lawful_announced false site d one header)
+    (λ e. lawful_makes (opened (begun (next_number d) header None) e)))
 
 lawful_opened : (site : Site) (d : Drafted) (one : RoutineHeader) → Lawful (opened_of site d one)
 unfolding opened_of
 lawful_opened site d one = lawful_opened_by site d one (awaited_of d (name_of one).name)
+
+-- ---- methods
+
+lawful_none_is_self : (all : List Identifier) → Lawful (none_is_self all)
+lawful_none_is_self [] = lawful_makes tt
+lawful_none_is_self (one ∷ rest) =
+    lawful_asking (rule (broken one.position.place rules.Duplicate) (not (is_self one.name)) (is_self one.name ≡ false) tt) (none_is_self rest)
+    (lawful_rule (broken one.position.place rules.Duplicate) (not (is_self one.name)) (is_self one.name ≡ false) tt (tells_not (is_self one.name))) (lawful_none_is_self rest)
+
+lawful_without_self : (all : List ParameterGroup) → Lawful (without_self all)
+lawful_without_self [] = lawful_makes tt
+lawful_without_self (one ∷ rest) = lawful_asking (none_is_self (names_of one)) (without_self rest) (lawful_none_is_self (names_of one)) (lawful_without_self rest)
+
+lawful_header_repeated : (g : Environment) (first : Header) (one : MethodHeader) → Lawful (header_repeated g first one)
+lawful_header_repeated g first one =
+    let j = procedure_header g true (header_place one) kind.Procedure (groups_of one) in
+    lawful_either (lacks_result one) (half_repeated (header_place one) j) (whole_repeated (header_place one) first (method_header g one))
+    (lawful_half (header_place one) j (lawful_procedure g true (header_place one) kind.Procedure (groups_of one)))
+    (lawful_whole (header_place one) first (method_header g one) (lawful_method g one))
+
+lawful_begun : (d : Drafted) (one : MethodHeader) (ty : TypeId) (found : Method) → Lawful (method_begun d one ty found)
+lawful_begun d one ty found =
+    lawful_part (header_repeated d.scope found.header one) (λ params. asking (without_self (groups_of one)) (makes (opened (begun found.routine.number (with_params found.header params) (Some ty)) d)))
+    (lawful_header_repeated d.scope found.header one)
+    (λ params. lawful_asking (without_self (groups_of one)) (makes (opened (begun found.routine.number (with_params found.header params) (Some ty)) d)) (lawful_without_self (groups_of one))
+    (lawful_makes (opened (begun found.routine.number (with_params found.header params) (Some ty)) d)))
+
+lawful_method_opened_by : (site : Site) (d : Drafted) (one : MethodHeader) (ty : TypeId) (found : Option Method) → Lawful (method_opened_by site d one ty found)
+lawful_method_opened_by site d one ty None = lawful_refuses (broken (method_name one).position.place rules.Selected)
+lawful_method_opened_by site d one ty (Some found) =
+    let may = may_follow site (slice_get d.routines found.routine.number) ty in
+    lawful_asking (rule (broken (header_place one) rules.Bodies) may (may ≡ true) tt) (method_begun d one ty found)
+    (lawful_rule (broken (header_place one) rules.Bodies) may (may ≡ true) tt (λ e. e, λ e. e)) (lawful_begun d one ty found)
+
+lawful_method_opened : (site : Site) (d : Drafted) (one : MethodHeader) (owner : Identifier) → Lawful (method_opened site d one owner)
+unfolding method_opened
+lawful_method_opened site d one owner =
+    lawful_part (type_named d.scope owner.position.place owner.name) (λ ty. method_opened_by site d one ty (own_method (definition d.scope.types.types ty) (method_name one).name))
+    (lawful_type_named d.scope owner.position.place owner.name)
+    (λ ty. lawful_method_opened_by site d one ty (own_method (definition d.scope.types.types ty) (method_name one).name))
 
 -- ---- blocks
 
@@ -114,7 +159,7 @@ lawful_met outer (one ∷ rest) =
 lawful_shallow : (place : Place) (depth : ℕ) → Lawful (shallow place depth)
 lawful_shallow place depth = lawful_rule (too_large place depth) (nat_le depth 16) (depth ≤ 16) tt (leb-true depth 16, le-leb depth 16)
 
-lawful_statements : (g : Environment) (body : CompoundStatement) → Lawful (statements_of g body)
+pub lawful_statements : (g : Environment) (body : CompoundStatement) → Lawful (statements_of g body)
 lawful_statements g body = statement.lawful g (compound (view_statements body.statements.items))
 
 lawful_ended : (inner : Site) (number : ℕ) (place : Place) (body : CompoundStatement) (s : Stage) → Lawful (ended inner number place body s)
@@ -124,40 +169,44 @@ lawful_ended inner number place body s =
     (lawful_part (statements_of s.draft.scope body) (λ typed. asking (shallow place (depth_of inner)) (makes (closed number place s typed))) (lawful_statements s.draft.scope body)
     (λ typed. lawful_asking (shallow place (depth_of inner)) (makes (closed number place s typed)) (lawful_shallow place (depth_of inner)) (lawful_makes (closed number place s typed))))
 
+lawful_self : (level : ℕ) (place : Place) (number : ℕ) (owner : Option TypeId) (g : Environment) → Lawful (self_entered level place number owner g)
+lawful_self level place number None g = lawful_makes g
+lawful_self level place number (Some ty) g = lawful_entered g place (codes "SELF") (entry.Var 0 level number ty)
+
+lawful_inside : (inner : Site) (place : Place) (b : Begun) (g : Environment) → Lawful (inside inner place b g)
+lawful_inside inner place b g =
+    lawful_part (self_entered (depth_of inner) place (narrow (length b.header.params)) b.owner (with_block g (Routine b.number b.owner))) (λ h. params_entered (depth_of inner) place 0 h b.header.params)
+    (lawful_self (depth_of inner) place (narrow (length b.header.params)) b.owner (with_block g (Routine b.number b.owner)))
+    (λ h. lawful_params (depth_of inner) place 0 h b.header.params)
+
+lawful_block : (site : Site) (place : Place) (o : Opened) (body : CompoundStatement) (declared : Site → Stage → Judgement Stage)
+    → ((inner : Site) (s : Stage) → Lawful (declared inner s)) → Lawful (block_judged site place o body declared)
+lawful_block site place o body declared l =
+    lawful_part (inside (site_in site o.begun) place o.begun o.draft.scope)
+    (λ g. part (declared (site_in site o.begun) (stage (knowing o.draft g) [])) (λ s. ended (site_in site o.begun) o.begun.number place body s))
+    (lawful_inside (site_in site o.begun) place o.begun o.draft.scope)
+    (λ g. lawful_part (declared (site_in site o.begun) (stage (knowing o.draft g) [])) (λ s. ended (site_in site o.begun) o.begun.number place body s)
+    (l (site_in site o.begun) (stage (knowing o.draft g) []))
+    (λ s. lawful_ended (site_in site o.begun) o.begun.number place body s))
+
 -- ---- declarations
-
-lawful_without : (all : List TypeDeclaration) → Lawful (without_methods all)
-lawful_without [] = lawful_makes tt
-lawful_without (one ∷ rest) =
-    lawful_either (method_count one.denoter == 0) (without_methods rest) (refuses (not_yet one.name.position.place)) (lawful_without rest) (lawful_refuses (not_yet one.name.position.place))
-
-lawful_taken : (one : DeclarationPart) → Lawful (taken one)
-lawful_taken (part_of.Constants here all) = lawful_makes tt
-lawful_taken (part_of.Types here all) = lawful_without all.items
-lawful_taken (part_of.Variables here all) = lawful_makes tt
 
 module _ (unit : List ℕ) where
   pub lawful_part_of : (site : Site) (s : Stage) (one : DeclarationPart) → Lawful (part_judged unit site s one)
+  unfolding part_judged
   lawful_part_of site s one =
-      lawful_asking (taken one) (part (part_declared unit site.home (next_for site.home (next_number s.draft)) (progress_of s) one) (λ p. makes (with_progress s p))) (lawful_taken one)
-      (lawful_part (part_declared unit site.home (next_for site.home (next_number s.draft)) (progress_of s) one) (λ p. makes (with_progress s p))
-      (lawful_declared unit site.home (next_for site.home (next_number s.draft)) (progress_of s) one) (λ p. lawful_makes (with_progress s p)))
+      lawful_part (part_declared unit site.home (next_for site.home (next_number s.draft)) (progress_of s) one) (λ p. makes (with_methods one (with_progress s p)))
+      (lawful_declared unit site.home (next_for site.home (next_number s.draft)) (progress_of s) one) (λ p. lawful_makes (with_methods one (with_progress s p)))
 
   mutual
     pub lawful : (site : Site) (d : Drafted) (work : Work) → Lawful (judged unit site d work)
     lawful site d (forward one) = lawful_heading false site d one
     lawful site d (plain one all body) =
-        lawful_part (opened_of site d one)
-        (λ o. part (inside (site_in site o.begun) (begins one).place o.begun o.draft.scope) (λ g.
-        part (all_judged unit (site_in site o.begun) (stage (knowing o.draft g) []) all) (λ s. ended (site_in site o.begun) o.begun.number (begins one).place body s)))
-        (lawful_opened site d one)
-        (λ o. lawful_part (inside (site_in site o.begun) (begins one).place o.begun o.draft.scope)
-        (λ g. part (all_judged unit (site_in site o.begun) (stage (knowing o.draft g) []) all) (λ s. ended (site_in site o.begun) o.begun.number (begins one).place body s))
-        (lawful_params (depth_of (site_in site o.begun)) (begins one).place 0 (with_block o.draft.scope (Routine o.begun.number None)) o.begun.header.params)
-        (λ g. lawful_part (all_judged unit (site_in site o.begun) (stage (knowing o.draft g) []) all) (λ s. ended (site_in site o.begun) o.begun.number (begins one).place body s)
-        (lawful_all (site_in site o.begun) (stage (knowing o.draft g) []) all)
-        (λ s. lawful_ended (site_in site o.begun) o.begun.number (begins one).place body s)))
-    lawful site d (method one owner all body) = lawful_refuses (not_yet (method_place one))
+        lawful_part (opened_of site d one) (λ o. block_judged site (begins one).place o body (λ inner s. all_judged unit inner s all)) (lawful_opened site d one)
+        (λ o. lawful_block site (begins one).place o body (λ inner s. all_judged unit inner s all) (λ inner s. lawful_all inner s all))
+    lawful site d (method one owner all body) =
+        lawful_part (method_opened site d one owner) (λ o. block_judged site (header_place one) o body (λ inner s. all_judged unit inner s all)) (lawful_method_opened site d one owner)
+        (λ o. lawful_block site (header_place one) o body (λ inner s. all_judged unit inner s all) (λ inner s. lawful_all inner s all))
 
     pub lawful_all : (site : Site) (s : Stage) (all : Works) → Lawful (all_judged unit site s all)
     lawful_all site s no_works = lawful_makes s

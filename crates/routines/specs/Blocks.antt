@@ -1,44 +1,36 @@
 -- Routines with what is declared inside them.
-use Rattle.std.specs.Prelude.{ℕ, ◌==◌, false, List, [], ◌∷◌}
+use Rattle.std.specs.Prelude.{ℕ, false, List, []}
 use Rattle.type_layout.specs.declared.texts.Place.{Place}
-use Rattle.type_tree.specs.declared.parameter.MethodHeader.{MethodHeader}
-use Rattle.type_tree.specs.declared.parameter.MethodHeader.TheVariants as method_header
+use Rattle.syntax_tree.specs.declared.statement.CompoundStatement.{CompoundStatement}
 use Rattle.source_tree.specs.declared.declaration.DeclarationPart.{DeclarationPart}
-use Rattle.source_tree.specs.declared.declaration.DeclarationPart.TheVariants as part_of
-use Rattle.source_tree.specs.declared.declaration.TypeDeclaration.{TypeDeclaration}
-use Rattle.typing_rules.specs.Faults.{not_yet}
-use Rattle.typing_rules.specs.Judgements.{Judgement, makes, refuses, either, part}
-use Rattle.typing_rules.specs.Selectors.{asking}
-use Rattle.type_parts.specs.Parts.{method_count}
+use Rattle.typing_rules.specs.Judgements.{Judgement, makes, part}
+use Rattle.type_parts.specs.Objects.{header_place}
 use Rattle.declarations.specs.Parts.{part_declared}
 use Rattle.routines.specs.declared.drafts.Site.{Site}
 use Rattle.routines.specs.Trees.{Work, Works, forward, plain, method, no_works, and_part, and_work}
-use Rattle.routines.specs.Drafts.{Drafted, knowing, Stage, stage, progress_of, with_progress, next_number, next_for}
-use Rattle.routines.specs.Headings.{begins, heading, opened_of}
+use Rattle.routines.specs.Drafts.{Drafted, knowing, having, Stage, stage, progress_of, with_progress, next_number, next_for}
+use Rattle.routines.specs.Headings.{begins, Opened, heading, opened_of}
+use Rattle.routines.specs.Methods.{of_part, method_opened}
 use Rattle.routines.specs.Insides.{site_in, inside, ended}
 
 -- ---- parts of declarations
 
--- methods are not built yet
-abbrev pub without_methods : List TypeDeclaration → Judgement (Unit {0})
-without_methods [] = makes tt
-without_methods (one ∷ rest) = either (method_count one.denoter == 0) (without_methods rest) (refuses (not_yet one.name.position.place))
+-- behind a part, the unit has the routines that its object types have
+abbrev pub with_methods : DeclarationPart → Stage → Stage
+with_methods one s = stage (having s.draft (of_part s.draft.scope one)) s.locals
 
-abbrev pub taken : DeclarationPart → Judgement (Unit {0})
-taken (part_of.Types here all) = without_methods all.items
-taken one = makes tt
-
-abbrev pub part_judged : List ℕ → Site → Stage → DeclarationPart → Judgement Stage
+unfoldable pub part_judged : List ℕ → Site → Stage → DeclarationPart → Judgement Stage
 part_judged unit site s one =
-    asking (taken one) (part (part_declared unit site.home (next_for site.home (next_number s.draft)) (progress_of s) one) (λ p. makes (with_progress s p)))
-
-abbrev pub method_place : MethodHeader → Place
-method_place (method_header.Procedure here name groups) = here.place
-method_place (method_header.Function here name groups result) = here.place
-method_place (method_header.Constructor here name groups) = here.place
-method_place (method_header.Destructor here name groups) = here.place
+    part (part_declared unit site.home (next_for site.home (next_number s.draft)) (progress_of s) one) (λ p. makes (with_methods one (with_progress s p)))
 
 -- ---- routines
+
+-- The block behind a header at a place, with its declarations and statements.
+abbrev pub block_judged : Site → Place → Opened → CompoundStatement → (Site → Stage → Judgement Stage) → Judgement Drafted
+block_judged site place o body declared =
+    part (inside (site_in site o.begun) place o.begun o.draft.scope) (λ g.
+    part (declared (site_in site o.begun) (stage (knowing o.draft g) [])) (λ s.
+    ended (site_in site o.begun) o.begun.number place body s))
 
 abbrev mutual
   -- What a checker answers for a routine of a block, the unit behind it, and which faults are in it: from the judgements of its
@@ -46,11 +38,9 @@ abbrev mutual
   pub judged : List ℕ → Site → Drafted → Work → Judgement Drafted
   judged unit site d (forward one) = heading false site d one
   judged unit site d (plain one all body) =
-      part (opened_of site d one) (λ o.
-      part (inside (site_in site o.begun) (begins one).place o.begun o.draft.scope) (λ g.
-      part (all_judged unit (site_in site o.begun) (stage (knowing o.draft g) []) all) (λ s.
-      ended (site_in site o.begun) o.begun.number (begins one).place body s)))
-  judged unit site d (method one owner all body) = refuses (not_yet (method_place one))
+      part (opened_of site d one) (λ o. block_judged site (begins one).place o body (λ inner s. all_judged unit inner s all))
+  judged unit site d (method one owner all body) =
+      part (method_opened site d one owner) (λ o. block_judged site (header_place one) o body (λ inner s. all_judged unit inner s all))
 
   -- the declarations of a block
   pub all_judged : List ℕ → Site → Stage → Works → Judgement Stage

@@ -53,6 +53,10 @@ next_number d = narrow (length d.routines)
 abbrev pub announcing : Drafted → Announced → Drafted
 announcing d one = record { scope = d.scope; globals = d.globals; routines = d.routines ++ (record { first = one; done = None }) ∷ [] }
 
+-- the same with further routines
+abbrev pub having : Drafted → List Numbered → Drafted
+having d more = record { scope = d.scope; globals = d.globals; routines = d.routines ++ more }
+
 abbrev pub with_done : Done → Numbered → Numbered
 with_done done one = record { first = one.first; done = Some done }
 

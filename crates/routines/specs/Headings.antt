@@ -117,9 +117,9 @@ repeated g first (h.Function here name groups (Some result)) = whole_repeated he
 
 -- ---- a routine whose block follows
 
--- its number and header, with the names of the parameters that are known in the block
-abbrev pub begun : ℕ → Header → Begun
-begun number header = record { number = number; header = header }
+-- its number and header, with the names of the parameters that are known in the block; of a method also its object type
+abbrev pub begun : ℕ → Header → Option TypeId → Begun
+begun number header owner = record { number = number; header = header; owner = owner }
 
 abbrev pub with_params : Header → List Param → Header
 with_params header params = record { kind = header.kind; params = params; result = header.result }
@@ -133,9 +133,9 @@ opened b d = record { begun = b; draft = d }
 
 abbrev pub opened_by : Site → Drafted → RoutineHeader → Option Awaited → Judgement Opened
 opened_by site d one (Some first) =
-    part (repeated d.scope first.header one) (λ params. makes (opened (begun first.number (with_params first.header params)) d))
+    part (repeated d.scope first.header one) (λ params. makes (opened (begun first.number (with_params first.header params) None) d))
 opened_by site d one None =
-    part (routine_header d.scope one) (λ header. part (announced false site d one header) (λ e. makes (opened (begun (next_number d) header) e)))
+    part (routine_header d.scope one) (λ header. part (announced false site d one header) (λ e. makes (opened (begun (next_number d) header None) e)))
 
 -- a header with its block behind it: that of an earlier header in this block, or of a new routine
 unfoldable pub opened_of : Site → Drafted → RoutineHeader → Judgement Opened

@@ -1,8 +1,7 @@
 -- What is known inside a routine, and how its block ends.
-use Rattle.std.specs.Prelude.{◌≡◌, ℕ, ◌+◌, ◌≤◌, nat_le, Bool, true, false, not, ◌||◌, ◌==◌, cond, List, [], ◌∷◌, length, Option, Some, None, is_some}
+use Rattle.std.specs.Prelude.{◌≡◌, ℕ, ◌+◌, ◌≤◌, nat_le, Bool, true, false, not, ◌||◌, ◌==◌, cond, codes, List, [], ◌∷◌, length, Option, Some, None, is_some}
 use Rattle.type_layout.specs.declared.definitions.TypeId.{TypeId}
 use Rattle.type_layout.specs.declared.definitions.Param.{Param}
-use Rattle.type_layout.specs.declared.definitions.Header.{Header}
 use Rattle.type_layout.specs.declared.texts.Place.{Place}
 use Rattle.syntax_tree.specs.declared.statement.CompoundStatement.{CompoundStatement}
 use Rattle.statement_tree.specs.Trees.{view_statements}
@@ -25,18 +24,19 @@ use Rattle.routines.specs.Drafts.{Numbered, Drafted, knowing, Done, Stage, finis
 
 -- ---- the block of a routine
 
-abbrev pub result_count : Option TypeId → ℕ
-result_count None = 0
-result_count (Some ty) = 1
+-- how many variables a routine has besides its parameters before those that its block declares: Self of a method, and a result
+abbrev pub variables_beside : Option TypeId → Option TypeId → ℕ
+variables_beside None None = 0
+variables_beside (Some owner) (Some result) = 2
+variables_beside _ _ = 1
 
--- how many variables of a routine come before those that its block declares: its parameters, and its result
-abbrev pub variables_before : Header → ℕ
-variables_before header = narrow (length header.params + result_count header.result)
+abbrev pub variables_before : Begun → ℕ
+variables_before b = narrow (length b.header.params + variables_beside b.owner b.header.result)
 
 -- where the declarations of a routine's block stand
 abbrev pub site_in : Site → Begun → Site
 site_in site b = record {
-  home = home.Routine (narrow (depth_of site + 1)) (variables_before b.header);
+  home = home.Routine (narrow (depth_of site + 1)) (variables_before b);
   outer = Some b.number;
 }
 
@@ -46,9 +46,16 @@ params_entered level place number g [] = makes g
 params_entered level place number g (one ∷ rest) =
     part (entered g place one.name (entry.Var 0 level number one.ty)) (λ h. params_entered level place (narrow (number + 1)) h rest)
 
--- A block inside those that are open, with the parameters of the routine that begins at a place.
+-- The instance of a method is a variable behind the parameters.
+abbrev pub self_entered : ℕ → Place → ℕ → Option TypeId → Environment → Judgement Environment
+self_entered level place number None g = makes g
+self_entered level place number (Some ty) g = entered g place (codes "SELF") (entry.Var 0 level number ty)
+
+-- A block inside those that are open, with the instance and the parameters of the routine that begins at a place.
 abbrev pub inside : Site → Place → Begun → Environment → Judgement Environment
-inside inner place b g = params_entered (depth_of inner) place 0 (with_block g (Routine b.number None)) b.header.params
+inside inner place b g =
+    part (self_entered (depth_of inner) place (narrow (length b.header.params)) b.owner (with_block g (Routine b.number b.owner))) (λ h.
+    params_entered (depth_of inner) place 0 h b.header.params)
 
 -- ---- the end of a block
 

@@ -1,46 +1,30 @@
 //! Routines with what is declared inside them.
 
-ghost use Rattle.std.specs.Prelude.{◌≡◌};
 ghost use Rattle.typing_rules.specs.Judgements.{Gives};
-ghost use Rattle.routines.specs.Trees.{plain, view_routine, view_declarations};
+ghost use Rattle.routines.specs.Trees.{plain, method, view_routine, view_declarations};
 ghost use Rattle.routines.specs.Drafts.{drafted, stage};
-ghost use Rattle.routines.specs.Blocks.{without_methods, taken, part_judged, method_place, judged, all_judged};
+ghost use Rattle.routines.specs.Headings.{opened};
+ghost use Rattle.routines.specs.Blocks.{part_judged, block_judged, judged, all_judged};
 
-use crate::drafts::{Draft, Site, next_for, next_number};
+use crate::drafts::{Begun, Draft, Site, next_for, next_number};
 use crate::headings::{begins, heading};
 use crate::insides::{ended, inside, site_in};
+use crate::method_headings::method_opened;
+use crate::methods::{announce_part, header_place};
 use crate::repeats::opened_of;
 use declarations::part_declared;
 use scopes::Scope;
-use source_tree::{Block, Declaration, DeclarationPart, Routine, RoutineHeader, TypeDeclaration};
+use source_tree::{Block, Declaration, DeclarationPart, Routine, RoutineHeader};
 use std::alloc::Global;
+use syntax_tree::Identifier;
 use type_layout::{Name, Place};
-use type_parts::method_count;
 use type_tree::MethodHeader;
 use typed_tree::Locals;
-use typing_rules::{Refusal, not_yet};
+use typing_rules::Refusal;
 
-fn without_methods(all: &[TypeDeclaration]) -> Result<(), Refusal>
-    ensures { Gives (λ _. tt) result (without_methods all.now).run }
-{
-    for one in all {
-        if method_count(&one.denoter) != 0 {
-            return Err(Refusal::Because(not_yet(one.name.position.place)));
-        }
-    }
-    Ok(())
-}
-
-fn taken(one: &DeclarationPart) -> Result<(), Refusal>
-    ensures { Gives (λ _. tt) result (taken one.now).run }
-{
-    match one {
-        DeclarationPart::Types { types, .. } => without_methods(types.as_slice()),
-        DeclarationPart::Constants { .. } | DeclarationPart::Variables { .. } => Ok(()),
-    }
-}
-
-fn part_judged(
+/// Constants, types or variables of a block. The unit then has the routines of the object types among them.
+#[tactic(auto, unfolding(crate::specs::Blocks::part_judged))]
+pub fn part_judged(
     alloc: Global,
     one: &DeclarationPart,
     scope: &mut Scope,
@@ -51,21 +35,10 @@ fn part_judged(
 ) -> Result<(), Refusal>
     ensures { Gives (λ _. stage (drafted scope.new draft.new) locals.new) result (part_judged unit.now site (stage (drafted scope.old draft.old) locals.old) one.now).run }
 {
-    taken(one)?;
     let next = next_for(site.home, next_number(draft.slots.as_slice()));
     let globals = &mut draft.globals;
-    part_declared(alloc, one, scope, globals, locals, unit, site.home, next)
-}
-
-fn method_place(header: &MethodHeader) -> Place
-    ensures { result ≡ method_place header.now }
-{
-    match header {
-        MethodHeader::Procedure { position, .. }
-        | MethodHeader::Function { position, .. }
-        | MethodHeader::Constructor { position, .. }
-        | MethodHeader::Destructor { position, .. } => position.place,
-    }
+    part_declared(alloc, one, scope, globals, locals, unit, site.home, next)?;
+    announce_part(alloc, &mut draft.slots, scope, one)
 }
 
 #[cycle(blocks)]
@@ -82,8 +55,43 @@ fn judged(
     match tree {
         Routine::Forward(one) => heading(alloc, one, scope, draft, site, false),
         Routine::Plain { header, block } => plain(alloc, block, header, scope, draft, unit, site),
-        Routine::Method { header, .. } => { Err(Refusal::Because(not_yet(method_place(header)))) }
+        Routine::Method {
+            header,
+            owner,
+            block,
+        } => method(alloc, block, header, owner, scope, draft, unit, site),
     }
+}
+
+// The block behind a header at a place.
+#[cycle(blocks)]
+fn block_judged(
+    alloc: Global,
+    block: &Block,
+    place: Place,
+    begun: Begun,
+    scope: &mut Scope,
+    draft: &mut Draft,
+    unit: &Name,
+    site: Site,
+) -> Result<(), Refusal>
+    ensures { Gives (λ _. drafted scope.new draft.new) result (block_judged site place (opened begun (drafted scope.old draft.old)) block.now.body (λ inner s. all_judged unit.now inner s (view_declarations block.now.declarations.items))).run }
+{
+    let inner = site_in(site, &begun);
+    inside(scope, inner, place, &begun)?;
+    let mut locals = Locals::new(alloc);
+    let all = block.declarations.as_slice();
+    all_judged(alloc, all, scope, draft, &mut locals, unit, inner)?;
+    ended(
+        alloc,
+        &block.body,
+        scope,
+        draft,
+        inner,
+        begun.number,
+        place,
+        locals,
+    )
 }
 
 // A routine with its block.
@@ -99,22 +107,43 @@ fn plain(
 ) -> Result<(), Refusal>
     ensures { Gives (λ _. drafted scope.new draft.new) result (judged unit.now site (drafted scope.old draft.old) (plain one.now (view_declarations block.now.declarations.items) block.now.body)).run }
 {
-    let place = begins(one).place;
     let begun = opened_of(alloc, one, scope, draft, site)?;
-    let inner = site_in(site, &begun);
-    inside(scope, inner, place, &begun)?;
-    let mut locals = Locals::new(alloc);
-    let all = block.declarations.as_slice();
-    all_judged(alloc, all, scope, draft, &mut locals, unit, inner)?;
-    ended(
+    block_judged(
         alloc,
-        &block.body,
+        block,
+        begins(one).place,
+        begun,
         scope,
         draft,
-        inner,
-        begun.number,
-        place,
-        locals,
+        unit,
+        site,
+    )
+}
+
+// A method with its block.
+#[cycle(blocks)]
+fn method(
+    alloc: Global,
+    block: &Block,
+    one: &MethodHeader,
+    owner: &Identifier,
+    scope: &mut Scope,
+    draft: &mut Draft,
+    unit: &Name,
+    site: Site,
+) -> Result<(), Refusal>
+    ensures { Gives (λ _. drafted scope.new draft.new) result (judged unit.now site (drafted scope.old draft.old) (method one.now owner.now (view_declarations block.now.declarations.items) block.now.body)).run }
+{
+    let begun = method_opened(alloc, scope, draft, site, one, owner)?;
+    block_judged(
+        alloc,
+        block,
+        header_place(one),
+        begun,
+        scope,
+        draft,
+        unit,
+        site,
     )
 }
 

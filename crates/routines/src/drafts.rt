@@ -61,11 +61,13 @@ pub(crate) struct Awaited {
     pub header: Header,
 }
 
-/// A routine whose block follows, with its header, in which the parameters have the names that are known in the block.
+/// A routine whose block follows, with its header, in which the parameters have the names that are known in the block. `owner` is
+/// the object type of a method.
 #[derive(Drop)]
 pub(crate) struct Begun {
     pub number: u32,
     pub header: Header,
+    pub owner: Option<TypeId>,
 }
 
 /// How deep a block lies.

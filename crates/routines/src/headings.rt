@@ -48,6 +48,7 @@ pub(crate) fn announced(
 {
     let name = name_of(one);
     let here = begins(one);
+    let far = far || here.switches.f;
     let routine = RoutineId {
         unit: 0,
         number: next_number(draft.slots.as_slice()),
@@ -56,7 +57,7 @@ pub(crate) fn announced(
         routine,
         level: depth_of(site.home),
         header: header.copied(alloc)?,
-        far: far || here.switches.f,
+        far,
     };
     entered(scope, name.position.place, &name.name, entry)?;
     let first = Announced {
@@ -65,7 +66,7 @@ pub(crate) fn announced(
         header,
         owner: None,
         outer: site.outer,
-        far: far || here.switches.f,
+        far,
     };
     announce(&mut draft.slots, first)
 }

@@ -1,11 +1,13 @@
 //! The blocks of routines: what is known in them, and how they end.
 
-ghost use Rattle.std.specs.Prelude.{◌≡◌, Some, OnOk, map};
+ghost use Rattle.std.specs.Prelude.{◌≡◌, Some, OnOk, codes, length, map};
+ghost use Rattle.type_layout.specs.Words.{IsName};
 ghost use Rattle.typed_tree.specs.Statements.{view_stmt};
+ghost use Rattle.scopes.specs.Members.{narrow};
 ghost use Rattle.scopes.specs.Environment.{without_block};
 ghost use Rattle.typing_rules.specs.Judgements.{Gives};
 ghost use Rattle.routines.specs.Drafts.{view_slot, drafted, stage, depth_of};
-ghost use Rattle.routines.specs.Insides.{result_count, variables_before, site_in, params_entered, inside, is_outer, is_met, all_met, shallow, statements_of, ended};
+ghost use Rattle.routines.specs.Insides.{variables_beside, variables_before, site_in, self_entered, params_entered, inside, is_outer, is_met, all_met, shallow, statements_of, ended};
 
 use crate::drafts::{Begun, Draft, Made, Site, Slot, depth_of, finish};
 use declarations::Home;
@@ -14,27 +16,52 @@ use std::alloc::Global;
 use syntax_tree::CompoundStatement;
 use tp_check_stmt::compound;
 use type_denoters::entered;
-use type_layout::{Header, Param, Place, TypeId};
+use type_layout::{Name, Param, Place, TypeId};
 use typed_tree::{Locals, Stmt};
 use typing_rules::{Refusal, Rule, broken, too_large};
 
 /// How deep routines nest at most.
 pub const MOST_NESTED: u32 = 16;
 
-fn result_count(ty: Option<TypeId>) -> u32
-    ensures { result ≡ result_count ty }
+// The name of these bytes, which are one.
+fn known(bytes: &[u8]) -> Name
+    requires { IsName bytes.now }
+    ensures { result ≡ bytes.now }
 {
-    match ty {
-        Some(_) => 1,
-        None => 0,
+    match Name::new(bytes) {
+        Some(name) => name,
+        None => unreachable!(),
     }
 }
 
-fn variables_before(header: &Header) -> u32
-    ensures { result ≡ variables_before header.now }
+// The name of a method's instance.
+fn instance() -> Name
+    ensures { result ≡ codes "SELF" }
 {
-    let params = u32::try_from(header.params.len()).unwrap_or(u32::MAX);
-    params.saturating_add(result_count(header.result))
+    known(b"SELF")
+}
+
+fn variables_beside(owner: Option<TypeId>, ty: Option<TypeId>) -> u32
+    ensures { result ≡ variables_beside owner ty }
+{
+    match (owner, ty) {
+        (None, None) => 0,
+        (Some(_), Some(_)) => 2,
+        (None, Some(_)) | (Some(_), None) => 1,
+    }
+}
+
+fn count_of(params: &[Param]) -> u32
+    ensures { result ≡ narrow (length params.now) }
+{
+    u32::try_from(params.len()).unwrap_or(u32::MAX)
+}
+
+fn variables_before(begun: &Begun) -> u32
+    ensures { result ≡ variables_before begun.now }
+{
+    let header = &begun.header;
+    count_of(header.params.as_slice()).saturating_add(variables_beside(begun.owner, header.result))
 }
 
 /// Where the declarations of a routine's block stand.
@@ -44,9 +71,33 @@ pub(crate) fn site_in(site: Site, begun: &Begun) -> Site
     Site {
         home: Home::Routine {
             level: depth_of(site.home).saturating_add(1),
-            first: variables_before(&begun.header),
+            first: variables_before(begun),
         },
         outer: Some(begun.number),
+    }
+}
+
+// The instance of a method, behind so many parameters.
+fn self_entered(
+    scope: &mut Scope,
+    level: u32,
+    place: Place,
+    number: u32,
+    owner: Option<TypeId>,
+) -> Result<(), Refusal>
+    ensures { Gives (λ _. scope.new) result (self_entered level place number owner scope.old).run }
+{
+    match owner {
+        None => Ok(()),
+        Some(ty) => {
+            let entry = Entry::Var {
+                unit: 0,
+                level,
+                number,
+                ty,
+            };
+            entered(scope, place, &instance(), entry)
+        }
     }
 }
 
@@ -72,7 +123,7 @@ fn params_entered(
     Ok(())
 }
 
-/// Opens the block of a routine that begins at a place, with its parameters.
+/// Opens the block of a routine that begins at a place, with its instance and parameters.
 pub(crate) fn inside(
     scope: &mut Scope,
     inner: Site,
@@ -83,14 +134,12 @@ pub(crate) fn inside(
 {
     scope.begin(BlockKind::Routine {
         number: begun.number,
-        owner: None,
+        owner: begun.owner,
     })?;
-    params_entered(
-        scope,
-        depth_of(inner.home),
-        place,
-        begun.header.params.as_slice(),
-    )
+    let level = depth_of(inner.home);
+    let params = begun.header.params.as_slice();
+    self_entered(scope, level, place, count_of(params), begun.owner)?;
+    params_entered(scope, level, place, params)
 }
 
 fn is_outer(one: Option<u32>, other: Option<u32>) -> bool

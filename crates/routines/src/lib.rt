@@ -6,9 +6,11 @@ mod drafts;
 mod headings;
 mod insides;
 mod laws;
+mod method_headings;
+mod methods;
 mod repeats;
 
-pub use blocks::all_judged;
+pub use blocks::{all_judged, part_judged};
 pub use drafts::{Announced, Draft, Made, Site, Slot};
 pub use headings::heading;
 pub use laws::routine_laws;

@@ -105,7 +105,11 @@ fn kind_repeated(place: Place, kind: Kind, first: Header) -> Result<Params, Refu
     }
 }
 
-fn whole_repeated(place: Place, first: &Header, header: Header) -> Result<Params, Refusal>
+pub(crate) fn whole_repeated(
+    place: Place,
+    first: &Header,
+    header: Header,
+) -> Result<Params, Refusal>
     ensures { Gives (λ params. params) result (whole_repeated place first.now (makes header)).run }
 {
     if same_header(first, &header) {
@@ -202,7 +206,11 @@ fn opened_again(
         params,
         result,
     };
-    Ok(Begun { number, header })
+    Ok(Begun {
+        number,
+        header,
+        owner: None,
+    })
 }
 
 fn opened_new(
@@ -218,7 +226,11 @@ fn opened_new(
     let header = routine_header(alloc, scope, one)?;
     let own = header.copied(alloc)?;
     announced(alloc, one, own, scope, draft, site, false)?;
-    Ok(Begun { number, header })
+    Ok(Begun {
+        number,
+        header,
+        owner: None,
+    })
 }
 
 /// A header with its block behind it: that of an earlier header in this block, or of a new routine.
