@@ -11,6 +11,7 @@ use Rattle.tp_lexer.specs.declared.token.LexError.{LexError}
 use Rattle.tp_lexer.specs.declared.token.LexError.TheVariants as broken
 use Rattle.syntax_tree.specs.Expressions.{Parsed}
 use Rattle.syntax_tree.specs.declared.identifier.Identifier.{Identifier}
+use Rattle.source_directives.specs.Directives.{directives_of}
 use Rattle.source_tree.specs.Sources.{of_tree, used}
 use Rattle.tp_parser.specs.declared.error.ParseError.{ParseError}
 use Rattle.tp_parser.specs.declared.error.ParseError.TheVariants as fault
@@ -90,13 +91,14 @@ told_rule (Some held) now rule error other is = told_by held now rule error othe
 -- ---- a source
 
 pub is_read : (known : Option Folder) (old first after : List Text) (wanted : Wanted) (tokens list : List Token) (source : Source) → IfSome known (λ held. opened held old wanted ≡ Ok (first, source.text)) → IfSome known (λ held. ComesTo held source.text first after tokens)
-    → list ≡ tokens → source.name ≡ wanted.name → IsSource list (of_tree source.tree) → IfSome known (λ held. IsRead held old wanted after source)
-is_read None old first after wanted tokens list source opens comes same named spelled = tt
-is_read (Some held) old first after wanted tokens list source opens comes same named spelled = record {
+    → list ≡ tokens → source.name ≡ wanted.name → source.says ≡ directives_of list → IsSource list (of_tree source.tree) → IfSome known (λ held. IsRead held old wanted after source)
+is_read None old first after wanted tokens list source opens comes same named said spelled = tt
+is_read (Some held) old first after wanted tokens list source opens comes same named said spelled = record {
   named = named;
   tokens = tokens;
   lexed = record { first = first; opens = opens; comes = comes };
   spelled = subst (λ (ts : List Token). IsSource ts (of_tree source.tree)) same spelled;
+  said = subst (λ (ts : List Token). source.says ≡ directives_of ts) same said;
 }
 
 abbrev pub IsRefusedAt : Folder → GatherError → List Text → Wanted → Type 0

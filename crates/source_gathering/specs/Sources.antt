@@ -5,6 +5,7 @@ use Rattle.tp_lexer.specs.declared.token.Text.{Text}
 use Rattle.tp_lexer.specs.declared.token.Token.{Token}
 use Rattle.syntax_tree.specs.Expressions.{Parsed}
 use Rattle.source_tree.specs.Sources.{of_tree}
+use Rattle.source_directives.specs.Directives.{directives_of}
 use Rattle.tp_parser.specs.declared.error.ParseError.{ParseError}
 use Rattle.tp_parser.specs.declared.error.ParseError.TheVariants as fault
 use Rattle.tp_parser.specs.Parsing.{IsSource, IsFault}
@@ -15,12 +16,13 @@ use Rattle.source_gathering.specs.declared.wanted.Wanted.{Wanted}
 use Rattle.source_gathering.specs.Texts.{at, place_in}
 use Rattle.source_gathering.specs.Files.{opened, IsLexed, IsBroken}
 
--- The wanted source with its tree: its tokens spell it. The texts are then these.
+-- The wanted source with its tree and what its directives say: its tokens spell the tree, and have these directives. The texts are then these.
 pub record IsRead (held : Folder) (texts : List Text) (wanted : Wanted) (after : List Text) (source : Source) : Type 0 where
   pub named : source.name ≡ wanted.name
   pub tokens : List Token
   pub lexed : IsLexed held texts wanted after source.text tokens
   pub spelled : IsSource tokens (of_tree source.tree)
+  pub said : source.says ≡ directives_of tokens
 
 -- its file or one that it includes is missing or too large, or a token is at fault
 abbrev pub IsUnreadable : Folder → GatherError → List Text → Wanted → Type 0

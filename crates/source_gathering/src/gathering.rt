@@ -16,6 +16,7 @@ use crate::lexing::{open, tokens_of};
 use crate::sources::Source;
 use crate::texts::{Texts, place_in};
 use crate::wanted::Wanted;
+use source_directives::directives_of;
 use std::alloc::{AllocError, Global};
 use std::collections::VecDeque;
 use syntax_tree::Identifier;
@@ -71,10 +72,12 @@ fn read<F: Files>(
     let text = open(alloc, files, texts, wanted)?;
     let tokens = tokens_of(alloc, files, texts, text)?;
     let list = tokens.as_slice();
+    let says = directives_of(alloc, list)?;
     match parse(alloc, list) {
         Ok(tree) => Ok(Source {
             name: wanted.name.copied(),
             text,
+            says,
             tree,
         }),
         Err(fault) => Err(fault_refusal(texts, text, list, fault)),

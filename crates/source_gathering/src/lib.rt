@@ -10,6 +10,7 @@ mod texts;
 mod wanted;
 
 pub use error::{At, GatherError, LexCause};
+pub use files::source_file;
 pub use gathering::{Gathered, gather, whole};
 pub use sources::Source;
 pub use texts::{ALL_TEXTS_LIMIT, TEXT_LIMIT, at};
