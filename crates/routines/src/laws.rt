@@ -1,8 +1,10 @@
-//! The law on routines.
+//! The laws on routines.
 
-ghost use Rattle.routines.specs.Laws.{AreExact};
+ghost use Rattle.routines.specs.Laws.{AreExact, AreLawful};
 
-/// Routines and declarations are typed exactly where no rule fails in them, and then they leave one unit alone.
+/// Routines and declarations are typed exactly where no rule fails in them, and then they leave one unit alone. Of what they are
+/// read to, that is the unit; else it is a fault that is there.
 pub fn routine_laws()
-    ensures { AreExact }
+    ensures exact { AreExact }
+    ensures lawful { AreLawful }
 {}
