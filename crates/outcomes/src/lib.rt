@@ -1,0 +1,11 @@
+//! How a command of `tp` ends, and what it says of that.
+#![tactic(auto)]
+
+mod line;
+mod outcome;
+mod refusal;
+mod words;
+
+pub use line::write_line;
+pub use outcome::Outcome;
+pub use refusal::{CheckKind, ClassKind, Refusal, What};
