@@ -1,0 +1,4 @@
+pub mod Results
+pub mod Names
+pub mod Installing
+pub mod Clearing
