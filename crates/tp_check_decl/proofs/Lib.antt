@@ -1,0 +1,6 @@
+pub mod CheckLaws
+mod Finishing
+mod ItemSteps
+mod Showing
+mod NameLaws
+mod UnitLaws

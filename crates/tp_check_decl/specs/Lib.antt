@@ -1,0 +1,9 @@
+pub mod Units
+pub mod Limits
+pub mod Fronts
+pub mod Endings
+pub mod Programs
+pub mod Interfaces
+pub mod Shown
+pub mod Checked
+pub mod Laws
