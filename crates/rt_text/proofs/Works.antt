@@ -12,6 +12,7 @@ use Rattle.rt_write_numbers.proofs.IntegerWriting.{writes-integer}
 use Rattle.rt_read_strings.proofs.StringReading.{reads-string}
 use Rattle.rt_val.proofs.Giving.{gives-value, gives-place}
 use Rattle.rt_read_numbers.proofs.NumberReading.{reads-number}
+use Rattle.rt_str.proofs.TextMaking.{makes-text}
 use Rattle.rt_text.specs.Unit.{text_code, HoldsTextUnit}
 use Rattle.rt_text.specs.Promises.{TextWorks}
 
@@ -30,4 +31,5 @@ text-works program choice item ahead fits holds there = record {
   val_value = gives-value program choice text_code fits (record { unit_is = sym holds.is_there; routine_is = refl; resident = holds.resident; untested = refl; far = refl; locals = refl });
   val_place = gives-place program choice text_code fits (record { unit_is = sym holds.is_there; routine_is = refl; resident = holds.resident; untested = refl; far = refl; locals = refl });
   read_number = reads-number program choice item ahead text_code fits there (record { unit_is = sym holds.is_there; routine_is = refl; resident = holds.resident; untested = refl; far = refl; locals = refl });
+  str_integer = makes-text program choice item ahead text_code fits there (record { unit_is = sym holds.is_there; routine_is = refl; resident = holds.resident; untested = refl; far = refl; locals = refl });
 }

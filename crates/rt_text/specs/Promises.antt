@@ -9,6 +9,7 @@ use Rattle.rt_write_numbers.specs.Promises.{WritesInteger}
 use Rattle.rt_read_strings.specs.Promises.{ReadsString}
 use Rattle.rt_val.specs.Promises.{GivesValue, GivesPlace}
 use Rattle.rt_read_numbers.specs.Promises.{ReadsNumber}
+use Rattle.rt_str.specs.Promises.{MakesText}
 
 pub record TextWorks (program : FlatProgram) (choice : Choice) (item ahead : ℕ) : Type 0 where
   pub write_string : WritesString program choice item
@@ -24,6 +25,7 @@ pub record TextWorks (program : FlatProgram) (choice : Choice) (item ahead : ℕ
   pub val_value : GivesValue program choice
   pub val_place : GivesPlace program choice
   pub read_number : ReadsNumber program choice ahead
+  pub str_integer : MakesText program choice item
 
 -- As a program starts its item buffer is as the routines want it, and nothing of its input was read.
 pub record StartsText (program : FlatProgram) (choice : Choice) (item ahead : ℕ) : Type 0 where

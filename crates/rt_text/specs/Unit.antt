@@ -8,6 +8,7 @@ use Rattle.rt_write_numbers.specs.Routines.{write_integer_routine}
 use Rattle.rt_read_strings.specs.Routines.{read_string_routine}
 use Rattle.rt_val.specs.Routines.{val_value_routine, val_place_routine}
 use Rattle.rt_read_numbers.specs.Routines.{read_number_routine}
+use Rattle.rt_str.specs.Routines.{str_routine}
 
 -- in the order of their numbers
 abbrev pub character_codes : List Routine
@@ -15,7 +16,7 @@ character_codes =
     write_string_routine ∷ write_char_routine ∷ write_boolean_routine ∷ write_line_routine ∷ eof_routine ∷ eoln_routine ∷ read_char_routine ∷ read_line_routine ∷ []
 
 abbrev pub item_codes : List Routine
-item_codes = write_integer_routine ∷ read_string_routine ∷ val_value_routine ∷ val_place_routine ∷ read_number_routine ∷ []
+item_codes = write_integer_routine ∷ read_string_routine ∷ val_value_routine ∷ val_place_routine ∷ read_number_routine ∷ str_routine ∷ []
 
 abbrev pub text_code : UnitCode
 text_code = record {

@@ -17,6 +17,7 @@ use flat_code::{FlatDatum, FlatUnit};
 use rt_read_numbers::read_number;
 use rt_read_strings::read_string;
 use rt_read_text::{eof, eoln, read_char, read_line};
+use rt_str::str_integer;
 use rt_val::{val_place, val_value};
 use rt_write_numbers::write_integer;
 use rt_write_text::{write_boolean, write_char, write_line, write_string};
@@ -55,6 +56,7 @@ fn whole_unit(alloc: Global) -> Result<FlatUnit, AllocError>
         val_value(alloc)?,
         val_place(alloc)?,
         read_number(alloc)?,
+        str_integer(alloc)?,
     ]?;
     let globals = vec![in alloc; item(alloc)?, ahead(alloc)?]?;
     Ok(FlatUnit {
