@@ -5,10 +5,10 @@ use Rattle.std.proofs.lemmas.List.{length-replicate}
 use Rattle.integers.specs.Words.{w16, wrapping_add, wrapping_sub}
 use Rattle.flat_code.specs.declared.memory.Cell.TheVariants.{Known, Outside}
 use Rattle.flat_code.specs.declared.tree.Address.TheVariants.{Through}
-use Rattle.flat_code.specs.Tree.{Number, End, Loop}
+use Rattle.flat_code.specs.Tree.{Number, End}
 use Rattle.flat_code.specs.Memory.{Cells, Found, ◌>>=◌, address_of, place_after, put, laid}
 use Rattle.flat_code.specs.Program.{FlatProgram, Choice, UnitCode, runtime_key}
-use Rattle.flat_code.specs.Meaning.{Frame, State, activation_bytes, frame_of}
+use Rattle.flat_code.specs.Meaning.{Frame, activation_bytes, frame_of}
 use Rattle.flat_code.specs.Legal.{StackFits}
 use Rattle.routine_proofs.specs.Activation.{Shut, Holds, Activation, IsPlaced}
 use Rattle.routine_proofs.specs.Straight.{Onward, Leaving, Came, continued, straight, code_size}

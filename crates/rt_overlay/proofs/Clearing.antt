@@ -1,12 +1,12 @@
 -- The routines that always succeed.
-use Rattle.std.proofs.Common.{◌≡◌, ℕ, ◌+◌, ◌≤◌, List, [], ◌∷◌, Ok, false, refl, ap, ◌∙◌, arith}
-use Rattle.flat_code.specs.Tree.{Code, End, ◌then◌}
-use Rattle.flat_code.specs.Memory.{Cells, word_bytes, laid}
+use Rattle.std.proofs.Common.{ℕ, ◌+◌, ◌≤◌, List, [], ◌∷◌, false, refl, arith}
+use Rattle.flat_code.specs.Tree.{End}
+use Rattle.flat_code.specs.Memory.{word_bytes, laid}
 use Rattle.flat_code.specs.Program.{FlatProgram, Choice, UnitCode, runtime_key}
-use Rattle.flat_code.specs.Meaning.{Frame, State, activation_bytes, frame_of, stack_top}
+use Rattle.flat_code.specs.Meaning.{activation_bytes, frame_of, stack_top}
 use Rattle.flat_code.specs.Legal.{StackFits}
 use Rattle.routine_proofs.specs.Activation.{Activation}
-use Rattle.routine_proofs.specs.Straight.{Onward, straight}
+use Rattle.routine_proofs.specs.Straight.{Onward}
 use Rattle.routine_proofs.specs.Entry.{entered, memory_without}
 use Rattle.routine_proofs.specs.Promises.{IsHeld}
 use Rattle.routine_proofs.proofs.Doing.{weaker-does, then-does, straight-does, clear-does}

@@ -1,5 +1,5 @@
 -- OvrInit: the string is compared with the name of the overlay file.
-use Rattle.std.proofs.Common.{◌≡◌, ℕ, zero, suc, ◌+◌, ◌*◌, ◌≤◌, ◌<◌, ◌⊎◌, inl, inr, Bool, true, false, List, [], ◌∷◌, length, map, Ok, Err, pos, negsuc, refl, sym, ap, subst, ◌∙◌, arith, ⊎_elim}
+use Rattle.std.proofs.Common.{◌≡◌, ℕ, suc, ◌+◌, ◌*◌, ◌≤◌, ◌<◌, Bool, true, false, List, [], ◌∷◌, length, map, Ok, Err, pos, negsuc, refl, sym, ap, subst, ◌∙◌, arith, ⊎_elim}
 use Rattle.std.specs.Prelude.{nat_lt, ◌==◌, ◌&&◌, ◌||◌, if◌then◌else◌}
 use Rattle.std.proofs.lemmas.Bool.{cases_eq}
 use Rattle.std.proofs.lemmas.Bool.Decides.{nat_tests}
@@ -13,7 +13,7 @@ use Rattle.flat_code.specs.declared.tree.FlatOp.TheVariants as op
 use Rattle.flat_code.specs.Tree.{Number, AddressOf, SegmentOf, Op, Code, End, Loop, ◌then◌}
 use Rattle.flat_code.specs.Memory.{Cells, Found, ◌>>=◌, address_of, place_after, word_bytes, laid}
 use Rattle.flat_code.specs.Program.{FlatProgram, Choice, UnitCode, overlay_unit, runtime_key}
-use Rattle.flat_code.specs.Meaning.{Frame, State, truth, activation_bytes, frame_of, stack_top}
+use Rattle.flat_code.specs.Meaning.{Frame, truth, activation_bytes, frame_of, stack_top}
 use Rattle.flat_code.specs.Legal.{StackFits}
 use Rattle.routine_proofs.specs.Activation.{Slot, Shut, Free, Holds, Activation, IsPlaced}
 use Rattle.routine_proofs.specs.Straight.{Exit, Onward, Leaving, Came, byte_seen, segment_seen, seen_value, continued, straight, code_size}
@@ -25,7 +25,7 @@ use Rattle.routine_proofs.proofs.Doing.{weaker-does, then-does, straight-does, r
 use Rattle.routine_proofs.proofs.Calls.{call-ends, placed, starts}
 use Rattle.strings_in_memory.specs.Strings.{HasBytes, HasString, IsReached, place}
 use Rattle.strings_in_memory.proofs.Cells.{byte-read, plus-none, plus-one, bytes-further}
-use Rattle.string_loops.specs.Pieces.{word, behind, set_word}
+use Rattle.string_loops.specs.Pieces.{word, behind}
 use Rattle.string_loops.proofs.Seen.{op-so, set-so}
 use Rattle.string_loops.proofs.Entry.{string-inside, reached-inside}
 use Rattle.text_memory.proofs.Acts.{taken-does, other-does}

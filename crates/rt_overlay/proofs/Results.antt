@@ -1,23 +1,21 @@
 -- The store of a word in OvrResult, and what is left of it.
-use Rattle.std.proofs.Common.{◌≡◌, ℕ, ◌+◌, ◌≤◌, ◌<◌, List, [], ◌∷◌, length, get_or, Some, Ok, zero, suc, refl, sym, ap, ◌∙◌, arith}
+use Rattle.std.proofs.Common.{◌≡◌, ℕ, ◌+◌, ◌≤◌, ◌<◌, [], ◌∷◌, get_or, Some, Ok, zero, suc, refl, ap, ◌∙◌, arith}
 use Rattle.integers.specs.Words.{w16, wrapping_add, low_byte, high_byte}
-use Rattle.flat_code.specs.declared.tree.Address.{Address}
 use Rattle.flat_code.specs.declared.tree.Address.TheVariants.{Global}
 use Rattle.flat_code.specs.declared.memory.Place.{Place}
 use Rattle.flat_code.specs.declared.memory.Cell.{Cell}
 use Rattle.flat_code.specs.declared.memory.Cell.TheVariants.{Known, Unset, Outside}
 use Rattle.flat_code.specs.Tree.{Number, Code}
 use Rattle.flat_code.specs.Memory.{Cells, Found, ◌>>=◌, address_of, place_after, put, if_inside, store_bytes, word_bytes, laid}
-use Rattle.flat_code.specs.Program.{Name, FlatProgram, Choice, overlay_unit}
-use Rattle.flat_code.specs.Meaning.{Frame, State, if_placed, stack_top}
+use Rattle.flat_code.specs.Program.{Name, Choice, overlay_unit}
+use Rattle.flat_code.specs.Meaning.{Frame, if_placed}
 use Rattle.flat_code.specs.Gives.{IsBelow}
 use Rattle.routine_proofs.specs.Activation.{Activation}
 use Rattle.routine_proofs.specs.Straight.{outer_place, seen_value, onward, continued, straight}
 use Rattle.strings_in_memory.specs.Strings.{HasBytes, IsReached, IsOffStack, place}
 use Rattle.strings_in_memory.proofs.Cells.{byte-stored, bytes-kept, laid-has, laid-other, word-so}
 use Rattle.string_loops.proofs.BackwardLoop.{reached-still}
-use Rattle.rt_overlay.specs.Data.{HasOverlay}
-use Rattle.rt_overlay.specs.Routines.{result_at, name_at, set_result}
+use Rattle.rt_overlay.specs.Routines.{result_at, set_result}
 use Rattle.rt_overlay.specs.Promises.{IsResult}
 
 -- ---- where the data lie

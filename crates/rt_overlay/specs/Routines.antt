@@ -1,7 +1,7 @@
 -- OvrInit, OvrSetBuf and OvrClearBuf as flat code. The unit's data: 0 OvrResult, 3 the name of the program's overlay file, which is empty where the program has none.
 use Rattle.std.specs.Prelude.{ℕ, [], pos, negsuc, None}
 use Rattle.flat_code.specs.declared.tree.Address.{Address}
-use Rattle.flat_code.specs.declared.tree.Address.TheVariants.{Global, Local}
+use Rattle.flat_code.specs.declared.tree.Address.TheVariants.{Global}
 use Rattle.flat_code.specs.declared.tree.FlatOp.TheVariants as op
 use Rattle.flat_code.specs.Tree.{Expr, Number, Byte, AddressOf, SegmentOf, Op, StoreWord, Runtime, Code, End, Do, If, Loop, ◌then◌}
 use Rattle.flat_code.specs.Program.{Routine}
