@@ -1,0 +1,4 @@
+pub mod Whole
+pub mod Agreed
+pub mod SameForms
+pub mod Lines

@@ -1,0 +1,4 @@
+pub mod Declared
+pub mod Agreement
+pub mod Forms
+pub mod Laws
