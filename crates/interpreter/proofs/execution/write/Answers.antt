@@ -22,4 +22,4 @@ returns-in_err-sort-in-len1-up c =
 pub returns-in_ok-sort-in-len1-up : goal.returns-in_ok-sort-in-len1-up
 returns-in_ok-sort-in-len1-up c =
     let s = view_run c.args.run.now in
-    λ p. rw (cons_of c.args.items.now c.item-item.result c.in-len1-up.len_at_least c.item-item.is) (moves_found2 p _ _ s _ _ _ _ _ (rw c.deref.ensures at (c.in_ok-sort-in-len1-up.ensures s)) (rw three_binds (rw c.deref-2.ensures at (c.evaluate.ensures p s))))
+    λ p. rw (cons_of c.args.items.now c.item-item.result c.in-len1-up.len_at_least c.item-item.is) (moves_found2 p _ _ s _ _ _ _ _ (rw c.deref.ensures at (c.in_ok-sort-in-len1-up.ensures s)) (rw three_binds (rw c.deref-in-len1-up.ensures at (c.evaluate.ensures p s))))
