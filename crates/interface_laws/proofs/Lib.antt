@@ -1,0 +1,6 @@
+mod Growing
+mod TypesGrow
+mod RoutinesGrow
+mod Renumbered
+mod Shorter
+mod AgreementLaws
