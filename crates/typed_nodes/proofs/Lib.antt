@@ -1,0 +1,11 @@
+pub mod Ordinals
+pub mod Sorted
+pub mod Wanting
+pub mod Operators
+pub mod Combined
+pub mod Followed
+pub mod Fields
+pub mod Assigned
+pub mod Joined
+pub mod Indexed
+pub mod Selected
