@@ -1,0 +1,55 @@
+-- Calls of routines are typed.
+use Rattle.std.proofs.Common.{◌≡◌, ℕ, zero, suc, Bool, List, Option, Some, None, refl, sym, subst}
+use Rattle.type_layout.specs.declared.definitions.TypeId.{TypeId}
+use Rattle.type_layout.specs.declared.definitions.RoutineId.{RoutineId}
+use Rattle.type_layout.specs.declared.definitions.Header.{Header}
+use Rattle.type_layout.specs.declared.texts.Place.{Place}
+use Rattle.typed_tree.specs.Expressions.{Expression, Arguments, Call, NoReceiver}
+use Rattle.well_formed.specs.Scopes.{Scope, HasResult, IsRoutineAt}
+use Rattle.well_formed.specs.Typed.{IsTyped, CallFits, IsOwn, IsTypedReceiver, AreTypedArguments, TakeEach}
+use Rattle.call_rules.specs.Given.{Handed, arguments_of, result_called, called, result_performed, performed}
+use Rattle.typed_nodes.specs.Tables.{IsResultIn, IsHeaderIn, IsSound}
+use Rattle.typed_calls.specs.Laws.{AreOperands, IsFree, IsDeclared}
+use Rattle.typed_calls.proofs.Given.{taken_typed, taken_alike, given_taken}
+
+module _ (s : Scope) where
+  call_fits : (unit number : ℕ) (header : Header) (args : Arguments) → IsRoutineAt (IsFree header) s unit number → TakeEach s header.params args
+      → CallFits s unit number header.result (λ owner. IsOwn s owner NoReceiver) (λ params. TakeEach s params args) (IsTypedReceiver s NoReceiver × AreTypedArguments s args)
+  call_fits zero number header args declared h =
+      let r = declared.0 in
+      let free = declared.2.free in
+      let same = declared.2.same in
+      (r, declared.1, sym same.result, subst (λ (o : Option TypeId). IsOwn s o NoReceiver) (sym free) tt, taken_alike s header.params r.header.params args same.params h)
+  call_fits (suc unit) number header args declared h = (declared, (tt, taken_typed s header.params args h))
+
+  pub has_result : (o : Option TypeId) → IsResultIn s.types o → HasResult s o
+  has_result None h = tt
+  has_result (Some ty) h = h
+
+  call_typed : (routine : RoutineId) (header : Header) (args : Arguments) → IsDeclared s routine header → IsHeaderIn s.types header → TakeEach s header.params args
+      → IsTyped s (Call header.result routine NoReceiver args)
+  call_typed routine header args declared there h =
+      (has_result header.result there.result, call_fits routine.unit routine.number header args declared h)
+
+module _ (s : Scope) (sound : IsSound s.types) (place : Place) (checked : Bool) (routine : RoutineId) (header : Header) (es : List Expression) (e : Expression)
+    (declared : IsDeclared s routine header) (there : IsHeaderIn s.types header) (oes : AreOperands s es) where
+  made : (o : Option TypeId) → header.result ≡ o → (all : List Handed) → TakeEach s header.params (arguments_of all) → e ≡ Call o routine NoReceiver (arguments_of all) → IsTyped s e
+  made o is all h m =
+      subst (λ (x : Expression). IsTyped s x) (sym m)
+      (subst (λ (r : Option TypeId). IsTyped s (Call r routine NoReceiver (arguments_of all))) is (call_typed s routine header (arguments_of all) declared there h))
+
+  called_by : (o : Option TypeId) → header.result ≡ o → (result_called s.types place checked routine header o es).holds e → IsTyped s e
+  called_by None is h = absurd h
+  called_by (Some ty) is h = made (Some ty) is h.part (given_taken s sound place checked header.params es h.part there.params oes h.holds) h.made
+
+  pub called_typed : (called s.types place checked routine header es).holds e → IsTyped s e
+  unfolding called
+  called_typed h = called_by header.result refl h
+
+  performed_by : (o : Option TypeId) → header.result ≡ o → (result_performed s.types place checked routine header o es).holds e → IsTyped s e
+  performed_by None is h = made None is h.part (given_taken s sound place checked header.params es h.part there.params oes h.holds) h.made
+  performed_by (Some ty) is h = absurd h
+
+  pub performed_typed : (performed s.types place checked routine header es).holds e → IsTyped s e
+  unfolding performed
+  performed_typed h = performed_by header.result refl h

@@ -1,0 +1,3 @@
+pub mod Casts
+pub mod Given
+pub mod Calls

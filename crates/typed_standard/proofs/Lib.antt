@@ -1,0 +1,4 @@
+pub mod Arguments
+pub mod Held
+pub mod Rows
+pub mod Sizes

@@ -1,0 +1,56 @@
+-- SizeOf is typed.
+use Rattle.std.proofs.Common.{ℕ, zero, suc, ◌≤◌, All, Bool, true, false, cond, List, [], ◌∷◌, get_or, Some, sym, subst, arith}
+use Rattle.std.proofs.Math.IntN.{pos}
+use Rattle.std.specs.Prelude.{◌≤ℤ◌}
+use Rattle.std.proofs.lemmas.Int.{ints}
+use Rattle.std.proofs.lemmas.List.Elements.{All-head, All-tail}
+use Rattle.type_layout.specs.declared.definitions.TypeId.{TypeId}
+use Rattle.type_layout.specs.declared.definitions.Host.TheVariants as host
+use Rattle.type_layout.specs.declared.texts.Place.{Place}
+use Rattle.type_layout.specs.declared.layout.Layout.{Layout}
+use Rattle.type_layout.specs.Layouts.{plain, layouts_of, size_of}
+use Rattle.typed_tree.specs.Expressions as tree
+use Rattle.typed_tree.specs.Expressions.{Expression, Load, Std, NoArguments, ByPlace}
+use Rattle.well_formed.specs.Fits.{definition}
+use Rattle.well_formed.specs.Scopes.{Scope, HasType}
+use Rattle.well_formed.specs.Typed.{IsTyped, HasPlace}
+use Rattle.well_formed.specs.Standard.{Variable, Size, size}
+use Rattle.typing_rules.specs.Sorts.{word}
+use Rattle.standard_rules.specs.Sizes.{has_class, sized, variable_sized}
+use Rattle.typed_nodes.specs.Tables.{IsSound}
+use Rattle.typed_nodes.specs.Laws.{IsOperand}
+use Rattle.typed_nodes.proofs.Ordinals.{holding, value_held, stored_word}
+use Rattle.typed_nodes.proofs.Indexed.{type_some, loaded_from}
+
+abbrev IsSmall : Layout → Type 0
+IsSmall layout = layout.size ≤ 65520
+
+get_small : (layouts : List Layout) (k : ℕ) → All IsSmall layouts → (get_or layouts k (plain 0)).size ≤ 65520
+get_small [] zero all = omega arith
+get_small [] (suc k) all = omega arith
+get_small (layout ∷ layouts) zero all = All-head IsSmall layout layouts all
+get_small (layout ∷ layouts) (suc k) all = get_small layouts k (All-tail IsSmall layout layouts all)
+
+module _ (s : Scope) (sound : IsSound s.types) where
+  pub sized_typed : (ty : TypeId) → IsTyped s (sized s.types ty)
+  sized_typed ty =
+      let small : size_of s.types ty ≤ 65520 = get_small (layouts_of s.types) ty.0 sound.fits in
+      let least : pos 0 ≤ℤ pos (size_of s.types ty) = omega (arith, ints) in
+      let most : pos (size_of s.types ty) ≤ℤ pos 65535 = omega (arith, ints, small) in
+      value_held s.types (definition s.types word) host.Word (pos (size_of s.types ty)) (stored_word s.types sound) (holding host.Word (pos (size_of s.types ty)) least most)
+
+  node_by : (ty : TypeId) (at : tree.Place) → HasType s ty → HasPlace s at ty → (b : Bool) → IsTyped s (cond b (Std (Some word) 12 (ByPlace at NoArguments)) (sized s.types ty))
+  node_by ty at there has true =
+      let stored = stored_word s.types sound in
+      (type_some (definition s.types word) host.Word stored, (Variable ∷ [], Size, size, ((ty, has, there), tt), stored))
+  node_by ty at there has false = sized_typed ty
+
+  by_operand : (place : Place) (a e : Expression) → IsOperand s a → (variable_sized s.types place a).holds e → IsTyped s e
+  unfolding variable_sized
+  by_operand place (Load ty at) e oa h =
+      let from = loaded_from s ty at oa in
+      subst (λ (x : Expression). IsTyped s x) (sym h) (node_by ty at from.0 from.1 (has_class s.types ty))
+  by_operand place a e oa h = absurd h
+
+  pub variable_typed : (place : Place) (a e : Expression) → IsOperand s a → (variable_sized s.types place a).holds e → IsTyped s e
+  variable_typed place a e oa h = by_operand place a e oa h
