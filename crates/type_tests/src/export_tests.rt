@@ -1,71 +1,65 @@
 //! Interfaces of units.
 
-use crate::interface_samples::{add, first, integer, named, names, record_of};
+use crate::interface_samples::{Declared, ItemSample, first, items};
+use crate::rows::expect;
 use std::alloc::{AllocError, Global};
-use type_layout::{Header, Kind, Names, Param, Params, TypeDef, TypeId, Types};
-use typed_tree::{Globals, Item, Items, Routines, Unit};
+use tree_samples::TypeSample::{Ordinal, PointerTo, Procedural, RecordOf, Str};
+use tree_samples::{HeaderSample, UnitSample, unit};
+use type_layout::{Header, Host, Kind, TypeDef, TypeId, Types};
+use typed_tree::{Item, Unit};
 use unit_interface::{Interface, interface_of};
 
-// The types of the unit U: Integer, a text, two records of which the second has a field of the first, a pointer to
-// the second that the unit T declares, another text, and the type of procedures with the last text.
-fn types(alloc: Global) -> Result<Types, AllocError> {
-    let mut types = Types::new(alloc);
-    add(&mut types, b"SYSTEM", 2, integer())?;
-    add(&mut types, b"U", 0, TypeDef::Str { max: 9 })?;
-    add(&mut types, b"U", 1, record_of(alloc, b"CENTS", 0)?)?;
-    add(&mut types, b"U", 2, record_of(alloc, b"PRICE", 2)?)?;
-    let target = TypeId(3);
-    add(&mut types, b"T", 5, TypeDef::PointerTo { target })?;
-    add(&mut types, b"U", 3, TypeDef::Str { max: 20 })?;
-    let header = header(alloc, 5)?;
-    add(&mut types, b"U", 4, TypeDef::Procedural { header })?;
-    Ok(types)
+// Integer, a text, two records of which the second has a field of the first, a pointer to the second that the unit T
+// declares, another text, and the type of procedures with the last text.
+const TYPES: &[Declared] = &[
+    ("SYSTEM", 2, Ordinal(Host::Integer, -32_768, 32_767)),
+    ("U", 0, Str(9)),
+    ("U", 1, RecordOf(&[("CENTS", 0)])),
+    ("U", 2, RecordOf(&[("PRICE", 2)])),
+    ("T", 5, PointerTo(3)),
+    ("U", 3, Str(20)),
+    ("U", 4, Procedural((Kind::Procedure, &[(true, 5)], None))),
+];
+
+// A text, a pointer to itself, and a pointer to a type that isn't there.
+const ROUND: &[Declared] = &[
+    ("U", 0, Str(9)),
+    ("U", 1, PointerTo(1)),
+    ("U", 2, PointerTo(7)),
+];
+
+// A procedure with the type of procedures.
+const TAKING: HeaderSample = (Kind::Procedure, &[(true, 6)], None);
+
+const UNIT: UnitSample = UnitSample {
+    names: &["U", "T"],
+    types: TYPES,
+    globals: &[],
+    initial: None,
+    overlayable: false,
+    overlaid: &[],
+    stack: 16_384,
+    heap: 0,
+};
+
+const CIRCULAR: UnitSample = UnitSample {
+    types: ROUND,
+    ..UNIT
+};
+
+fn shown(alloc: Global, unit: &Unit) -> Result<Interface, AllocError> {
+    interface_of(alloc, unit)
 }
 
-// The header of a procedure with a parameter.
-fn header(alloc: Global, ty: u32) -> Result<Header, AllocError> {
-    let mut params = Params::new(alloc);
-    params.push(Param {
-        name: named(b"X")?,
-        by_ref: true,
-        ty: TypeId(ty),
-    })?;
-    Ok(Header {
-        kind: Kind::Procedure,
-        params,
-        result: None,
-    })
-}
-
-fn unit(alloc: Global, types: Types, items: Items) -> Result<Unit, AllocError> {
-    Ok(Unit {
-        name: named(b"U")?,
-        names: names(alloc, &[b"U", b"T"])?,
-        types,
-        items,
-        globals: Globals::new(alloc),
-        routines: Routines::new(alloc),
-        initial: None,
-        uses: names(alloc, &[b"T"])?,
-        overlayable: false,
-        overlaid: Names::new(alloc),
-        stack: 16_384,
-        heap: 0,
-    })
-}
-
-fn variable(ty: u32) -> Result<Item, AllocError> {
-    Ok(Item::Var {
-        name: named(b"V")?,
-        ty: TypeId(ty),
-        number: 3,
-    })
-}
-
-fn shown(alloc: Global, item: Item) -> Result<Interface, AllocError> {
-    let mut items = Items::new(alloc);
-    items.push(item)?;
-    interface_of(alloc, &unit(alloc, types(alloc)?, items)?)
+fn shown_of(
+    alloc: Global,
+    sample: &UnitSample,
+    list: &[ItemSample],
+) -> Result<Interface, AllocError> {
+    let items = items(alloc, list)?;
+    let mut unit = unit(alloc, sample, &[])?;
+    unit.items = items;
+    shown(alloc, &unit)
 }
 
 // The first letter of the unit that declares a type, and the type's number there.
@@ -89,11 +83,8 @@ fn parameter(header: &Header) -> u32 {
 }
 
 // The type that a type names first.
-fn part(types: &Types, id: u32) -> u32 {
-    if id >= types.count() {
-        return 99;
-    }
-    match types.get(TypeId(id)) {
+fn part_of(one: &TypeDef) -> u32 {
+    match one {
         TypeDef::RecordOf { fields } => match fields.as_slice().first() {
             Some(field) => field.ty.0,
             None => 99,
@@ -104,101 +95,116 @@ fn part(types: &Types, id: u32) -> u32 {
     }
 }
 
-// The type that the first item names first, and the number of the variable or routine.
-fn item(interface: &Interface) -> (u32, u32) {
-    match interface.items.as_slice().first() {
-        Some(Item::Var { ty, number, .. }) => (ty.0, *number),
-        Some(Item::Code { header, number, .. }) => (parameter(header), *number),
+fn part(types: &Types, id: u32) -> u32 {
+    if id < types.count() {
+        part_of(types.get(TypeId(id)))
+    } else {
+        99
+    }
+}
+
+/// A type by the first letter of the unit that declares it, its number there, and the type that it names first or 99.
+type Known = ((u8, u32), u32);
+
+fn are_types(types: &Types, wanted: &[Known]) -> bool {
+    if types.count() as usize != wanted.len() {
+        return false;
+    }
+    let mut id = 0u32;
+    for (from, names) in wanted {
+        if origin(types, id) != *from || part(types, id) != *names {
+            return false;
+        }
+        id = id.saturating_add(1);
+    }
+    true
+}
+
+// The type that an item names first, and the number of the variable or routine.
+fn told(item: &Item) -> (u32, u32) {
+    match item {
+        Item::Var { ty, number, .. } => (ty.0, *number),
+        Item::Code { header, number, .. } => (parameter(header), *number),
         _ => (99, 99),
     }
 }
 
-fn reaches_through_a_field(alloc: Global) -> Result<bool, AllocError> {
-    let interface = shown(alloc, variable(3)?)?;
-    let types = &interface.types;
+fn are_items(items: &[Item], wanted: &[(u32, u32)]) -> bool {
+    if items.len() != wanted.len() {
+        return false;
+    }
+    for place in 0..items.len() {
+        if told(&items[place]) != wanted[place] {
+            return false;
+        }
+    }
+    true
+}
+
+/// A unit, its items, the types that these reach, and the items' types and numbers in the interface.
+type Row = (
+    &'static UnitSample,
+    &'static [ItemSample],
+    &'static [Known],
+    &'static [(u32, u32)],
+);
+
+fn holds(alloc: Global, row: &Row) -> Result<bool, AllocError> {
+    let (unit, list, types, items) = row;
+    let interface = shown_of(alloc, unit, list)?;
     Ok(
-        types.count() == 3
-            && origin(types, 0) == (b'S', 2)
-            && origin(types, 1) == (b'U', 1)
-            && origin(types, 2) == (b'U', 2)
-            && part(types, 1) == 0
-            && part(types, 2) == 1
-            && item(&interface) == (2, 3)
-            && first(&interface.name) == b'U',
+        first(&interface.name) == b'U'
+            && are_types(&interface.types, types)
+            && are_items(interface.items.as_slice(), items),
     )
 }
 
-#[test]
-fn a_type_is_reached_through_a_field(rt: HostRuntime) {
-    assert!(rt; reaches_through_a_field(rt.alloc()) == Ok(true));
-}
+// A type is reached through a field; one of another unit keeps its origin; one is reached through a header; an empty
+// interface reaches none; types may go round.
+const ROWS: &[Row] = &[
+    (
+        &UNIT,
+        &[ItemSample::Var("V", 3)],
+        &[((b'S', 2), 99), ((b'U', 1), 0), ((b'U', 2), 1)],
+        &[(2, 3)],
+    ),
+    (
+        &UNIT,
+        &[ItemSample::Var("V", 4)],
+        &[
+            ((b'S', 2), 99),
+            ((b'U', 1), 0),
+            ((b'U', 2), 1),
+            ((b'T', 5), 2),
+        ],
+        &[(3, 3)],
+    ),
+    (
+        &UNIT,
+        &[ItemSample::Code("P", TAKING)],
+        &[((b'U', 3), 99), ((b'U', 4), 0)],
+        &[(1, 8)],
+    ),
+    (&UNIT, &[], &[], &[]),
+    (
+        &CIRCULAR,
+        &[ItemSample::Var("V", 1), ItemSample::Var("V", 2)],
+        &[((b'U', 1), 0), ((b'U', 2), 7)],
+        &[(0, 3), (1, 3)],
+    ),
+];
 
-fn reaches_the_target(alloc: Global) -> Result<bool, AllocError> {
-    let interface = shown(alloc, variable(4)?)?;
-    let types = &interface.types;
-    Ok(
-        types.count() == 4
-            && origin(types, 2) == (b'U', 2)
-            && origin(types, 3) == (b'T', 5)
-            && part(types, 3) == 2
-            && item(&interface) == (3, 3),
-    )
-}
-
-#[test]
-fn a_type_of_another_unit_keeps_its_origin(rt: HostRuntime) {
-    assert!(rt; reaches_the_target(rt.alloc()) == Ok(true));
-}
-
-fn reaches_through_headers(alloc: Global) -> Result<bool, AllocError> {
-    let routine = Item::Code {
-        name: named(b"P")?,
-        header: header(alloc, 6)?,
-        number: 8,
-    };
-    let interface = shown(alloc, routine)?;
-    let types = &interface.types;
-    Ok(
-        types.count() == 2
-            && origin(types, 0) == (b'U', 3)
-            && origin(types, 1) == (b'U', 4)
-            && part(types, 1) == 0
-            && item(&interface) == (1, 8),
-    )
-}
-
-#[test]
-fn a_type_is_reached_through_a_header(rt: HostRuntime) {
-    assert!(rt; reaches_through_headers(rt.alloc()) == Ok(true));
-}
-
-fn shows_nothing(alloc: Global) -> Result<bool, AllocError> {
-    let interface = interface_of(alloc, &unit(alloc, types(alloc)?, Items::new(alloc))?)?;
-    Ok(interface.types.count() == 0 && interface.items.is_empty())
+// The number of the first row that does not hold.
+fn first_wrong(alloc: Global) -> Result<Option<usize>, AllocError> {
+    for number in 0..ROWS.len() {
+        if !holds(alloc, &ROWS[number])? {
+            return Ok(Some(number));
+        }
+    }
+    Ok(None)
 }
 
 #[test]
-fn an_empty_interface_reaches_no_type(rt: HostRuntime) {
-    assert!(rt; shows_nothing(rt.alloc()) == Ok(true));
-}
-
-// A pointer to itself, and to a type that isn't there.
-fn goes_round(alloc: Global) -> Result<bool, AllocError> {
-    let mut types = Types::new(alloc);
-    add(&mut types, b"U", 0, TypeDef::Str { max: 9 })?;
-    let target = TypeId(1);
-    add(&mut types, b"U", 1, TypeDef::PointerTo { target })?;
-    let target = TypeId(7);
-    add(&mut types, b"U", 2, TypeDef::PointerTo { target })?;
-    let mut items = Items::new(alloc);
-    items.push(variable(1)?)?;
-    items.push(variable(2)?)?;
-    let interface = interface_of(alloc, &unit(alloc, types, items)?)?;
-    let types = &interface.types;
-    Ok(types.count() == 2 && part(types, 0) == 0 && part(types, 1) == 7)
-}
-
-#[test]
-fn types_may_go_round(rt: HostRuntime) {
-    assert!(rt; goes_round(rt.alloc()) == Ok(true));
+fn an_interface_has_the_types_that_its_items_reach(rt: HostRuntime) {
+    expect(&rt, first_wrong(rt.alloc()));
 }

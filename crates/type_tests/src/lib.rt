@@ -10,9 +10,13 @@ mod interface_samples;
 #[cfg(test)]
 mod layout_tests;
 #[cfg(test)]
+mod measures;
+#[cfg(test)]
 mod order_tests;
 #[cfg(test)]
 mod resolve_tests;
+#[cfg(test)]
+mod rows;
 #[cfg(test)]
 mod scope_tests;
 #[cfg(test)]
@@ -20,6 +24,6 @@ mod slot_tests;
 #[cfg(test)]
 mod statement_tests;
 #[cfg(test)]
-mod tree_samples;
+mod tables;
 #[cfg(test)]
 mod tree_tests;

@@ -1,35 +1,33 @@
 //! Orders that were worked out by hand.
 
+use crate::rows::expect;
 use std::alloc::{AllocError, Global};
+use tree_samples::named;
 use type_layout::{Name, Names};
-use unit_interface::{OrderError, UsesOf, initial_order};
-
-fn named(bytes: &[u8]) -> Result<Name, AllocError> {
-    match Name::new(bytes) {
-        Some(name) => Ok(name),
-        None => Err(AllocError),
-    }
-}
+use unit_interface::{Order, OrderError, UsesOf, initial_order};
 
 // The names of these letters, each a unit.
-fn names(alloc: Global, letters: &[u8]) -> Result<Names, AllocError> {
+fn names(alloc: Global, letters: &str) -> Result<Names, AllocError> {
     let mut list = Names::new(alloc);
-    for letter in letters {
-        list.push(named(&[*letter])?)?;
+    for letter in letters.as_bytes() {
+        list.push(letter_name(*letter)?)?;
     }
     Ok(list)
 }
 
-fn unit(
-    alloc: Global,
-    letter: &[u8],
-    interface: &[u8],
-    implementation: &[u8],
-) -> Result<UsesOf, AllocError> {
+fn letter_name(letter: u8) -> Result<Name, AllocError> {
+    Name::new(&[letter]).ok_or(AllocError)
+}
+
+fn unit(alloc: Global, uses: &Uses) -> Result<UsesOf, AllocError> {
+    let (letter, interface, implementation) = uses;
+    let implementation = names(alloc, implementation)?;
+    let interface = names(alloc, interface)?;
+    let name = named(letter)?;
     Ok(UsesOf {
-        name: named(letter)?,
-        interface: names(alloc, interface)?,
-        implementation: names(alloc, implementation)?,
+        name,
+        interface,
+        implementation,
     })
 }
 
@@ -40,119 +38,124 @@ fn push_name(text: &mut String, name: &Name) -> Result<(), AllocError> {
     Ok(())
 }
 
-// The order of these units for the first one, as letters, or `!` and the unit that is told to lie on a circle.
-fn told(alloc: Global, units: &[UsesOf]) -> Result<String, AllocError> {
-    let mut text = String::new(alloc);
+// The order of these units for the first one.
+fn order_of(alloc: Global, units: &[UsesOf]) -> Result<Order, OrderError> {
     if units.is_empty() {
-        return Ok(text);
+        Err(OrderError::NoMemory)
+    } else {
+        initial_order(alloc, units, 0)
     }
-    match initial_order(alloc, units, 0) {
-        Ok(order) => {
-            for place in order.as_slice() {
-                if let Some(unit) = units.get(*place as usize) {
-                    push_name(&mut text, &unit.name)?;
-                }
-            }
+}
+
+fn letters(alloc: Global, units: &[UsesOf], order: &[u32]) -> Result<String, AllocError> {
+    let mut text = String::new(alloc);
+    for place in order {
+        if let Some(unit) = units.get(*place as usize) {
+            push_name(&mut text, &unit.name)?;
         }
-        Err(OrderError::Circular { name }) => {
-            text.push('!')?;
-            push_name(&mut text, &name)?;
-        }
-        Err(OrderError::NoMemory) => return Err(AllocError),
     }
     Ok(text)
 }
 
+fn circle(alloc: Global, name: &Name) -> Result<String, AllocError> {
+    let mut text = String::new(alloc);
+    text.push('!')?;
+    push_name(&mut text, name)?;
+    Ok(text)
+}
+
+// The order as letters, or `!` and the unit that is told to lie on a circle.
+fn told(alloc: Global, units: &[UsesOf]) -> Result<String, AllocError> {
+    match order_of(alloc, units) {
+        Ok(order) => letters(alloc, units, order.as_slice()),
+        Err(OrderError::Circular { name }) => circle(alloc, &name),
+        Err(OrderError::NoMemory) => Err(AllocError),
+    }
+}
+
 /// A unit, the units that its interface uses, and those that its implementation uses.
-type Uses = (&'static [u8], &'static [u8], &'static [u8]);
+type Uses = (&'static str, &'static str, &'static str);
+
+fn units(alloc: Global, list: &[Uses]) -> Result<Vec<UsesOf>, AllocError> {
+    let mut units = Vec::new(alloc);
+    for uses in list {
+        units.push(unit(alloc, uses)?)?;
+    }
+    Ok(units)
+}
 
 fn ordered(alloc: Global, list: &[Uses]) -> Result<String, AllocError> {
-    let mut units = Vec::new(alloc);
-    for (letter, interface, implementation) in list {
-        units.push(unit(alloc, letter, interface, implementation)?)?;
-    }
+    let units = units(alloc, list)?;
     told(alloc, units.as_slice())
 }
 
-fn is_order(alloc: Global, list: &[Uses], wanted: &str) -> bool {
-    match ordered(alloc, list) {
-        Ok(order) => order.as_str() == wanted,
-        Err(_) => false,
+// The number of the first row with another order.
+fn first_wrong(alloc: Global, rows: &[Row]) -> Result<Option<usize>, AllocError> {
+    for number in 0..rows.len() {
+        let (list, wanted) = rows[number];
+        if ordered(alloc, list)?.as_str() != wanted {
+            return Ok(Some(number));
+        }
     }
+    Ok(None)
 }
 
 /// The units of a program, and their order.
 type Row = (&'static [Uses], &'static str);
 
 const ORDERS: &[Row] = &[
-    (&[(b"P", b"", b"")], "P"),
-    (
-        &[(b"P", b"AB", b""), (b"B", b"", b""), (b"A", b"", b"")],
-        "ABP",
-    ),
+    (&[("P", "", "")], "P"),
+    (&[("P", "AB", ""), ("B", "", ""), ("A", "", "")], "ABP"),
     (
         &[
-            (b"P", b"AB", b""),
-            (b"A", b"D", b""),
-            (b"B", b"D", b""),
-            (b"D", b"", b""),
+            ("P", "AB", ""),
+            ("A", "D", ""),
+            ("B", "D", ""),
+            ("D", "", ""),
         ],
         "DABP",
     ),
     (
         &[
-            (b"P", b"A", b""),
-            (b"A", b"D", b"C"),
-            (b"C", b"", b""),
-            (b"D", b"", b""),
+            ("P", "A", ""),
+            ("A", "D", "C"),
+            ("C", "", ""),
+            ("D", "", ""),
         ],
         "DCAP",
     ),
-    (
-        &[(b"P", b"OAA", b""), (b"A", b"", b"O"), (b"X", b"", b"")],
-        "AP",
-    ),
+    (&[("P", "OAA", ""), ("A", "", "O"), ("X", "", "")], "AP"),
 ];
 
 #[test]
 fn used_units_come_first(rt: HostRuntime) {
-    for (list, wanted) in ORDERS {
-        assert!(rt; is_order(rt.alloc(), list, wanted), "{wanted}");
-    }
+    expect(&rt, first_wrong(rt.alloc(), ORDERS));
 }
 
 const CIRCLES_THROUGH_IMPLEMENTATIONS: &[Row] = &[
-    (
-        &[(b"P", b"A", b""), (b"A", b"B", b""), (b"B", b"", b"A")],
-        "BAP",
-    ),
-    (
-        &[(b"P", b"BA", b""), (b"A", b"B", b""), (b"B", b"", b"A")],
-        "ABP",
-    ),
-    (&[(b"P", b"", b"P")], "P"),
+    (&[("P", "A", ""), ("A", "B", ""), ("B", "", "A")], "BAP"),
+    (&[("P", "BA", ""), ("A", "B", ""), ("B", "", "A")], "ABP"),
+    (&[("P", "", "P")], "P"),
 ];
 
 #[test]
 fn a_unit_that_is_not_finished_is_passed_over(rt: HostRuntime) {
-    for (list, wanted) in CIRCLES_THROUGH_IMPLEMENTATIONS {
-        assert!(rt; is_order(rt.alloc(), list, wanted), "{wanted}");
-    }
+    expect(
+        &rt,
+        first_wrong(rt.alloc(), CIRCLES_THROUGH_IMPLEMENTATIONS),
+    );
 }
 
 const CIRCLES: &[Row] = &[
-    (
-        &[(b"P", b"A", b""), (b"A", b"B", b""), (b"B", b"A", b"")],
-        "!A",
-    ),
-    (&[(b"P", b"A", b""), (b"A", b"A", b"")], "!A"),
+    (&[("P", "A", ""), ("A", "B", ""), ("B", "A", "")], "!A"),
+    (&[("P", "A", ""), ("A", "A", "")], "!A"),
     (
         &[
-            (b"P", b"A", b""),
-            (b"A", b"B", b""),
-            (b"B", b"C", b""),
-            (b"C", b"D", b""),
-            (b"D", b"B", b""),
+            ("P", "A", ""),
+            ("A", "B", ""),
+            ("B", "C", ""),
+            ("C", "D", ""),
+            ("D", "B", ""),
         ],
         "!B",
     ),
@@ -160,7 +163,5 @@ const CIRCLES: &[Row] = &[
 
 #[test]
 fn a_circle_of_interface_uses_is_told(rt: HostRuntime) {
-    for (list, wanted) in CIRCLES {
-        assert!(rt; is_order(rt.alloc(), list, wanted), "{wanted}");
-    }
+    expect(&rt, first_wrong(rt.alloc(), CIRCLES));
 }

@@ -1,153 +1,76 @@
 //! Slots and rules of small lines of object types.
 
+use crate::rows::expect;
 use object_vmt::{ClassError, Classes, classes};
 use std::alloc::{AllocError, Global};
-use std::test::Fail;
-use type_layout::{
-    Field, Fields, Header, Host, Kind, Method, Methods, Name, Param, Params, RoutineId, TypeDef,
-    TypeId, Types,
-};
+use tree_samples::TypeSample::{ObjectOf, Ordinal};
+use tree_samples::{HeaderSample, TypeSample, table};
+use type_layout::{Host, Kind, RoutineId, TypeId, Types};
 
-fn named(bytes: &[u8]) -> Result<Name, AllocError> {
-    match Name::new(bytes) {
-        Some(name) => Ok(name),
-        None => Err(AllocError),
-    }
-}
+/// A type with the unit that declares it and its number there.
+type Declared = (&'static str, u32, TypeSample);
 
-// A method without a result, with `params` Integers, that is routine `number` of the unit.
-fn method(
-    alloc: Global,
-    name: &[u8],
-    kind: Kind,
-    is_virtual: bool,
-    params: u8,
-    number: u32,
-) -> Result<Method, AllocError> {
-    let mut list = Params::new(alloc);
-    for _ in 0..params {
-        list.push(Param {
-            name: named(b"P")?,
-            by_ref: false,
-            ty: TypeId(0),
-        })?;
-    }
-    Ok(Method {
-        name: named(name)?,
-        header: Header {
-            kind,
-            params: list,
-            result: None,
-        },
-        is_virtual,
-        routine: RoutineId { unit: 0, number },
-    })
-}
+const INTEGER: Declared = ("SAMPLE", 0, Ordinal(Host::Integer, -32_768, 32_767));
 
-fn procedure(
-    alloc: Global,
-    name: &[u8],
-    is_virtual: bool,
-    number: u32,
-) -> Result<Method, AllocError> {
-    method(alloc, name, Kind::Procedure, is_virtual, 0, number)
-}
+const PROCEDURE: HeaderSample = (Kind::Procedure, &[], None);
 
-fn add(types: &mut Types, one: TypeDef) -> Result<(), AllocError> {
-    let origin = named(b"SAMPLE")?;
-    if types.takes(&origin, &one) && types.add(origin, 0, one).is_ok() {
-        Ok(())
-    } else {
-        Err(AllocError)
-    }
-}
+const DESTRUCTOR: HeaderSample = (Kind::Destructor, &[], None);
 
-// Adds an object type with at most one field, an Integer.
-fn add_object(
-    types: &mut Types,
-    alloc: Global,
-    parent: Option<TypeId>,
-    field: Option<&[u8]>,
-    methods: Methods,
-) -> Result<(), AllocError> {
-    let mut fields = Fields::new(alloc);
-    if let Some(name) = field {
-        fields.push(Field {
-            name: named(name)?,
-            ty: TypeId(0),
-        })?;
-    }
-    add(
-        types,
-        TypeDef::ObjectOf {
-            parent,
-            dynamic: true,
-            fields,
-            methods,
-        },
-    )
-}
+/// With an Integer parameter.
+const CONSTRUCTOR: HeaderSample = (Kind::Constructor, &[(false, 0)], None);
 
-// A table whose type 0 is Integer.
-fn with_integer(alloc: Global) -> Result<Types, AllocError> {
-    let mut types = Types::new(alloc);
-    add(
-        &mut types,
-        TypeDef::Ordinal {
-            host: Host::Integer,
-            low: -32_768,
-            high: 32_767,
-        },
-    )?;
-    Ok(types)
-}
+/// With an Integer parameter.
+const TAKING: HeaderSample = (Kind::Procedure, &[(false, 0)], None);
 
-// Init and, virtual, Show and Done.
-fn first_methods(alloc: Global) -> Result<Methods, AllocError> {
-    let mut methods = Methods::new(alloc);
-    methods.push(method(alloc, b"INIT", Kind::Constructor, false, 1, 0)?)?;
-    methods.push(procedure(alloc, b"SHOW", true, 1)?)?;
-    methods.push(method(alloc, b"DONE", Kind::Destructor, true, 0, 2)?)?;
-    Ok(methods)
-}
+// Init and, virtual, Show and Done; Go, Hide and an override of Show; overrides of Hide, Done and Show.
+const LINE: &[Declared] = &[
+    INTEGER,
+    (
+        "SAMPLE",
+        0,
+        ObjectOf(
+            None,
+            true,
+            &[("A", 0)],
+            &[
+                ("INIT", CONSTRUCTOR, false, RoutineId { unit: 0, number: 0 }),
+                ("SHOW", PROCEDURE, true, RoutineId { unit: 0, number: 1 }),
+                ("DONE", DESTRUCTOR, true, RoutineId { unit: 0, number: 2 }),
+            ],
+        ),
+    ),
+    (
+        "SAMPLE",
+        0,
+        ObjectOf(
+            Some(1),
+            true,
+            &[("B", 0)],
+            &[
+                ("GO", PROCEDURE, false, RoutineId { unit: 0, number: 3 }),
+                ("HIDE", PROCEDURE, true, RoutineId { unit: 0, number: 4 }),
+                ("SHOW", PROCEDURE, true, RoutineId { unit: 0, number: 5 }),
+            ],
+        ),
+    ),
+    (
+        "SAMPLE",
+        0,
+        ObjectOf(
+            Some(2),
+            true,
+            &[],
+            &[
+                ("HIDE", PROCEDURE, true, RoutineId { unit: 0, number: 6 }),
+                ("DONE", DESTRUCTOR, true, RoutineId { unit: 0, number: 7 }),
+                ("SHOW", PROCEDURE, true, RoutineId { unit: 0, number: 8 }),
+            ],
+        ),
+    ),
+];
 
-// Go, Hide and an override of Show.
-fn second_methods(alloc: Global) -> Result<Methods, AllocError> {
-    let mut methods = Methods::new(alloc);
-    methods.push(procedure(alloc, b"GO", false, 3)?)?;
-    methods.push(procedure(alloc, b"HIDE", true, 4)?)?;
-    methods.push(procedure(alloc, b"SHOW", true, 5)?)?;
-    Ok(methods)
-}
-
-// Overrides of Hide, Done and Show.
-fn third_methods(alloc: Global) -> Result<Methods, AllocError> {
-    let mut methods = Methods::new(alloc);
-    methods.push(procedure(alloc, b"HIDE", true, 6)?)?;
-    methods.push(method(alloc, b"DONE", Kind::Destructor, true, 0, 7)?)?;
-    methods.push(procedure(alloc, b"SHOW", true, 8)?)?;
-    Ok(methods)
-}
-
-// Three types, each the parent of the next.
-fn line(alloc: Global) -> Result<Types, AllocError> {
-    let mut types = with_integer(alloc)?;
-    add_object(&mut types, alloc, None, Some(b"A"), first_methods(alloc)?)?;
-    let parent = Some(TypeId(1));
-    add_object(
-        &mut types,
-        alloc,
-        parent,
-        Some(b"B"),
-        second_methods(alloc)?,
-    )?;
-    let parent = Some(TypeId(2));
-    add_object(&mut types, alloc, parent, None, third_methods(alloc)?)?;
-    Ok(types)
-}
-
-fn of_types(alloc: Global, types: Result<Types, AllocError>) -> Result<Classes, ClassError> {
-    classes(alloc, &types?)
+fn classes_of(alloc: Global, types: &Types) -> Result<Classes, ClassError> {
+    classes(alloc, types)
 }
 
 fn routine(classes: &Classes, class: u32, slot: u32) -> Option<u32> {
@@ -160,7 +83,7 @@ fn routine(classes: &Classes, class: u32, slot: u32) -> Option<u32> {
 }
 
 /// A class, a slot of it, and the routine that answers it, if there is one.
-const SLOTS: [(u32, u32, Option<u32>); 12] = [
+const SLOTS: &[(u32, u32, Option<u32>)] = &[
     (0, 0, None),
     (1, 0, Some(1)),
     (1, 1, Some(2)),
@@ -175,62 +98,79 @@ const SLOTS: [(u32, u32, Option<u32>); 12] = [
     (3, 3, None),
 ];
 
-#[test]
-fn an_override_keeps_its_slot(rt: HostRuntime) {
-    let Ok(classes) = of_types(rt.alloc(), line(rt.alloc())) else {
-        panic!(rt; "no classes");
-    };
-    for (class, slot, number) in SLOTS {
-        let found = routine(&classes, class, slot);
-        assert_eq!(rt; found, number, "class {class}, slot {slot}");
+// The number of the first row with another routine.
+fn first_wrong(classes: &Classes) -> Option<usize> {
+    for number in 0..SLOTS.len() {
+        let (class, slot, wanted) = SLOTS[number];
+        if routine(classes, class, slot) != wanted {
+            return Some(number);
+        }
+    }
+    None
+}
+
+fn first_wrong_of(alloc: Global, line: &[Declared]) -> Result<Option<usize>, AllocError> {
+    let types = table(alloc, line)?;
+    match classes_of(alloc, &types) {
+        Ok(classes) => Ok(first_wrong(&classes)),
+        Err(_) => Err(AllocError),
     }
 }
 
-// A second type over one with the field A and the virtual method SHOW.
-fn over(alloc: Global, field: Option<&[u8]>, own: Method) -> Result<Types, AllocError> {
-    let mut types = with_integer(alloc)?;
-    let mut first = Methods::new(alloc);
-    first.push(procedure(alloc, b"SHOW", true, 0)?)?;
-    first.push(procedure(alloc, b"GO", false, 1)?)?;
-    add_object(&mut types, alloc, None, Some(b"A"), first)?;
-    let mut second = Methods::new(alloc);
-    second.push(own)?;
-    add_object(&mut types, alloc, Some(TypeId(1)), field, second)?;
-    Ok(types)
+#[test]
+fn an_override_keeps_its_slot(rt: HostRuntime) {
+    expect(&rt, first_wrong_of(rt.alloc(), LINE));
 }
 
-/// The second type's field, the name, kind, virtuality and parameters of its method, and what is told of both.
-type Row = (
-    Option<&'static [u8]>,
-    &'static [u8],
-    Kind,
-    bool,
-    u8,
-    &'static str,
+// The field A, the virtual method Show, and Go.
+const FIRST: Declared = (
+    "SAMPLE",
+    0,
+    ObjectOf(
+        None,
+        true,
+        &[("A", 0)],
+        &[
+            ("SHOW", PROCEDURE, true, RoutineId { unit: 0, number: 0 }),
+            ("GO", PROCEDURE, false, RoutineId { unit: 0, number: 1 }),
+        ],
+    ),
 );
 
-const ROWS: [Row; 9] = [
-    (Some(b"B"), b"SHOW", Kind::Procedure, true, 0, "classes"),
-    (None, b"GO", Kind::Procedure, false, 0, "classes"),
-    (None, b"GO", Kind::Procedure, true, 0, "classes"),
-    (None, b"SHOW", Kind::Procedure, true, 1, "BadOverride"),
-    (None, b"SHOW", Kind::Destructor, true, 0, "BadOverride"),
-    (None, b"SHOW", Kind::Procedure, false, 0, "MissingVirtual"),
-    (None, b"A", Kind::Procedure, false, 0, "DuplicateField"),
+// This type and one over it, with these fields and one method by its name, its header and whether it is virtual.
+macro_rules! over {
+    ($fields:expr, $name:expr, $header:expr, $virtual:expr) => {
+        &[
+            INTEGER,
+            FIRST,
+            (
+                "SAMPLE",
+                0,
+                ObjectOf(
+                    Some(1),
+                    true,
+                    $fields,
+                    &[($name, $header, $virtual, RoutineId { unit: 0, number: 2 })],
+                ),
+            ),
+        ]
+    };
+}
+
+/// Types, and what is told of them.
+type Row = (&'static [Declared], &'static str);
+
+const ROWS: &[Row] = &[
+    (over!(&[("B", 0)], "SHOW", PROCEDURE, true), "classes"),
+    (over!(&[], "GO", PROCEDURE, false), "classes"),
+    (over!(&[], "GO", PROCEDURE, true), "classes"),
+    (over!(&[], "SHOW", TAKING, true), "BadOverride"),
+    (over!(&[], "SHOW", DESTRUCTOR, true), "BadOverride"),
+    (over!(&[], "SHOW", PROCEDURE, false), "MissingVirtual"),
+    (over!(&[], "A", PROCEDURE, false), "DuplicateField"),
+    (over!(&[("A", 0)], "GO", PROCEDURE, false), "DuplicateField"),
     (
-        Some(b"A"),
-        b"GO",
-        Kind::Procedure,
-        false,
-        0,
-        "DuplicateField",
-    ),
-    (
-        Some(b"SHOW"),
-        b"GO",
-        Kind::Procedure,
-        false,
-        0,
+        over!(&[("SHOW", 0)], "GO", PROCEDURE, false),
         "DuplicateField",
     ),
 ];
@@ -245,17 +185,23 @@ fn told(classes: &Result<Classes, ClassError>) -> &'static str {
     }
 }
 
-fn told_of(alloc: Global, row: &Row) -> Result<&'static str, AllocError> {
-    let (field, name, kind, is_virtual, params, _) = *row;
-    let own = method(alloc, name, kind, is_virtual, params, 2)?;
-    Ok(told(&of_types(alloc, over(alloc, field, own))))
+fn told_of(alloc: Global, line: &[Declared]) -> Result<&'static str, AllocError> {
+    let types = table(alloc, line)?;
+    Ok(told(&classes_of(alloc, &types)))
+}
+
+// The number of the first row of which something else is told.
+fn first_untold(alloc: Global) -> Result<Option<usize>, AllocError> {
+    for number in 0..ROWS.len() {
+        let (line, wanted) = ROWS[number];
+        if told_of(alloc, line)? != wanted {
+            return Ok(Some(number));
+        }
+    }
+    Ok(None)
 }
 
 #[test]
-fn rules_on_overrides_and_fields(rt: HostRuntime) -> Result<(), Fail> {
-    for number in 0..ROWS.len() {
-        let row = &ROWS[number];
-        assert_eq!(rt; told_of(rt.alloc(), row)?, row.5, "row {number}");
-    }
-    Ok(())
+fn rules_on_overrides_and_fields(rt: HostRuntime) {
+    expect(&rt, first_untold(rt.alloc()));
 }

@@ -1,150 +1,160 @@
 //! Frames and weights of whole routines and units, worked out by hand.
 
-use crate::tree_samples::*;
-use std::alloc::{AllocError, Global};
-use type_layout::{Kind, Param, Params, TypeId};
-use typed_tree::{
-    BinaryOp, Expr, Locals, Routine, Routines, Stmt, Unit, frame_of, need_of, slot_of_type,
-    weight_of,
+use crate::measures::{Frame, first_wrong_frame, first_wrong_slot, weighs};
+use crate::rows::{expect, expect_true};
+use crate::tables::{
+    BOOLEAN, BYTE, EMPTY, HELD, INTEGER, LONG, POINTER, PROCEDURAL, PROCEDURE, ROUTINE, SET, TEXT,
+};
+use tree_samples::ExprSample::{Binary, Call, Number};
+use tree_samples::StmtSample::{Block, If, Run};
+use tree_samples::{ArgSample, Callee, Code, RoutineSample, StmtSample};
+use type_layout::{Kind, TypeId};
+use typed_tree::BinaryOp;
+
+// procedure P(n: Integer); begin if n > 0 then P(n - 1) end
+const RECURSIVE: RoutineSample = RoutineSample {
+    header: (Kind::Procedure, &[(false, 0)], None),
+    far: false,
+    ..PROCEDURE
 };
 
-// A call of routine 0 of the unit itself.
-fn call(alloc: Global, argument: Expr) -> Result<Stmt, AllocError> {
-    Ok(Stmt::Run {
-        call: Box::new(
-            alloc,
-            Expr::Call {
-                ty: None,
-                routine: ROUTINE,
-                own: None,
-                args: args_of(alloc, argument)?,
-            },
-        )?,
-    })
-}
+// The same, nested in the routine behind it.
+const NESTED: RoutineSample = RoutineSample {
+    header: (Kind::Procedure, &[(false, 0)], None),
+    outer: Some(1),
+    far: false,
+    ..PROCEDURE
+};
 
-// if n > 0 then P(n - 1)
-fn recursive_body(alloc: Global) -> Result<Stmt, AllocError> {
-    let n = load(alloc, INTEGER)?;
-    let condition = binary(alloc, BOOLEAN, BinaryOp::Greater, n, number(INTEGER, 0))?;
-    let n = load(alloc, INTEGER)?;
-    let less = binary(alloc, INTEGER, BinaryOp::Subtract, n, number(INTEGER, 1))?;
-    Ok(Stmt::If {
-        condition: Box::new(alloc, condition)?,
-        yes: Box::new(alloc, call(alloc, less)?)?,
-        no: Box::new(alloc, empty(alloc))?,
-    })
-}
+const BODY: StmtSample = If(
+    Binary(
+        BOOLEAN,
+        BinaryOp::Greater,
+        &HELD,
+        &Number(INTEGER, 0),
+        false,
+    ),
+    &Run(Call(
+        None,
+        Callee::Routine(ROUTINE),
+        &[ArgSample::Value(Binary(
+            INTEGER,
+            BinaryOp::Subtract,
+            &HELD,
+            &Number(INTEGER, 1),
+            false,
+        ))],
+    )),
+    &Block(&[]),
+);
 
-fn with_param(mut params: Params, by_ref: bool, ty: TypeId) -> Result<Params, AllocError> {
-    let name = named(b"N")?;
-    params.push(Param { name, by_ref, ty })?;
-    Ok(params)
-}
+// begin P(49) end.
+const MAIN: StmtSample = Run(Call(
+    None,
+    Callee::Routine(ROUTINE),
+    &[ArgSample::Value(Number(INTEGER, 49))],
+));
 
-// procedure P(n: Integer); begin if n > 0 then P(n - 1) end; begin P(49) end.
-fn recursion(alloc: Global, outer: Option<u32>) -> Result<Unit, AllocError> {
-    let mut routines = Routines::new(alloc);
-    let params = with_param(Params::new(alloc), false, INTEGER)?;
-    routines.push(procedure(alloc, params, false, outer, recursive_body(alloc)?)?)?;
-    let main = call(alloc, number(INTEGER, 49))?;
-    routines.push(procedure(alloc, Params::new(alloc), true, None, main)?)?;
-    unit_of(alloc, routines)
-}
+const RECURSION: &[Code<'static>] = &[(&RECURSIVE, &BODY), (&PROCEDURE, &MAIN)];
 
-fn numbers_of(unit: &Unit, routine: u32) -> Option<(u64, u64)> {
-    if (routine as usize) < unit.routines.len() {
-        Some((need_of(unit, routine), frame_of(unit, routine)))
-    } else {
-        None
-    }
-}
+const NESTED_RECURSION: &[Code<'static>] = &[(&NESTED, &BODY), (&PROCEDURE, &MAIN)];
+
+const RECURSION_FRAMES: &[Frame] = &[
+    (RECURSION, 0, (4, 10)),
+    (RECURSION, 1, (2, 8)),
+    (NESTED_RECURSION, 0, (4, 12)),
+];
 
 #[test]
 fn a_recursive_procedure_has_a_frame_of_ten(rt: HostRuntime) {
-    let Ok(unit) = recursion(rt.alloc(), None) else {
-        panic!(rt; "no memory");
-    };
-    assert_eq!(rt; numbers_of(&unit, 0), Some((4, 10)));
-    assert_eq!(rt; numbers_of(&unit, 1), Some((2, 8)));
-    let Ok(nested) = recursion(rt.alloc(), Some(1)) else {
-        panic!(rt; "no memory");
-    };
-    assert_eq!(rt; numbers_of(&nested, 0), Some((4, 12)));
+    expect(&rt, first_wrong_frame(rt.alloc(), RECURSION_FRAMES));
 }
 
 // In P: the condition has 96 for `>`, 32 + 24 for n and 24 for 0; the call has 16 + 96 + 32 and, for n - 1, 176; `if`
 // and the empty block have 64 each. The main part has 16 + 96 + 32 + 24. The routines have 160 each, P 48 for n.
+const RECURSION_WEIGHT: u64 = 176 + 320 + 128 + 168 + 160 + 160 + 48;
+
 #[test]
 fn a_unit_weighs_what_its_nodes_do(rt: HostRuntime) {
-    let Ok(unit) = recursion(rt.alloc(), None) else {
-        panic!(rt; "no memory");
-    };
-    assert_eq!(rt; weight_of(&unit), 176 + 320 + 128 + 168 + 160 + 160 + 48);
+    expect_true(&rt, weighs(rt.alloc(), RECURSION, RECURSION_WEIGHT));
 }
 
-// A far constructor C(a: LongInt; var b: Integer; s: string; c: Byte) with locals of a Byte and a LongInt.
-fn constructor(alloc: Global) -> Result<Routine, AllocError> {
-    let mut params = with_param(Params::new(alloc), false, LONG)?;
-    params = with_param(params, true, INTEGER)?;
-    params = with_param(params, false, TEXT)?;
-    params = with_param(params, false, BYTE)?;
-    let mut routine = procedure(alloc, params, true, None, empty(alloc))?;
-    routine.header.kind = Kind::Constructor;
-    routine.owner = Some(EMPTY);
-    let mut locals = Locals::new(alloc);
-    locals.push(BYTE)?;
-    locals.push(LONG)?;
-    routine.locals = locals;
-    Ok(routine)
-}
+// constructor C(a: LongInt; var b: Integer; s: string; c: Byte), far, with locals of a Byte and a LongInt
+const CONSTRUCTOR: RoutineSample = RoutineSample {
+    header: (
+        Kind::Constructor,
+        &[(false, 2), (true, 0), (false, 4), (false, 3)],
+        None,
+    ),
+    owner: Some(EMPTY),
+    outer: None,
+    far: true,
+    locals: &[BYTE, LONG],
+};
 
-fn function(alloc: Global, outcome: TypeId, outer: Option<u32>) -> Result<Routine, AllocError> {
-    let mut routine = procedure(alloc, Params::new(alloc), false, outer, empty(alloc))?;
-    routine.header.kind = Kind::Function;
-    routine.header.result = Some(outcome);
-    Ok(routine)
-}
+// A near function without parameters that gives a type, in another routine or none.
+const NESTED_TEXT: RoutineSample = RoutineSample {
+    header: (Kind::Function, &[], Some(4)),
+    outer: Some(0),
+    far: false,
+    ..PROCEDURE
+};
 
-fn several(alloc: Global) -> Result<Unit, AllocError> {
-    let mut routines = Routines::new(alloc);
-    routines.push(constructor(alloc)?)?;
-    routines.push(function(alloc, TEXT, Some(0))?)?;
-    routines.push(function(alloc, BYTE, None)?)?;
-    routines.push(function(alloc, LONG, None)?)?;
-    unit_of(alloc, routines)
-}
+const GIVES_BYTE: RoutineSample = RoutineSample {
+    header: (Kind::Function, &[], Some(3)),
+    far: false,
+    ..PROCEDURE
+};
+
+const GIVES_LONG: RoutineSample = RoutineSample {
+    header: (Kind::Function, &[], Some(2)),
+    far: false,
+    ..PROCEDURE
+};
+
+const SEVERAL: &[Code<'static>] = &[
+    (&CONSTRUCTOR, &Block(&[])),
+    (&NESTED_TEXT, &Block(&[])),
+    (&GIVES_BYTE, &Block(&[])),
+    (&GIVES_LONG, &Block(&[])),
+];
 
 // The constructor: arguments of 4 + 4 + 4 + 2, Self of 4, its class of 2, a far return address of 4, BP of 2, locals
 // of 2 + 4 and a copy of 256. The nested function has 4 for where its string goes, 2 for the static link, 2 and 2;
 // the others 2, 2 and their results.
+const FRAMES: &[Frame] = &[
+    (SEVERAL, 0, (0, 288)),
+    (SEVERAL, 1, (0, 10)),
+    (SEVERAL, 2, (0, 6)),
+    (SEVERAL, 3, (0, 8)),
+];
+
 #[test]
 fn frames_have_hidden_arguments_copies_and_results(rt: HostRuntime) {
-    let Ok(unit) = several(rt.alloc()) else {
-        panic!(rt; "no memory");
-    };
-    assert_eq!(rt; numbers_of(&unit, 0), Some((0, 288)));
-    assert_eq!(rt; numbers_of(&unit, 1), Some((0, 10)));
-    assert_eq!(rt; numbers_of(&unit, 2), Some((0, 6)));
-    assert_eq!(rt; numbers_of(&unit, 3), Some((0, 8)));
-    assert_eq!(rt; weight_of(&unit), 4 * (160 + 64) + 6 * 48);
+    expect(&rt, first_wrong_frame(rt.alloc(), FRAMES));
 }
+
+const SEVERAL_WEIGHT: u64 = 4 * (160 + 64) + 6 * 48;
+
+#[test]
+fn a_unit_weighs_its_routines_and_their_variables(rt: HostRuntime) {
+    expect_true(&rt, weighs(rt.alloc(), SEVERAL, SEVERAL_WEIGHT));
+}
+
+const SLOTS: &[(TypeId, u64)] = &[
+    (INTEGER, 2),
+    (BOOLEAN, 2),
+    (LONG, 4),
+    (BYTE, 2),
+    (TEXT, 256),
+    (SET, 32),
+    (POINTER, 4),
+    (EMPTY, 4),
+    (PROCEDURAL, 4),
+    (TypeId(9), 0),
+];
 
 #[test]
 fn slots_go_by_the_type(rt: HostRuntime) {
-    let types = sample_types(rt.alloc());
-    for (ty, slot) in [
-        (INTEGER, 2),
-        (BOOLEAN, 2),
-        (LONG, 4),
-        (BYTE, 2),
-        (TEXT, 256),
-        (SET, 32),
-        (POINTER, 4),
-        (EMPTY, 4),
-        (PROCEDURAL, 4),
-        (TypeId(9), 0),
-    ] {
-        assert_eq!(rt; slot_of_type(&types, ty), slot);
-    }
+    expect(&rt, first_wrong_slot(rt.alloc(), SLOTS));
 }
