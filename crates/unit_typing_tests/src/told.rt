@@ -112,7 +112,7 @@ fn interfaces(
     }
 }
 
-fn told(alloc: Global, name: &[u8], text: &str, have: &[Interface]) -> Result<Told, AllocError> {
+fn told_of(alloc: Global, name: &[u8], text: &str, have: &[Interface]) -> Result<Told, AllocError> {
     match source_of(alloc, name, text)? {
         Some(one) => checked(alloc, &one, have),
         None => Ok(Told::Unread),
@@ -121,7 +121,7 @@ fn told(alloc: Global, name: &[u8], text: &str, have: &[Interface]) -> Result<To
 
 /// What a text gives as a file of this name.
 pub(crate) fn of_file(alloc: Global, name: &[u8], text: &str) -> Result<Told, AllocError> {
-    told(alloc, name, text, &[])
+    told_of(alloc, name, text, &[])
 }
 
 /// What a text gives as a file of this name beside another one, which its interface part may be used by.
@@ -134,7 +134,7 @@ pub(crate) fn beside(
 ) -> Result<Told, AllocError> {
     let own = interfaces(alloc, name, text, &[])?;
     let used = interfaces(alloc, other, others, own.as_slice())?;
-    told(alloc, name, text, used.as_slice())
+    told_of(alloc, name, text, used.as_slice())
 }
 
 /// How many items a text shows as a file of this name, if it shows any.
