@@ -38,7 +38,7 @@ fn breaks(kind: Kind, rule: u16, place: Place) -> Told {
     Told::Breaks(kind, rule, place.line, place.column)
 }
 
-fn error(error: CheckError) -> Told {
+fn error_told(error: CheckError) -> Told {
     match error {
         CheckError::NoMemory => Told::Memory,
         CheckError::UnknownName { place, rule } => breaks(Kind::UnknownName, rule, place),
@@ -55,7 +55,7 @@ fn error(error: CheckError) -> Told {
     }
 }
 
-fn unit(unit: &Unit) -> Told {
+fn unit_told(unit: &Unit) -> Told {
     Told::Unit(
         unit.routines.len(),
         unit.globals.len(),
@@ -66,8 +66,8 @@ fn unit(unit: &Unit) -> Told {
 
 fn answer(found: Result<Unit, CheckError>) -> Told {
     match found {
-        Ok(one) => unit(&one),
-        Err(one) => error(one),
+        Ok(one) => unit_told(&one),
+        Err(one) => error_told(one),
     }
 }
 
@@ -93,7 +93,7 @@ fn shown(alloc: Global, one: &Source, have: &[Interface]) -> Result<Option<Inter
 }
 
 // The interface of a source, if it has one.
-fn interfaces(
+fn interface_list(
     alloc: Global,
     name: &[u8],
     text: &str,
@@ -112,7 +112,7 @@ fn interfaces(
     }
 }
 
-fn told(alloc: Global, name: &[u8], text: &str, have: &[Interface]) -> Result<Told, AllocError> {
+fn told_of(alloc: Global, name: &[u8], text: &str, have: &[Interface]) -> Result<Told, AllocError> {
     match source_of(alloc, name, text)? {
         Some(one) => checked(alloc, &one, have),
         None => Ok(Told::Unread),
@@ -121,7 +121,7 @@ fn told(alloc: Global, name: &[u8], text: &str, have: &[Interface]) -> Result<To
 
 /// What a text gives as a file of this name.
 pub(crate) fn of_file(alloc: Global, name: &[u8], text: &str) -> Result<Told, AllocError> {
-    told(alloc, name, text, &[])
+    told_of(alloc, name, text, &[])
 }
 
 /// What a text gives as a file of this name beside another one, which its interface part may be used by.
@@ -132,9 +132,9 @@ pub(crate) fn beside(
     other: &[u8],
     others: &str,
 ) -> Result<Told, AllocError> {
-    let own = interfaces(alloc, name, text, &[])?;
-    let used = interfaces(alloc, other, others, own.as_slice())?;
-    told(alloc, name, text, used.as_slice())
+    let own = interface_list(alloc, name, text, &[])?;
+    let used = interface_list(alloc, other, others, own.as_slice())?;
+    told_of(alloc, name, text, used.as_slice())
 }
 
 /// How many items a text shows as a file of this name, if it shows any.
@@ -143,7 +143,7 @@ pub(crate) fn items_of(
     name: &[u8],
     text: &str,
 ) -> Result<Option<usize>, AllocError> {
-    let all = interfaces(alloc, name, text, &[])?;
+    let all = interface_list(alloc, name, text, &[])?;
     match all.as_slice() {
         [one] => Ok(Some(one.items.len())),
         _ => Ok(None),
