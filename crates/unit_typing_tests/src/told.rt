@@ -38,7 +38,7 @@ fn breaks(kind: Kind, rule: u16, place: Place) -> Told {
     Told::Breaks(kind, rule, place.line, place.column)
 }
 
-fn error_told(error: CheckError) -> Told {
+fn error(error: CheckError) -> Told {
     match error {
         CheckError::NoMemory => Told::Memory,
         CheckError::UnknownName { place, rule } => breaks(Kind::UnknownName, rule, place),
@@ -55,7 +55,7 @@ fn error_told(error: CheckError) -> Told {
     }
 }
 
-fn unit_told(unit: &Unit) -> Told {
+fn unit(unit: &Unit) -> Told {
     Told::Unit(
         unit.routines.len(),
         unit.globals.len(),
@@ -66,8 +66,8 @@ fn unit_told(unit: &Unit) -> Told {
 
 fn answer(found: Result<Unit, CheckError>) -> Told {
     match found {
-        Ok(one) => unit_told(&one),
-        Err(one) => error_told(one),
+        Ok(one) => unit(&one),
+        Err(one) => error(one),
     }
 }
 
@@ -93,7 +93,7 @@ fn shown(alloc: Global, one: &Source, have: &[Interface]) -> Result<Option<Inter
 }
 
 // The interface of a source, if it has one.
-fn interface_list(
+fn interfaces(
     alloc: Global,
     name: &[u8],
     text: &str,
@@ -143,7 +143,7 @@ pub(crate) fn items_of(
     name: &[u8],
     text: &str,
 ) -> Result<Option<usize>, AllocError> {
-    let all = interface_list(alloc, name, text, &[])?;
+    let all = interfaces(alloc, name, text, &[])?;
     match all.as_slice() {
         [one] => Ok(Some(one.items.len())),
         _ => Ok(None),
