@@ -1,269 +1,196 @@
 //! Runtime errors and undefined acts, each behind something that was written.
 
-use crate::programs::{alone, one_routine, procedure, program};
-use crate::rows::{Sample, Shown, first_wrong};
-use crate::trees::{
-    assign, both, call, global, held, load, nil, number, one_place, one_value, operation, run,
-    standard, three, write, write_text,
-};
+use crate::programs::{Coded, PART, UNIT, alone};
+use crate::rows::{Shown, expect, first_wrong};
+use crate::trees::{FIRST, HELD, NIL, ONE, ROUTINE, WRITE_A, ZERO, written};
 use crate::types::{ARRAY, BASE, INTEGER, POINTER, SMALL, TO_BASE, TO_HEIR};
 use interpreter::MeanEnd;
-use std::alloc::{AllocError, Global};
-use std::test::Fail;
-use type_layout::TypeId;
-use typed_tree::{BinaryOp, Expr, PlaceExpr, Program, ReadItem, Stmt};
-
-#[derive(Clone, Copy)]
-enum Faulty {
-    /// 1 div 0
-    Quotient,
-    /// An element of an array [1..3], of which none is set.
-    Element(i32, bool),
-    /// 5 + 1, in a type 1..5.
-    Sum,
-    /// Dispose of nil.
-    DisposedNil,
-    /// A virtual call on an instance without a class.
-    Virtual(bool),
-    /// A procedure that calls itself.
-    Recursion,
-    /// So many blocks of 8 bytes, in a heap of 24.
-    Blocks(u32),
-    /// A numeral is read.
-    Numeral,
-    Unset,
-    /// What nil points to.
-    Nowhere,
-    /// What a pointer points to whose block was disposed of.
-    Dangling,
-    /// Dispose by the size of an ancestor.
-    WrongSize,
-}
-
-impl Sample for Faulty {
-    fn program(&self, alloc: Global) -> Result<Program, AllocError> {
-        match *self {
-            Faulty::Quotient => quotient(alloc),
-            Faulty::Element(index, checked) => element(alloc, index, checked),
-            Faulty::Sum => sum(alloc),
-            Faulty::DisposedNil => disposed_nil(alloc),
-            Faulty::Virtual(checked) => virtual_call(alloc, checked),
-            Faulty::Recursion => recursion(alloc),
-            Faulty::Blocks(count) => blocks(alloc, count),
-            Faulty::Numeral => numeral(alloc),
-            Faulty::Unset => behind_a(alloc, &[INTEGER], write(alloc, held(alloc, INTEGER, 0)?)?),
-            Faulty::Nowhere => nowhere(alloc),
-            Faulty::Dangling => dangling(alloc),
-            Faulty::WrongSize => wrong_size(alloc),
-        }
-    }
-}
+use tree_samples::ArgSample::{Place, Value};
+use tree_samples::Callee::{Routine, Standard, Virtual};
+use tree_samples::ExprSample::{Binary, Call, Load, Number, Range};
+use tree_samples::PlaceSample::{Deref, Index};
+use tree_samples::StmtSample::{Assign, Block, Read, Run};
+use tree_samples::{StmtSample, UnitSample};
+use typed_tree::BinaryOp;
 
 // Write('a'), and then this.
-fn behind_a(alloc: Global, globals: &[TypeId], last: Stmt) -> Result<Program, AllocError> {
-    alone(alloc, globals, both(alloc, write_text(alloc, b"a")?, last)?)
-}
-
-fn quotient(alloc: Global) -> Result<Program, AllocError> {
-    let divided = operation(alloc, INTEGER, BinaryOp::Divide, number(1), number(0))?;
-    behind_a(alloc, &[], write(alloc, divided)?)
-}
-
-fn element(alloc: Global, index: i32, checked: bool) -> Result<Program, AllocError> {
-    let place = PlaceExpr::Index {
-        place: Box::new(alloc, global(0))?,
-        index: Box::new(alloc, number(index))?,
-        checked,
+macro_rules! behind_a {
+    ($globals:expr, $last:expr) => {
+        alone!($globals, Block(&[WRITE_A, $last]))
     };
-    behind_a(alloc, &[ARRAY], write(alloc, load(alloc, INTEGER, place)?)?)
 }
 
-fn sum(alloc: Global) -> Result<Program, AllocError> {
-    let added = operation(
-        alloc,
-        INTEGER,
-        BinaryOp::Add,
-        held(alloc, SMALL, 0)?,
-        number(1),
-    )?;
-    let tested = Expr::Range {
-        ty: SMALL,
-        operand: Box::new(alloc, added)?,
-        low: 1,
-        high: 5,
+// 1 div 0
+const QUOTIENT: Coded = behind_a!(
+    &[],
+    written!(Binary(INTEGER, BinaryOp::Divide, &ONE, &ZERO, false))
+);
+
+// An element of an array [1..3], of which none is set.
+macro_rules! element {
+    ($index:expr, $checked:expr) => {
+        behind_a!(
+            &[(ARRAY, None)],
+            written!(Load(
+                INTEGER,
+                &Index(&FIRST, &Number(INTEGER, $index), $checked)
+            ))
+        )
     };
-    let last = both(
-        alloc,
-        assign(alloc, global(0), number(5))?,
-        assign(alloc, global(0), tested)?,
-    )?;
-    behind_a(alloc, &[SMALL], last)
 }
 
-fn disposed_nil(alloc: Global) -> Result<Program, AllocError> {
-    behind_a(
-        alloc,
-        &[],
-        run(alloc, standard(None, 29, one_value(alloc, nil())?))?,
-    )
-}
+// 5 + 1, in a type 1..5.
+const SUM: Coded = behind_a!(
+    &[(SMALL, None)],
+    Block(&[
+        Assign(FIRST, Number(INTEGER, 5)),
+        Assign(
+            FIRST,
+            Range(
+                SMALL,
+                &Binary(INTEGER, BinaryOp::Add, &Load(SMALL, &FIRST), &ONE, false),
+                1,
+                5
+            )
+        ),
+    ])
+);
 
-fn virtual_call(alloc: Global, checked: bool) -> Result<Program, AllocError> {
-    let called = Expr::CallVirtual {
-        ty: Some(INTEGER),
-        own: Box::new(alloc, global(0))?,
-        slot: 0,
-        checked,
-        args: Vec::new(alloc),
+// Dispose of nil.
+const DISPOSED_NIL: Coded = behind_a!(&[], Run(Call(None, Standard(29), &[Value(NIL)])));
+
+// A virtual call on an instance without a class.
+macro_rules! virtual_call {
+    ($checked:expr) => {
+        behind_a!(
+            &[(BASE, None)],
+            written!(Call(Some(INTEGER), Virtual(&FIRST, 0, $checked), &[]))
+        )
     };
-    behind_a(alloc, &[BASE], write(alloc, called)?)
 }
 
-fn recursion(alloc: Global) -> Result<Program, AllocError> {
-    let p = procedure(alloc, run(alloc, call(0, None, Vec::new(alloc)))?)?;
-    let start = run(alloc, call(0, None, Vec::new(alloc)))?;
-    let main = both(alloc, write_text(alloc, b"a")?, start)?;
-    program(alloc, &[], one_routine(alloc, p)?, main)
-}
+const CALL: StmtSample = Run(Call(None, Routine(ROUTINE), &[]));
 
-fn new_block(alloc: Global) -> Result<Stmt, AllocError> {
-    run(alloc, standard(None, 28, one_place(alloc, global(0))?))
-}
+// A procedure that calls itself.
+const RECURSION: Coded = (
+    &UnitSample {
+        initial: Some(1),
+        ..UNIT
+    },
+    &[(&PART, &CALL), (&PART, &Block(&[WRITE_A, CALL]))],
+);
 
-fn blocks(alloc: Global, count: u32) -> Result<Program, AllocError> {
-    let mut statements = Vec::new(alloc);
-    statements.push(write_text(alloc, b"a")?)?;
-    for _ in 0..count {
-        statements.push(new_block(alloc)?)?;
-    }
-    alone(alloc, &[POINTER], Stmt::Block { statements })
-}
+// A block of 8 bytes, in a heap of 24.
+const NEW: StmtSample = Run(Call(None, Standard(28), &[Place(FIRST)]));
 
-fn numeral(alloc: Global) -> Result<Program, AllocError> {
-    let mut items = Vec::new(alloc);
-    items.push(ReadItem {
-        place: Box::new(alloc, global(0))?,
-        ty: INTEGER,
-        checked: false,
-    })?;
-    let taken = Stmt::ReadItems { items, line: false };
-    let told = write(alloc, held(alloc, INTEGER, 0)?)?;
-    behind_a(alloc, &[INTEGER], both(alloc, taken, told)?)
-}
+const THREE_BLOCKS: Coded = alone!(&[(POINTER, None)], Block(&[WRITE_A, NEW, NEW, NEW]));
 
-fn target(alloc: Global, pointer: Expr) -> Result<Expr, AllocError> {
-    let place = PlaceExpr::Deref {
-        pointer: Box::new(alloc, pointer)?,
+const FOUR_BLOCKS: Coded = alone!(&[(POINTER, None)], Block(&[WRITE_A, NEW, NEW, NEW, NEW]));
+
+// A numeral is read.
+const NUMERAL: Coded = behind_a!(
+    &[(INTEGER, None)],
+    Block(&[Read(&[(FIRST, INTEGER, false)], false), written!(HELD)])
+);
+
+const UNSET: Coded = behind_a!(&[(INTEGER, None)], written!(HELD));
+
+// What nil points to.
+const NOWHERE: Coded = behind_a!(&[], written!(Load(INTEGER, &Deref(&NIL))));
+
+macro_rules! dispose {
+    ($ty:expr) => {
+        Run(Call(None, Standard(29), &[Value(Load($ty, &FIRST))]))
     };
-    load(alloc, INTEGER, place)
 }
 
-fn nowhere(alloc: Global) -> Result<Program, AllocError> {
-    behind_a(alloc, &[], write(alloc, target(alloc, nil())?)?)
-}
+// What a pointer points to whose block was disposed of.
+const DANGLING: Coded = behind_a!(
+    &[(POINTER, None)],
+    Block(&[
+        NEW,
+        dispose!(POINTER),
+        written!(Load(INTEGER, &Deref(&Load(POINTER, &FIRST)))),
+    ])
+);
 
-fn disposed(alloc: Global, ty: TypeId) -> Result<Stmt, AllocError> {
-    let args = one_value(alloc, held(alloc, ty, 0)?)?;
-    run(alloc, standard(None, 29, args))
-}
+// A pointer to the ancestor leads to a block that was made for the descendant, and Dispose takes the ancestor's size.
+const WRONG_SIZE: Coded = behind_a!(
+    &[(TO_BASE, None)],
+    Block(&[
+        Assign(FIRST, Call(Some(TO_HEIR), Standard(28), &[])),
+        dispose!(TO_BASE),
+    ])
+);
 
-fn dangling(alloc: Global) -> Result<Program, AllocError> {
-    let told = write(alloc, target(alloc, held(alloc, POINTER, 0)?)?)?;
-    let last = three(alloc, new_block(alloc)?, disposed(alloc, POINTER)?, told)?;
-    behind_a(alloc, &[POINTER], last)
-}
-
-// A pointer to the ancestor leads to a block that was made for the descendant.
-fn wrong_size(alloc: Global) -> Result<Program, AllocError> {
-    let made = standard(Some(TO_HEIR), 28, Vec::new(alloc));
-    let last = both(
-        alloc,
-        assign(alloc, global(0), made)?,
-        disposed(alloc, TO_BASE)?,
-    )?;
-    behind_a(alloc, &[TO_BASE], last)
-}
-
-const ERRORS: [(Faulty, Shown); 8] = [
+const ERRORS: &[(Coded, Shown)] = &[
     (
-        Faulty::Quotient,
+        QUOTIENT,
         ("", 0, "a", "Runtime error 200\r\n", MeanEnd::Ended(200)),
     ),
     (
-        Faulty::Element(4, true),
+        element!(4, true),
         ("", 0, "a", "Runtime error 201\r\n", MeanEnd::Ended(201)),
     ),
     (
-        Faulty::Sum,
+        SUM,
         ("", 0, "a", "Runtime error 201\r\n", MeanEnd::Ended(201)),
     ),
     (
-        Faulty::Recursion,
+        RECURSION,
         ("", 999, "a", "Runtime error 202\r\n", MeanEnd::Ended(202)),
     ),
     (
-        Faulty::Blocks(4),
+        FOUR_BLOCKS,
         ("", 0, "a", "Runtime error 203\r\n", MeanEnd::Ended(203)),
     ),
     (
-        Faulty::DisposedNil,
+        DISPOSED_NIL,
         ("", 0, "a", "Runtime error 204\r\n", MeanEnd::Ended(204)),
     ),
     (
-        Faulty::Virtual(true),
+        virtual_call!(true),
         ("", 1, "a", "Runtime error 210\r\n", MeanEnd::Ended(210)),
     ),
     (
-        Faulty::Numeral,
+        NUMERAL,
         (" x", 0, "a", "Runtime error 106\r\n", MeanEnd::Ended(106)),
     ),
 ];
 
 #[test]
-fn an_error_ends_a_run_with_its_text(rt: HostRuntime) -> Result<(), Fail> {
-    assert_eq!(rt; first_wrong(rt.alloc(), &ERRORS)?, None);
-    Ok(())
+fn an_error_ends_a_run_with_its_text(rt: HostRuntime) {
+    expect(&rt, first_wrong(rt.alloc(), ERRORS));
 }
 
-const ACTS: [(Faulty, Shown); 8] = [
-    (Faulty::Unset, ("", 0, "a", "", MeanEnd::Undefined(1))),
+const ACTS: &[(Coded, Shown)] = &[
+    (UNSET, ("", 0, "a", "", MeanEnd::Undefined(1))),
+    (element!(3, true), ("", 0, "a", "", MeanEnd::Undefined(1))),
+    (NOWHERE, ("", 0, "a", "", MeanEnd::Undefined(2))),
+    (DANGLING, ("", 0, "a", "", MeanEnd::Undefined(2))),
+    (element!(0, false), ("", 0, "a", "", MeanEnd::Undefined(3))),
+    (element!(4, false), ("", 0, "a", "", MeanEnd::Undefined(3))),
     (
-        Faulty::Element(3, true),
-        ("", 0, "a", "", MeanEnd::Undefined(1)),
-    ),
-    (Faulty::Nowhere, ("", 0, "a", "", MeanEnd::Undefined(2))),
-    (Faulty::Dangling, ("", 0, "a", "", MeanEnd::Undefined(2))),
-    (
-        Faulty::Element(0, false),
-        ("", 0, "a", "", MeanEnd::Undefined(3)),
-    ),
-    (
-        Faulty::Element(4, false),
-        ("", 0, "a", "", MeanEnd::Undefined(3)),
-    ),
-    (
-        Faulty::Virtual(false),
+        virtual_call!(false),
         ("", 1, "a", "", MeanEnd::Undefined(4)),
     ),
-    (Faulty::WrongSize, ("", 0, "a", "", MeanEnd::Undefined(5))),
+    (WRONG_SIZE, ("", 0, "a", "", MeanEnd::Undefined(5))),
 ];
 
 #[test]
-fn an_undefined_act_ends_a_run_behind_what_was_written(rt: HostRuntime) -> Result<(), Fail> {
-    assert_eq!(rt; first_wrong(rt.alloc(), &ACTS)?, None);
-    Ok(())
+fn an_undefined_act_ends_a_run_behind_what_was_written(rt: HostRuntime) {
+    expect(&rt, first_wrong(rt.alloc(), ACTS));
 }
 
-const NO_FAULTS: [(Faulty, Shown); 5] = [
-    (Faulty::Blocks(3), ("", 0, "a", "", MeanEnd::Ended(0))),
-    (Faulty::Numeral, ("12 x", 0, "a12", "", MeanEnd::Ended(0))),
-    (Faulty::Numeral, ("", 0, "a0", "", MeanEnd::Ended(0))),
-    (Faulty::Virtual(true), ("", 0, "a", "", MeanEnd::Going)),
-    (Faulty::Recursion, ("", 9, "a", "", MeanEnd::Going)),
+const NO_FAULTS: &[(Coded, Shown)] = &[
+    (THREE_BLOCKS, ("", 0, "a", "", MeanEnd::Ended(0))),
+    (NUMERAL, ("12 x", 0, "a12", "", MeanEnd::Ended(0))),
+    (NUMERAL, ("", 0, "a0", "", MeanEnd::Ended(0))),
+    (virtual_call!(true), ("", 0, "a", "", MeanEnd::Going)),
+    (RECURSION, ("", 9, "a", "", MeanEnd::Going)),
 ];
 
 #[test]
-fn what_has_room_and_turns_has_no_fault(rt: HostRuntime) -> Result<(), Fail> {
-    assert_eq!(rt; first_wrong(rt.alloc(), &NO_FAULTS)?, None);
-    Ok(())
+fn what_has_room_and_turns_has_no_fault(rt: HostRuntime) {
+    expect(&rt, first_wrong(rt.alloc(), NO_FAULTS));
 }

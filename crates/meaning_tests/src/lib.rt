@@ -1,4 +1,4 @@
-//! Small typed programs that are built by hand, and what they show.
+//! Small typed programs, and what they show.
 #![tactic(auto)]
 
 #[cfg(test)]

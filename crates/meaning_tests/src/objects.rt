@@ -1,192 +1,142 @@
 //! Objects, and calls by their classes.
 
-use crate::programs::{program, routine};
-use crate::rows::{Sample, Shown, first_wrong};
-use crate::trees::{assign, both, global, held, load, number, three, variable, write};
+use crate::programs::{Coded, PART, UNIT};
+use crate::rows::{Shown, expect, first_wrong};
+use crate::trees::{FIRST, NEXT, ROUTINE, SECOND, written};
 use crate::types::{BASE, HEIR, INTEGER, TO_BASE, TO_HEIR};
 use interpreter::MeanEnd;
-use std::alloc::{AllocError, Global};
-use std::test::Fail;
-use type_layout::{Kind, RoutineId, TypeId};
-use typed_tree::{Destructor, Expr, PlaceExpr, Program, Routine, Routines, Stmt};
+use tree_samples::Callee::{Make, Method, Virtual};
+use tree_samples::ExprSample::{Call, Load, Number};
+use tree_samples::PlaceSample::{Deref, FieldOf};
+use tree_samples::StmtSample::{Assign, Block, CopyAll, Exit, Run, Unmake};
+use tree_samples::{ExprSample, RoutineSample, StmtSample, UnitSample};
+use type_layout::{Kind, RoutineId};
+use typed_tree::Destructor;
 
-#[derive(Clone, Copy)]
-enum Dynamic {
-    /// p := New(the descendant, Init); Write(p^.V)
-    Called,
-    /// The same, and then the block is disposed of so many times by a destructor.
-    Disposed(u32),
-    /// An instance of the descendant is copied to one of the ancestor, whose virtual function is called.
-    Copied,
-    /// q := New(the descendant, Init); p := q; p^.Init; Write(q^.W), which is a function of the descendant alone.
-    Lowered,
-}
+const CONSTRUCTOR: RoutineSample = RoutineSample {
+    header: (Kind::Constructor, &[], None),
+    owner: Some(BASE),
+    ..PART
+};
 
-impl Sample for Dynamic {
-    fn program(&self, alloc: Global) -> Result<Program, AllocError> {
-        match *self {
-            Dynamic::Called => called(alloc),
-            Dynamic::Disposed(count) => disposed(alloc, count),
-            Dynamic::Copied => copied(alloc),
-            Dynamic::Lowered => lowered(alloc),
-        }
-    }
-}
+const DESTRUCTOR: RoutineSample = RoutineSample {
+    header: (Kind::Destructor, &[], None),
+    owner: Some(BASE),
+    ..PART
+};
 
-// A function of an object type that gives a number. Self is its variable 0, and the result 1.
-fn giving(alloc: Global, owner: TypeId, gives: i32) -> Result<Routine, AllocError> {
-    let body = assign(alloc, variable(1, 1), number(gives))?;
-    routine(alloc, Kind::Function, Some(INTEGER), Some(owner), body)
-}
+const OF_BASE: RoutineSample = RoutineSample {
+    header: (Kind::Function, &[], Some(0)),
+    owner: Some(BASE),
+    ..PART
+};
 
-fn empty(alloc: Global, kind: Kind) -> Result<Routine, AllocError> {
-    routine(alloc, kind, None, Some(BASE), Stmt::Exit)
-}
+const OF_HEIR: RoutineSample = RoutineSample {
+    header: (Kind::Function, &[], Some(0)),
+    owner: Some(HEIR),
+    ..PART
+};
 
-// The constructor, the two virtual functions of one name, a destructor, and the descendant's own virtual function.
-fn methods(alloc: Global) -> Result<Routines, AllocError> {
-    let mut routines = Routines::new(alloc);
-    routines.push(empty(alloc, Kind::Constructor)?)?;
-    routines.push(giving(alloc, BASE, 1)?)?;
-    routines.push(giving(alloc, HEIR, 2)?)?;
-    routines.push(empty(alloc, Kind::Destructor)?)?;
-    routines.push(giving(alloc, HEIR, 3)?)?;
-    Ok(routines)
-}
-
-fn of_class(alloc: Global, own: PlaceExpr, slot: u32) -> Result<Stmt, AllocError> {
-    let called = Expr::CallVirtual {
-        ty: Some(INTEGER),
-        own: Box::new(alloc, own)?,
-        slot,
-        checked: true,
-        args: Vec::new(alloc),
+// The result of a method. Self is its variable 0, and the result 1.
+macro_rules! giving {
+    ($number:expr) => {
+        Assign(NEXT, Number(INTEGER, $number))
     };
-    write(alloc, called)
 }
 
-fn at_pointer(alloc: Global, ty: TypeId, number: u32) -> Result<PlaceExpr, AllocError> {
-    Ok(PlaceExpr::Deref {
-        pointer: Box::new(alloc, held(alloc, ty, number)?)?,
-    })
-}
-
-fn made(alloc: Global) -> Expr {
-    Expr::Make {
-        ty: TO_HEIR,
-        routine: RoutineId { unit: 0, number: 0 },
-        args: Vec::new(alloc),
-    }
-}
-
-fn making(alloc: Global) -> Result<Stmt, AllocError> {
-    let through = at_pointer(alloc, TO_BASE, 0)?;
-    both(
-        alloc,
-        assign(alloc, global(0), made(alloc))?,
-        of_class(alloc, through, 0)?,
-    )
-}
-
-fn called(alloc: Global) -> Result<Program, AllocError> {
-    program(alloc, &[TO_BASE], methods(alloc)?, making(alloc)?)
-}
-
-fn unmaking(alloc: Global) -> Result<Stmt, AllocError> {
-    Ok(Stmt::Unmake {
-        pointer: Box::new(alloc, held(alloc, TO_BASE, 0)?)?,
-        destructor: Destructor::Routine(RoutineId { unit: 0, number: 3 }),
-        args: Vec::new(alloc),
-    })
-}
-
-fn disposed(alloc: Global, count: u32) -> Result<Program, AllocError> {
-    let mut statements = Vec::new(alloc);
-    statements.push(making(alloc)?)?;
-    for _ in 0..count {
-        statements.push(unmaking(alloc)?)?;
-    }
-    program(
-        alloc,
-        &[TO_BASE],
-        methods(alloc)?,
-        Stmt::Block { statements },
-    )
-}
-
-fn begun(alloc: Global, at: PlaceExpr) -> Result<Stmt, AllocError> {
-    let call = Expr::Call {
-        ty: None,
-        routine: RoutineId { unit: 0, number: 0 },
-        own: Some(Box::new(alloc, at)?),
-        args: Vec::new(alloc),
+// The constructor, the two virtual functions of one name, a destructor, and the descendant's own virtual function; then
+// the main part.
+macro_rules! program {
+    ($globals:expr, $main:expr) => {
+        (
+            &UnitSample {
+                globals: $globals,
+                initial: Some(5),
+                ..UNIT
+            },
+            &[
+                (&CONSTRUCTOR, &Exit),
+                (&OF_BASE, &giving!(1)),
+                (&OF_HEIR, &giving!(2)),
+                (&DESTRUCTOR, &Exit),
+                (&OF_HEIR, &giving!(3)),
+                (&PART, &$main),
+            ],
+        )
     };
-    Ok(Stmt::Run {
-        call: Box::new(alloc, call)?,
-    })
 }
 
-fn field(alloc: Global, number: u32) -> Result<PlaceExpr, AllocError> {
-    Ok(PlaceExpr::FieldOf {
-        place: Box::new(alloc, global(number))?,
-        number: 0,
-    })
-}
-
-fn filled(alloc: Global) -> Result<Stmt, AllocError> {
-    let constructed = both(alloc, begun(alloc, global(0))?, begun(alloc, global(1))?)?;
-    both(
-        alloc,
-        constructed,
-        assign(alloc, field(alloc, 1)?, number(7))?,
-    )
-}
-
-fn copied(alloc: Global) -> Result<Program, AllocError> {
-    let copy = Stmt::CopyAll {
-        to: Box::new(alloc, global(0))?,
-        from: Box::new(alloc, global(1))?,
+// What the virtual function in a slot of an instance's class gives is written.
+macro_rules! of_class {
+    ($place:expr, $slot:expr) => {
+        written!(Call(Some(INTEGER), Virtual(&$place, $slot, true), &[]))
     };
-    let told = write(alloc, load(alloc, INTEGER, field(alloc, 0)?)?)?;
-    let main = three(
-        alloc,
-        filled(alloc)?,
-        copy,
-        both(alloc, told, of_class(alloc, global(0), 0)?)?,
-    )?;
-    program(alloc, &[BASE, HEIR], methods(alloc)?, main)
 }
 
-fn lowered(alloc: Global) -> Result<Program, AllocError> {
-    let shared = both(
-        alloc,
-        assign(alloc, global(1), made(alloc))?,
-        assign(alloc, global(0), held(alloc, TO_HEIR, 1)?)?,
-    )?;
-    let main = three(
-        alloc,
-        shared,
-        begun(alloc, at_pointer(alloc, TO_BASE, 0)?)?,
-        of_class(alloc, at_pointer(alloc, TO_HEIR, 1)?, 1)?,
-    )?;
-    program(alloc, &[TO_BASE, TO_HEIR], methods(alloc)?, main)
+// New(the descendant, Init)
+const MADE: ExprSample = Call(None, Make(TO_HEIR, ROUTINE), &[]);
+
+// p := New(the descendant, Init); Write(p^.V)
+const MAKING: StmtSample = Block(&[
+    Assign(FIRST, MADE),
+    of_class!(Deref(&Load(TO_BASE, &FIRST)), 0),
+]);
+
+// Dispose(p, Done)
+const UNMAKING: StmtSample = Unmake(
+    Load(TO_BASE, &FIRST),
+    Destructor::Routine(RoutineId { unit: 0, number: 3 }),
+    &[],
+);
+
+const CALLED: Coded = program!(&[(TO_BASE, None)], MAKING);
+
+const DISPOSED: Coded = program!(&[(TO_BASE, None)], Block(&[MAKING, UNMAKING]));
+
+const DISPOSED_TWICE: Coded = program!(&[(TO_BASE, None)], Block(&[MAKING, UNMAKING, UNMAKING]));
+
+// The constructor is called on an instance.
+macro_rules! begun {
+    ($place:expr) => {
+        Run(Call(None, Method(ROUTINE, &$place), &[]))
+    };
 }
 
-const ROWS: [(Dynamic, Shown); 7] = [
-    (Dynamic::Called, ("", 2, "2", "", MeanEnd::Ended(0))),
-    (Dynamic::Called, ("", 1, "", "", MeanEnd::Going)),
-    (Dynamic::Disposed(1), ("", 3, "2", "", MeanEnd::Ended(0))),
-    (Dynamic::Disposed(1), ("", 2, "2", "", MeanEnd::Going)),
-    (
-        Dynamic::Disposed(2),
-        ("", 9, "2", "", MeanEnd::Undefined(2)),
-    ),
-    (Dynamic::Copied, ("", 3, "71", "", MeanEnd::Ended(0))),
-    (Dynamic::Lowered, ("", 9, "", "", MeanEnd::Undefined(4))),
+// An instance of the descendant is copied to one of the ancestor, whose virtual function is called.
+const COPIED: Coded = program!(
+    &[(BASE, None), (HEIR, None)],
+    Block(&[
+        begun!(FIRST),
+        begun!(SECOND),
+        Assign(FieldOf(&SECOND, 0), Number(INTEGER, 7)),
+        CopyAll(FIRST, SECOND),
+        written!(Load(INTEGER, &FieldOf(&FIRST, 0))),
+        of_class!(FIRST, 0),
+    ])
+);
+
+// q := New(the descendant, Init); p := q; p^.Init; Write(q^.W), which is a function of the descendant alone.
+const LOWERED: Coded = program!(
+    &[(TO_BASE, None), (TO_HEIR, None)],
+    Block(&[
+        Assign(SECOND, MADE),
+        Assign(FIRST, Load(TO_HEIR, &SECOND)),
+        begun!(Deref(&Load(TO_BASE, &FIRST))),
+        of_class!(Deref(&Load(TO_HEIR, &SECOND)), 1),
+    ])
+);
+
+const ROWS: &[(Coded, Shown)] = &[
+    (CALLED, ("", 2, "2", "", MeanEnd::Ended(0))),
+    (CALLED, ("", 1, "", "", MeanEnd::Going)),
+    (DISPOSED, ("", 3, "2", "", MeanEnd::Ended(0))),
+    (DISPOSED, ("", 2, "2", "", MeanEnd::Going)),
+    (DISPOSED_TWICE, ("", 9, "2", "", MeanEnd::Undefined(2))),
+    (COPIED, ("", 3, "71", "", MeanEnd::Ended(0))),
+    (LOWERED, ("", 9, "", "", MeanEnd::Undefined(4))),
 ];
 
 #[test]
-fn an_instance_keeps_its_class(rt: HostRuntime) -> Result<(), Fail> {
-    assert_eq!(rt; first_wrong(rt.alloc(), &ROWS)?, None);
-    Ok(())
+fn an_instance_keeps_its_class(rt: HostRuntime) {
+    expect(&rt, first_wrong(rt.alloc(), ROWS));
 }

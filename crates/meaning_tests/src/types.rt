@@ -1,10 +1,10 @@
 //! The types that the programs have in common.
 
-use std::alloc::{AllocError, Global};
-use type_layout::{
-    Field, Fields, Header, Host, Kind, Method, Methods, Name, Params, RoutineId, TypeDef, TypeId,
-    Types,
+use tree_samples::TypeSample::{
+    ArrayOf, ObjectOf, Ordinal, PointerTo, Procedural, RecordOf, SetOf, Str,
 };
+use tree_samples::{HeaderSample, TypeSample};
+use type_layout::{Host, Kind, RoutineId, TypeId};
 
 pub const INTEGER: TypeId = TypeId(0);
 
@@ -12,9 +12,6 @@ pub const BOOLEAN: TypeId = TypeId(1);
 
 /// `string`
 pub const TEXT: TypeId = TypeId(2);
-
-/// 1..3
-const INDEX: TypeId = TypeId(3);
 
 /// array [1..3] of Integer
 pub const ARRAY: TypeId = TypeId(4);
@@ -50,141 +47,58 @@ pub const SET: TypeId = TypeId(16);
 
 pub const LONG: TypeId = TypeId(17);
 
-/// procedure (x: Integer)
-pub const PROCEDURE: TypeId = TypeId(18);
+const CONSTRUCTOR: HeaderSample = (Kind::Constructor, &[], None);
 
-pub fn named(bytes: &[u8]) -> Result<Name, AllocError> {
-    Name::new(bytes).ok_or(AllocError)
-}
+const FUNCTION: HeaderSample = (Kind::Function, &[], Some(0));
 
-fn add(types: &mut Types, number: u32, one: TypeDef) {
-    if let Some(origin) = Name::new(b"A")
-        && types.takes(&origin, &one)
-    {
-        let _added = types.add(origin, number, one);
-    }
-}
-
-pub fn header(alloc: Global, kind: Kind, outcome: Option<TypeId>) -> Header {
-    Header {
-        kind,
-        params: Params::new(alloc),
-        result: outcome,
-    }
-}
-
-fn method(
-    alloc: Global,
-    name: &[u8],
-    kind: Kind,
-    outcome: Option<TypeId>,
-    number: u32,
-) -> Result<Method, AllocError> {
-    Ok(Method {
-        name: named(name)?,
-        header: header(alloc, kind, outcome),
-        is_virtual: kind == Kind::Function,
-        routine: RoutineId { unit: 0, number },
-    })
-}
-
-fn fields(alloc: Global, name: &[u8]) -> Result<Fields, AllocError> {
-    let mut fields = Fields::new(alloc);
-    fields.push(Field {
-        name: named(name)?,
-        ty: INTEGER,
-    })?;
-    Ok(fields)
-}
-
-fn ordinal(host: Host, low: i32, high: i32) -> TypeDef {
-    TypeDef::Ordinal { host, low, high }
-}
-
-fn add_ordinals(types: &mut Types) {
-    add(types, 0, ordinal(Host::Integer, -32_768, 32_767));
-    add(types, 1, ordinal(Host::Boolean, 0, 1));
-    add(types, 2, TypeDef::Str { max: 255 });
-    add(types, 3, ordinal(Host::Integer, 1, 3));
-}
-
-fn add_structures(alloc: Global, types: &mut Types) -> Result<(), AllocError> {
-    add(
-        types,
-        4,
-        TypeDef::ArrayOf {
-            index: INDEX,
-            element: INTEGER,
-        },
-    );
-    add(types, 5, TypeDef::PointerTo { target: INTEGER });
-    let fields = fields(alloc, b"N")?;
-    add(types, 6, TypeDef::RecordOf { fields });
-    Ok(())
-}
-
-fn add_base(alloc: Global, types: &mut Types) -> Result<(), AllocError> {
-    let fields = fields(alloc, b"N")?;
-    let mut methods = Methods::new(alloc);
-    methods.push(method(alloc, b"INIT", Kind::Constructor, None, 0)?)?;
-    methods.push(method(alloc, b"V", Kind::Function, Some(INTEGER), 1)?)?;
-    add(
-        types,
+/// The types of the constants above, each at its number, and what they are made of; the last is that of procedures
+/// without parameters.
+pub const TYPES: &[(&str, u32, TypeSample)] = &[
+    ("A", 0, Ordinal(Host::Integer, -32_768, 32_767)),
+    ("A", 1, Ordinal(Host::Boolean, 0, 1)),
+    ("A", 2, Str(255)),
+    ("A", 3, Ordinal(Host::Integer, 1, 3)),
+    ("A", 4, ArrayOf(3, 0)),
+    ("A", 5, PointerTo(0)),
+    ("A", 6, RecordOf(&[("N", 0)])),
+    (
+        "A",
         7,
-        TypeDef::ObjectOf {
-            parent: None,
-            dynamic: true,
-            fields,
-            methods,
-        },
-    );
-    Ok(())
-}
-
-fn add_heir(alloc: Global, types: &mut Types) -> Result<(), AllocError> {
-    let fields = fields(alloc, b"M")?;
-    let mut methods = Methods::new(alloc);
-    methods.push(method(alloc, b"V", Kind::Function, Some(INTEGER), 2)?)?;
-    methods.push(method(alloc, b"W", Kind::Function, Some(INTEGER), 4)?)?;
-    add(
-        types,
+        ObjectOf(
+            None,
+            true,
+            &[("N", 0)],
+            &[
+                ("INIT", CONSTRUCTOR, false, RoutineId { unit: 0, number: 0 }),
+                ("V", FUNCTION, true, RoutineId { unit: 0, number: 1 }),
+            ],
+        ),
+    ),
+    (
+        "A",
         8,
-        TypeDef::ObjectOf {
-            parent: Some(BASE),
-            dynamic: true,
-            fields,
-            methods,
-        },
-    );
-    Ok(())
-}
-
-fn add_others(alloc: Global, types: &mut Types) -> Result<(), AllocError> {
-    add(types, 9, TypeDef::PointerTo { target: BASE });
-    add(types, 10, TypeDef::PointerTo { target: HEIR });
-    add(types, 11, ordinal(Host::Word, 0, 65_535));
-    add(types, 12, TypeDef::Str { max: 3 });
-    add(types, 13, ordinal(Host::Integer, 1, 5));
-    add(types, 14, ordinal(Host::Char, 0, 255));
-    add(types, 15, ordinal(Host::Byte, 0, 255));
-    add(types, 16, TypeDef::SetOf { base: TypeId(15) });
-    add(
-        types,
+        ObjectOf(
+            Some(7),
+            true,
+            &[("M", 0)],
+            &[
+                ("V", FUNCTION, true, RoutineId { unit: 0, number: 2 }),
+                ("W", FUNCTION, true, RoutineId { unit: 0, number: 4 }),
+            ],
+        ),
+    ),
+    ("A", 9, PointerTo(7)),
+    ("A", 10, PointerTo(8)),
+    ("A", 11, Ordinal(Host::Word, 0, 65_535)),
+    ("A", 12, Str(3)),
+    ("A", 13, Ordinal(Host::Integer, 1, 5)),
+    ("A", 14, Ordinal(Host::Char, 0, 255)),
+    ("A", 15, Ordinal(Host::Byte, 0, 255)),
+    ("A", 16, SetOf(15)),
+    (
+        "A",
         17,
-        ordinal(Host::LongInt, -2_147_483_648, 2_147_483_647),
-    );
-    let header = header(alloc, Kind::Procedure, None);
-    add(types, 18, TypeDef::Procedural { header });
-    Ok(())
-}
-
-/// The types of the constants above, each at its number.
-pub fn sample_types(alloc: Global) -> Result<Types, AllocError> {
-    let mut types = Types::new(alloc);
-    add_ordinals(&mut types);
-    add_structures(alloc, &mut types)?;
-    add_base(alloc, &mut types)?;
-    add_heir(alloc, &mut types)?;
-    add_others(alloc, &mut types)?;
-    Ok(types)
-}
+        Ordinal(Host::LongInt, -2_147_483_648, 2_147_483_647),
+    ),
+    ("A", 18, Procedural((Kind::Procedure, &[], None))),
+];
