@@ -1,0 +1,143 @@
+-- Methods that are found on objects are declared by a class of their line.
+use Rattle.std.proofs.Common.{◌≡◌, ℕ, zero, suc, All, Bool, true, false, cond, List, [], ◌∷◌, length, Option, Some, None, refl, sym, subst, ap}
+use Rattle.std.specs.Prelude.{slice_get}
+use Rattle.std.proofs.lemmas.List.Elements.{All-head, All-tail}
+use Rattle.type_layout.specs.declared.definitions.TypeId.{TypeId}
+use Rattle.type_layout.specs.declared.definitions.RoutineId.{RoutineId}
+use Rattle.type_layout.specs.declared.definitions.Header.{Header}
+use Rattle.type_layout.specs.declared.definitions.Method.{Method}
+use Rattle.type_layout.specs.declared.definitions.TypeDef.{TypeDef}
+use Rattle.type_layout.specs.declared.definitions.TypeDef.TheVariants as type
+use Rattle.type_layout.specs.declared.texts.Place.{Place}
+use Rattle.typed_tree.specs.Expressions as tree
+use Rattle.typed_tree.specs.Expressions.{Expression, Load}
+use Rattle.well_formed.specs.Fits.{definition, IsObject, Descends}
+use Rattle.well_formed.specs.Scopes.{Scope}
+use Rattle.well_formed.specs.Typed.{HasPlace}
+use Rattle.scopes.specs.declared.members.Member.{Member}
+use Rattle.scopes.specs.Members.{member_of}
+use Rattle.scopes.specs.Environment.{Environment}
+use Rattle.method_rules.specs.declared.methods.Callee.{Callee}
+use Rattle.method_rules.specs.declared.methods.Callee.TheVariants as callee
+use Rattle.method_rules.specs.Slots.{methods_of, slot_of}
+use Rattle.method_rules.specs.Methods.{Bound, method_by, method_in, routine_in, routine_at, routine_named, callee_at, callee_of, bound_by, bound_of, bound, inherited_by, inherited}
+use Rattle.typing_rules.specs.Judgements.{Through}
+use Rattle.typed_nodes.specs.Tables.{IsHeaderIn, IsSound}
+use Rattle.typed_nodes.specs.Laws.{IsOperand}
+use Rattle.typed_nodes.proofs.Assigned.{line_of}
+use Rattle.typed_nodes.proofs.Indexed.{loaded_from}
+use Rattle.typed_methods.specs.Declared.{HasMethods, IsCallee, IsBound}
+use Rattle.typed_methods.proofs.Lines.{member_line, member_object, line_on}
+
+-- ---- a method by its name
+
+pub record Found (types : List TypeDef) (class : TypeId) (name : List ℕ) (method : Method) : Type 0 where
+  pub member : Member
+  pub is : member_of types (Some class) name ≡ Some member
+  pub kind : member.method ≡ true
+  pub at : slice_get (methods_of (definition types member.class)) member.number ≡ Some method
+
+found_kind : (types : List TypeDef) (class : TypeId) (name : List ℕ) (method : Method) (one : Member) → member_of types (Some class) name ≡ Some one → (b : Bool) → one.method ≡ b
+    → cond b (slice_get (methods_of (definition types one.class)) one.number) None ≡ Some method → Found types class name method
+found_kind types class name method one is true kind e = record { member = one; is = is; kind = kind; at = e }
+found_kind types class name method one is false kind e = let bad : ⊥ = cc in absurd bad
+
+found_by : (types : List TypeDef) (class : TypeId) (name : List ℕ) (method : Method) (o : Option Member) → member_of types (Some class) name ≡ o → method_by types o ≡ Some method → Found types class name method
+found_by types class name method None is e = let bad : ⊥ = cc in absurd bad
+found_by types class name method (Some one) is e = found_kind types class name method one is one.method refl e
+
+found : (types : List TypeDef) (class : TypeId) (name : List ℕ) (method : Method) → method_in types class name ≡ Some method → Found types class name method
+unfolding method_in
+found types class name method e = found_by types class name method (member_of types (Some class) name) refl e
+
+all_at : (P : Method → Type 0) (xs : List Method) (k : ℕ) (x : Method) → All P xs → slice_get xs k ≡ Some x → P x
+all_at P [] zero x all e = let bad : ⊥ = cc in absurd bad
+all_at P [] (suc k) x all e = let bad : ⊥ = cc in absurd bad
+all_at P (y ∷ ys) zero x all e =
+    let same : y ≡ x = cc in
+    subst P same (All-head P y ys all)
+all_at P (y ∷ ys) (suc k) x all e = all_at P ys k x (All-tail P y ys all) e
+
+header_by : (types : List TypeDef) (sound : IsSound types) (class : TypeId) (k : ℕ) (method : Method) (d : Option TypeDef) → definition types class ≡ d → slice_get (methods_of d) k ≡ Some method
+    → IsHeaderIn types method.header
+header_by types sound class k method (Some (type.ObjectOf parent dynamic fields methods)) is e =
+    all_at (λ (m : Method). IsHeaderIn types m.header) methods k method (sound.names class (type.ObjectOf parent dynamic fields methods) is) e
+header_by types sound class zero method d is e = let bad : ⊥ = cc in absurd bad
+header_by types sound class (suc k) method d is e = let bad : ⊥ = cc in absurd bad
+
+module _ (g : Environment) (s : Scope) (has : HasMethods g s) (sound : IsSound s.types) where
+  pub here : (class : TypeId) (name : List ℕ) (method : Method) → method_in g.types.types class name ≡ Some method → Found s.types class name method
+  here class name method e = found s.types class name method (subst (λ (t : List TypeDef). method_in t class name ≡ Some method) (sym has.types) e)
+
+  pub header_in : (class : TypeId) (name : List ℕ) (method : Method) → Found s.types class name method → IsHeaderIn s.types method.header
+  header_in class name method f = header_by s.types sound f.member.class f.member.number method (definition s.types f.member.class) refl f.at
+
+  routine_by : (place : Place) (o : Option RoutineId) (routine : RoutineId) → (routine_at place o).holds routine → o ≡ Some routine
+  routine_by place None routine h = absurd h
+  routine_by place (Some one) routine h = ap (λ (r : RoutineId). Some r) (sym h)
+
+  -- a method of an ancestor, as what is called
+  pub named_callee : (place : Place) (class top : TypeId) (name : List ℕ) (method : Method) → Found s.types top name method → Descends s.types class top → (routine : RoutineId)
+      → (routine_named g place method).holds routine → IsCallee s class method.header (callee.Routine routine)
+  named_callee place class top name method f line routine h = (
+    f.member.class,
+    has.methods f.member.class f.member.number method routine f.at (routine_by place (routine_in g method.routine) routine h),
+    line_on s.types class top f.member.class line (member_line s.types name f.member (length s.types) top f.is),
+  )
+
+  slot_callee : (place : Place) (class : TypeId) (header : Header) (o : Option ℕ) (one : Callee) → (callee_at place o).holds one → IsCallee s class header one
+  slot_callee place class header None one h = absurd h
+  slot_callee place class header (Some slot) one h = subst (λ (c : Callee). IsCallee s class header c) (sym h) tt
+
+  callee_by : (place : Place) (class : TypeId) (name : List ℕ) (method : Method) → Found s.types class name method → (one : Callee) → (b : Bool) → method.is_virtual ≡ b
+      → cond b ((callee_at place (slot_of g.types.types class name)).holds one) (Through (routine_named g place method).holds (λ routine o. o ≡ callee.Routine routine) one)
+      → IsCallee s class method.header one
+  callee_by place class name method f one true is h = slot_callee place class method.header (slot_of g.types.types class name) one h
+  callee_by place class name method f one false is h =
+      subst (λ (c : Callee). IsCallee s class method.header c) (sym h.made) (named_callee place class class name method f (0, refl) h.part h.holds)
+
+  pub callee_bound : (place : Place) (class : TypeId) (name : List ℕ) (method : Method) → Found s.types class name method → (one : Callee) → (callee_of g place class name method).holds one
+      → IsCallee s class method.header one
+  callee_bound place class name method f one h = callee_by place class name method f one method.is_virtual refl h
+
+  bound_at : (place : Place) (ty : TypeId) (at : tree.Place) (name : List ℕ) (one : Bound) → HasPlace s at ty → (o : Option Method) → method_in g.types.types ty name ≡ o
+      → (bound_by g place ty at name o).holds one → IsBound s one
+  bound_at place ty at name one there None is h = absurd h
+  bound_at place ty at name one there (Some method) is h =
+      let f = here ty name method is in
+      subst (λ (b : Bound). IsBound s b) (sym h.made) (record {
+        class = ty;
+        object = member_object s.types name f.member f.kind (length s.types) ty f.is;
+        place = there;
+        header = header_in ty name method f;
+        callee = callee_by place ty name method f h.part method.is_virtual refl h.holds;
+      })
+
+  bound_of_one : (place : Place) (a : Expression) (name : List ℕ) (one : Bound) → IsOperand s a → (bound_of g place a name).holds one → IsBound s one
+  bound_of_one place (Load ty at) name one oa h = bound_at place ty at name one (loaded_from s ty at oa).1 (method_in g.types.types ty name) refl h
+  bound_of_one place a name one oa h = absurd h
+
+  pub bound_typed : (place : Place) (a : Expression) (name : List ℕ) (one : Bound) → IsOperand s a → (bound g place a name).holds one → IsBound s one
+  unfolding bound
+  bound_typed place a name one oa h = bound_of_one place a name one oa h
+
+  inherited_at : (place : Place) (class ancestor : TypeId) (at : tree.Place) (name : List ℕ) (one : Bound) → HasPlace s at class → IsObject (definition s.types class)
+      → Descends s.types class ancestor → (o : Option Method) → method_in g.types.types ancestor name ≡ o → (inherited_by g place at o).holds one → IsBound s one
+  inherited_at place class ancestor at name one there object line None is h = absurd h
+  inherited_at place class ancestor at name one there object line (Some method) is h =
+      let f = here ancestor name method is in
+      subst (λ (b : Bound). IsBound s b) (sym h.made) (record {
+        class = class;
+        object = object;
+        place = there;
+        header = header_in ancestor name method f;
+        callee = named_callee place class ancestor name method f line h.part h.holds;
+      })
+
+  pub inherited_typed : (here place : Place) (class : TypeId) (at : tree.Place) (ancestor : TypeId) (name : List ℕ) (one : Bound) → HasPlace s at class
+      → (inherited g here place class at ancestor name).holds one → IsBound s one
+  unfolding inherited
+  inherited_typed here place class at ancestor name one there h =
+      let object : IsObject (definition s.types class) = subst (λ (t : List TypeDef). IsObject (definition t class)) (sym has.types) h.holds.asked.0 in
+      let line : Descends s.types class ancestor = subst (λ (t : List TypeDef). Descends t class ancestor) (sym has.types) (line_of g.types.types class ancestor h.holds.asked.1) in
+      inherited_at place class ancestor at name one there object line (method_in g.types.types ancestor name) refl h.made

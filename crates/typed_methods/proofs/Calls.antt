@@ -1,0 +1,60 @@
+-- Calls of methods are typed.
+use Rattle.std.proofs.Common.{◌≡◌, ℕ, zero, suc, Bool, List, Option, Some, None, refl, sym, subst}
+use Rattle.type_layout.specs.declared.definitions.TypeId.{TypeId}
+use Rattle.type_layout.specs.declared.definitions.Header.{Header}
+use Rattle.type_layout.specs.declared.texts.Place.{Place}
+use Rattle.typed_tree.specs.Expressions as tree
+use Rattle.typed_tree.specs.Expressions.{Expression, Arguments, Own}
+use Rattle.well_formed.specs.Fits.{definition, IsObject, Descends}
+use Rattle.well_formed.specs.Scopes.{Scope, IsRoutineAt}
+use Rattle.well_formed.specs.Typed.{IsTyped, HasPlace, CallFits, IsOwn, IsTypedReceiver, AreTypedArguments, TakeEach}
+use Rattle.call_rules.specs.Given.{arguments_of}
+use Rattle.method_rules.specs.declared.methods.Callee.{Callee}
+use Rattle.method_rules.specs.declared.methods.Callee.TheVariants as callee
+use Rattle.method_rules.specs.Methods.{Bound}
+use Rattle.method_rules.specs.Calls.{node_of, call_of, result_called, called_on, result_performed, performed_on}
+use Rattle.typed_nodes.specs.Tables.{IsResultIn, IsSound}
+use Rattle.typed_calls.specs.Laws.{AreOperands}
+use Rattle.typed_calls.proofs.Given.{taken_typed, taken_alike, given_taken}
+use Rattle.typed_calls.proofs.Calls.{has_result}
+use Rattle.typed_methods.specs.Declared.{IsMethod, IsCallee, IsBound}
+
+module _ (s : Scope) (class : TypeId) (own : tree.Place) (object : IsObject (definition s.types class)) (there : HasPlace s own class) where
+  method_fits : (unit number : ℕ) (header : Header) (owner : TypeId) (args : Arguments) → IsRoutineAt (IsMethod owner header) s unit number → Descends s.types class owner → TakeEach s header.params args
+      → CallFits s unit number header.result (λ o. IsOwn s o (Own own)) (λ params. TakeEach s params args) (IsTypedReceiver s (Own own) × AreTypedArguments s args)
+  method_fits zero number header owner args declared line h =
+      let r = declared.0 in
+      let owned = declared.2.owned in
+      let same = declared.2.same in
+      (r, declared.1, sym same.result, subst (λ (o : Option TypeId). IsOwn s o (Own own)) (sym owned) (class, there, line), taken_alike s header.params r.header.params args same.params h)
+  method_fits (suc unit) number header owner args declared line h = (declared, ((class, object, there), taken_typed s header.params args h))
+
+  node_typed : (header : Header) (one : Callee) (checked : Bool) (args : Arguments) → IsCallee s class header one → IsResultIn s.types header.result → TakeEach s header.params args
+      → IsTyped s (node_of one own header.result checked args)
+  node_typed header (callee.Routine routine) checked args declared result h =
+      (has_result s header.result result, method_fits routine.unit routine.number header declared.0 args declared.1 declared.2 h)
+  node_typed header (callee.Slot slot) checked args declared result h =
+      (has_result s header.result result, (class, object, there), taken_typed s header.params args h)
+
+module _ (s : Scope) (sound : IsSound s.types) (place : Place) (checked : Bool) (one : Bound) (es : List Expression) (e : Expression) (bound : IsBound s one) (oes : AreOperands s es) where
+  by_result : (o : Option TypeId) → one.header.result ≡ o → (call_of s.types place checked one o es).holds e → IsTyped s e
+  by_result o is h =
+      let taken = given_taken s sound place checked one.header.params es h.part bound.header.params oes h.holds in
+      let typed = node_typed s bound.class one.own bound.object bound.place one.header one.callee checked (arguments_of h.part) bound.callee bound.header.result taken in
+      subst (λ (x : Expression). IsTyped s x) (sym h.made) (subst (λ (r : Option TypeId). IsTyped s (node_of one.callee one.own r checked (arguments_of h.part))) is typed)
+
+  called_by : (o : Option TypeId) → one.header.result ≡ o → (result_called s.types place checked one o es).holds e → IsTyped s e
+  called_by None is h = absurd h
+  called_by (Some ty) is h = by_result (Some ty) is h
+
+  pub called_typed : (called_on s.types place checked one es).holds e → IsTyped s e
+  unfolding called_on
+  called_typed h = called_by one.header.result refl h
+
+  performed_by : (o : Option TypeId) → one.header.result ≡ o → (result_performed s.types place checked one o es).holds e → IsTyped s e
+  performed_by None is h = by_result None is h
+  performed_by (Some ty) is h = absurd h
+
+  pub performed_typed : (performed_on s.types place checked one es).holds e → IsTyped s e
+  unfolding performed_on
+  performed_typed h = performed_by one.header.result refl h

@@ -1,0 +1,4 @@
+pub mod Lines
+pub mod Bound
+pub mod Calls
+pub mod Through

@@ -1,0 +1,48 @@
+-- What is called on an object, or through a variable, is declared as trees have it.
+use Rattle.std.specs.Prelude.{◌≡◌, ℕ, Some, slice_get}
+use Rattle.type_layout.specs.declared.definitions.TypeId.{TypeId}
+use Rattle.type_layout.specs.declared.definitions.RoutineId.{RoutineId}
+use Rattle.type_layout.specs.declared.definitions.Header.{Header}
+use Rattle.type_layout.specs.declared.definitions.Method.{Method}
+use Rattle.type_layout.specs.declared.definitions.TypeDef.TheVariants as type
+use Rattle.typed_tree.specs.declared.units.Routine.{Routine}
+use Rattle.well_formed.specs.Fits.{definition, IsObject, Descends, AreSameHeaders}
+use Rattle.well_formed.specs.Scopes.{Scope, HasRoutine}
+use Rattle.well_formed.specs.Typed.{HasPlace}
+use Rattle.scopes.specs.Environment.{Environment}
+use Rattle.method_rules.specs.declared.methods.Callee.{Callee}
+use Rattle.method_rules.specs.declared.methods.Callee.TheVariants as callee
+use Rattle.method_rules.specs.Slots.{methods_of}
+use Rattle.method_rules.specs.Methods.{routine_in, Bound}
+use Rattle.procedural_rules.specs.Through.{Held}
+use Rattle.typed_nodes.specs.Tables.{IsHeaderIn}
+
+-- the routine of a method that a class declares
+pub record IsMethod (class : TypeId) (header : Header) (routine : Routine) : Type 0 where
+  pub owned : routine.owner ≡ Some class
+  pub same : AreSameHeaders header routine.header
+
+-- Scope and trees have the same types, and each method of a class is a routine of the unit, or of another.
+pub record HasMethods (g : Environment) (s : Scope) : Type 0 where
+  pub types : s.types ≡ g.types.types
+  pub methods : (class : TypeId) (number : ℕ) (method : Method) (routine : RoutineId) → slice_get (methods_of (definition s.types class)) number ≡ Some method
+      → routine_in g method.routine ≡ Some routine → HasRoutine (IsMethod class method.header) s routine
+
+-- a method with this header that an object's line has, or one in a slot
+abbrev pub IsCallee : Scope → TypeId → Header → Callee → Type 0
+IsCallee s class header (callee.Routine routine) = (owner : TypeId) × HasRoutine (IsMethod owner header) s routine × Descends s.types class owner
+IsCallee s class header (callee.Slot slot) = Unit {0}
+
+-- a method with the object that it is called on
+pub record IsBound (s : Scope) (one : Bound) : Type 0 where
+  pub class : TypeId
+  pub object : IsObject (definition s.types class)
+  pub place : HasPlace s one.own class
+  pub header : IsHeaderIn s.types one.header
+  pub callee : IsCallee s class one.header one.callee
+
+-- a variable that holds a routine
+pub record Holds (s : Scope) (one : Held) : Type 0 where
+  pub of : TypeId
+  pub is : definition s.types of ≡ Some (type.Procedural one.header)
+  pub place : HasPlace s one.at of
