@@ -1,0 +1,11 @@
+//! What numbers and names say of one another.
+
+ghost use Rattle.runtime_numbers.specs.declared.numbers.RuntimeRoutine.{RuntimeRoutine};
+ghost use Rattle.runtime_numbers.specs.declared.numbers.RuntimeGlobal.{RuntimeGlobal};
+ghost use Rattle.runtime_numbers.specs.Numbers.{IsInUnit, IsInOverlay};
+
+/// A routine's number leads to the unit that holds it, and the data that others name are in the unit of overlays and the heap. It does nothing.
+pub fn number_laws()
+    ensures routines { (r : RuntimeRoutine) → IsInUnit r }
+    ensures globals { (g : RuntimeGlobal) → IsInOverlay g }
+{}
