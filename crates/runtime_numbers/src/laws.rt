@@ -2,7 +2,7 @@
 
 ghost use Rattle.runtime_numbers.specs.declared.numbers.RuntimeRoutine.{RuntimeRoutine};
 ghost use Rattle.runtime_numbers.specs.declared.numbers.RuntimeGlobal.{RuntimeGlobal};
-ghost use Rattle.runtime_numbers.specs.Numbers.{IsInUnit, IsInOverlay};
+ghost use Rattle.runtime_numbers.specs.Named.{IsInUnit, IsInOverlay};
 
 /// A routine's number leads to the unit that holds it, and the data that others name are in the unit of overlays and the heap. It does nothing.
 pub fn number_laws()

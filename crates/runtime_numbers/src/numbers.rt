@@ -1,7 +1,7 @@
 //! The three units of the runtime, its routines, and the data that others name.
 
 ghost use Rattle.std.specs.Prelude.{◌≡◌};
-ghost use Rattle.runtime_numbers.specs.Numbers.{number_of, unit_of, name_of, key_of};
+ghost use Rattle.runtime_numbers.specs.Named.{number_of, unit_of, name_of, key_of};
 
 use flat_builders::name;
 use type_layout::Name;

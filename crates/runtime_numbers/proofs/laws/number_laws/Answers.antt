@@ -1,4 +1,4 @@
-use Rattle.runtime_numbers.proofs.Numbers.{in_unit, in_overlay}
+use Rattle.runtime_numbers.proofs.Keys.{in_unit, in_overlay}
 use Rattle.runtime_numbers.proofs.laws.number_laws.Goals as goal
 
 pub returns-clause-routines : goal.returns-clause-routines

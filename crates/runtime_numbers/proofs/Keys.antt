@@ -1,7 +1,7 @@
 -- Numbers and units of the runtime's routines.
 use Rattle.std.specs.Prelude.{◌≡◌}
 use Rattle.std.proofs.Common.{refl}
-use Rattle.runtime_numbers.specs.Numbers.{IsInUnit, IsInOverlay}
+use Rattle.runtime_numbers.specs.Named.{IsInUnit, IsInOverlay}
 use Rattle.runtime_numbers.specs.declared.numbers.RuntimeRoutine.{RuntimeRoutine}
 use Rattle.runtime_numbers.specs.declared.numbers.RuntimeRoutine.TheVariants as routine
 use Rattle.runtime_numbers.specs.declared.numbers.RuntimeGlobal.{RuntimeGlobal}
