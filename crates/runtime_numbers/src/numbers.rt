@@ -1,10 +1,7 @@
 //! The three units of the runtime, its routines, and the data that others name.
 
 ghost use Rattle.std.specs.Prelude.{◌≡◌};
-ghost use Rattle.runtime_numbers.specs.Named.{number_of, unit_of, name_of, key_of};
-
-use flat_builders::name;
-use type_layout::Name;
+ghost use Rattle.runtime_numbers.specs.Named.{number_of, unit_of, key_of};
 
 /// A unit of the runtime.
 #[derive(Clone, Copy)]
@@ -15,19 +12,6 @@ pub enum RuntimeUnit {
     Strings,
     /// Overlays and the heap.
     Overlay,
-}
-
-impl RuntimeUnit {
-    /// Its name in the list of units.
-    pub fn name(&self) -> Name
-        ensures { result ≡ name_of self.now }
-    {
-        match self {
-            RuntimeUnit::Text => name(b".TEXT"),
-            RuntimeUnit::Strings => name(b".STRINGS"),
-            RuntimeUnit::Overlay => name(b"OVERLAY"),
-        }
-    }
 }
 
 /// A routine of the runtime.
