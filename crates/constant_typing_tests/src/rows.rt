@@ -75,6 +75,7 @@ const SELECTORS: &[Row] = &[
     ("MaxInt.x", Refused(17, 7)),
     ("r.x", Refused(3, 1)),
     ("MaxInt[1]", Refused(16, 7)),
+    ("MaxInt[q]", Refused(1, 8)),
     ("MaxInt^", Refused(18, 7)),
 ];
 
@@ -97,6 +98,8 @@ const FUNCTIONS: &[Row] = &[
     ("Abs(1, 2)", Refused(19, 1)),
     ("Abs(1, q)", Refused(1, 8)),
     ("Abs(1:2)", Refused(19, 1)),
+    ("Abs(q:2)", Refused(1, 5)),
+    ("Abs(1:q)", Refused(1, 7)),
     ("Abs(i)", Refused(3, 5)),
     ("Sqr(2)", Refused(3, 1)),
     ("fi(2)", Refused(3, 1)),
@@ -145,7 +148,8 @@ const SIZES: &[Row] = &[
     ("SizeOf(fi)", Refused(19, 1)),
     ("SizeOf(1)", Refused(19, 1)),
     ("SizeOf(i, l)", Refused(3, 8)),
-    ("SizeOf(i:1)", Refused(19, 1)),
+    ("SizeOf(i:1)", Refused(3, 8)),
+    ("SizeOf(1:2)", Refused(19, 1)),
     ("SizeOf(q)", Refused(1, 8)),
     ("SizeOf(Text)", Refused(0, 8)),
     ("SizeOf(r.x)", Refused(0, 1)),
