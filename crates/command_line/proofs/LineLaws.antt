@@ -65,6 +65,7 @@ single_asks (Some commands.Help) words word is found = is ∙ ap (λ (w : Text).
 single_asks (Some commands.Version) words word is found = is ∙ ap (λ (w : Text). w ∷ []) found
 single_asks (Some (commands.Go name)) words word is found = absurd found
 single_asks (Some (commands.Run name options)) words word is found = absurd found
+single_asks (Some (commands.Mean name turns)) words word is found = absurd found
 
 pub single_unfit : (result : Option Command) (words : List Text) (word : Text) → words ≡ word ∷ [] → IfSome result (IsSingle word) → faults words ≡ [] → result ≡ None
 single_unfit None words word is found fits = refl
@@ -72,6 +73,7 @@ single_unfit (Some commands.Help) words word is found fits = absurd (help_not wo
 single_unfit (Some commands.Version) words word is found fits = absurd (version_not words (is ∙ ap (λ (w : Text). w ∷ []) found) fits)
 single_unfit (Some (commands.Go name)) words word is found fits = absurd found
 single_unfit (Some (commands.Run name options)) words word is found fits = absurd found
+single_unfit (Some (commands.Mean name turns)) words word is found fits = absurd found
 
 -- lines written out
 pub plain : faults (codes "go" ∷ codes "A" ∷ []) ≡ []

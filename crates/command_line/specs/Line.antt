@@ -17,8 +17,8 @@ bare = record (new_app (codes "tp")) { top = record (new_app (codes "tp")).top {
 
 abbrev pub command_line : App
 command_line =
-    with_rule (with_rule (with_rule (with_rule (with_rule bare (word_rule (codes "command"))) (word_rule (codes "name")))
-    (option_rule (codes "buffer"))) (option_rule (codes "limit"))) (option_rule (codes "retry"))
+    with_rule (with_rule (with_rule (with_rule (with_rule (with_rule bare (word_rule (codes "command"))) (word_rule (codes "name")))
+    (option_rule (codes "buffer"))) (option_rule (codes "limit"))) (option_rule (codes "retry"))) (option_rule (codes "turns"))
 
 -- what is wrong with the words: nothing where they fit the command line
 unfoldable pub faults : List Text → Kinds

@@ -47,21 +47,38 @@ pub record AreOptions (rows : List Row) (options : RunOptions) : Type 0 where
 abbrev pub no_options : RunOptions
 no_options = record { buffer = None; limit = None; retry = None }
 
--- The line says `go` and the name of a program, and no option.
+-- The number of turns was said, or none.
+abbrev pub AreTurns : List Row → Option ℕ → Type 0
+AreTurns rows turns = IsNumberIn 1000000000000000000 (first_of (codes "turns") rows) turns
+
+-- The line says `go` and the name of a program, and no option of `run`. A number of turns has no effect.
 pub record IsGoIn (rows : List Row) (name : List ℕ) : Type 0 where
   pub command : first_of (codes "command") rows ≡ Some (codes "go")
   pub named : IsNameIn (first_of (codes "name") rows) name
   pub alone : AreOptions rows no_options
+  pub turns : Option ℕ
+  pub unused : AreTurns rows turns
 
--- It says `run`, the name of a program, and options.
+-- It says `run`, the name of a program, and options. A number of turns has no effect.
 pub record IsRunIn (rows : List Row) (name : List ℕ) (options : RunOptions) : Type 0 where
   pub command : first_of (codes "command") rows ≡ Some (codes "run")
   pub named : IsNameIn (first_of (codes "name") rows) name
   pub are : AreOptions rows options
+  pub turns : Option ℕ
+  pub unused : AreTurns rows turns
+
+-- It says `mean`, the name of a program, and within how many turns. The options of `run` have no effect.
+pub record IsMeanIn (rows : List Row) (name : List ℕ) (turns : Option ℕ) : Type 0 where
+  pub command : first_of (codes "command") rows ≡ Some (codes "mean")
+  pub named : IsNameIn (first_of (codes "name") rows) name
+  pub within : AreTurns rows turns
+  pub options : RunOptions
+  pub unused : AreOptions rows options
 
 abbrev pub IsCommandIn : List Row → Command → Type 0
 IsCommandIn rows (commands.Go name) = IsGoIn rows name
 IsCommandIn rows (commands.Run name options) = IsRunIn rows name options
+IsCommandIn rows (commands.Mean name turns) = IsMeanIn rows name turns
 IsCommandIn rows other = ⊥
 
 -- The words fit the command line and ask for this.
@@ -72,6 +89,10 @@ pub record IsGo (words : List Text) (name : List ℕ) : Type 0 where
 pub record IsRun (words : List Text) (name : List ℕ) (options : RunOptions) : Type 0 where
   pub fits : faults words ≡ []
   pub says : IsRunIn (said words) name options
+
+pub record IsMean (words : List Text) (name : List ℕ) (turns : Option ℕ) : Type 0 where
+  pub fits : faults words ≡ []
+  pub says : IsMeanIn (said words) name turns
 
 -- They ask what words there are, or which version this is: a single word, which fits no command line.
 abbrev pub IsHelp : List Text → Type 0
@@ -89,5 +110,6 @@ IsSingle word other = ⊥
 abbrev pub IsCommand : List Text → Command → Type 0
 IsCommand words (commands.Go name) = IsGo words name
 IsCommand words (commands.Run name options) = IsRun words name options
+IsCommand words (commands.Mean name turns) = IsMean words name turns
 IsCommand words commands.Help = IsHelp words
 IsCommand words commands.Version = IsVersion words

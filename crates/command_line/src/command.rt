@@ -20,6 +20,8 @@ pub enum Command {
     Go { name: Name },
     /// To run this program from its files.
     Run { name: Name, options: RunOptions },
+    /// To show what this program means, within so many turns.
+    Mean { name: Name, turns: Option<u64> },
     /// To say what words there are.
     Help,
     /// To say which version this is.

@@ -1,9 +1,9 @@
 //! The command line, and the words that are read by it.
 
-ghost use Rattle.std.specs.Prelude.{◌≡◌, ℕ, List, [], false, None, Some, Ok, map, string_bytes, codes, IfOk, IfSome};
+ghost use Rattle.std.specs.Prelude.{◌≡◌, ℕ, List, [], Option, false, None, Some, Ok, map, string_bytes, codes, IfOk, IfSome};
 ghost use Rattle.clap.specs.Words.{app_of, rule_of, found_of, rows_of, FailsBy};
 ghost use Rattle.command_line.specs.Line.{word_rule, option_rule, bare, command_line, faults, said};
-ghost use Rattle.command_line.specs.Words.{IsGo, IsRun, IsHelp, IsVersion, IsSingle, IsCommand};
+ghost use Rattle.command_line.specs.Words.{IsGo, IsRun, IsMean, IsHelp, IsVersion, IsSingle, IsCommand};
 ghost use Rattle.command_line.specs.declared.command.RunOptions.{RunOptions};
 ghost use Rattle.command_line.specs.declared.command.Command.{Command};
 
@@ -47,7 +47,8 @@ fn command_line<'a>(alloc: Global) -> Result<clap::Command<'a>, AllocError>
         .arg(word(alloc, "name"))?
         .arg(option(alloc, "buffer"))?
         .arg(option(alloc, "limit"))?
-        .arg(option(alloc, "retry"))
+        .arg(option(alloc, "retry"))?
+        .arg(option(alloc, "turns"))
 }
 
 /// What was said, where the words fit.
@@ -93,6 +94,8 @@ pub fn command_of(alloc: Global, words: &[String]) -> Result<Option<Command>, Al
     ensures go { IfOk result (λ command. (name : List ℕ) → IsGo (map string_bytes words.now) name → command ≡ Some (Command.Go name)) }
     ensures run { IfOk result (λ command. (name : List ℕ) (options : RunOptions) → IsRun (map string_bytes words.now) name options
         → command ≡ Some (Command.Run name options)) }
+    ensures mean { IfOk result (λ command. (name : List ℕ) (turns : Option ℕ) → IsMean (map string_bytes words.now) name turns
+        → command ≡ Some (Command.Mean name turns)) }
     ensures help { IsHelp (map string_bytes words.now) → result ≡ Ok (Some Command.Help) }
     ensures version { IsVersion (map string_bytes words.now) → result ≡ Ok (Some Command.Version) }
 {

@@ -3,7 +3,7 @@
 ghost use Rattle.std.specs.Prelude.{◌≡◌, ◌↔◌, ℕ, true, List, Option, Some, None, IfSome, option_map};
 ghost use Rattle.std.specs.List.{list_all};
 ghost use Rattle.clap.specs.Words.{Row, first_of, found_of, rows_of};
-ghost use Rattle.command_line.specs.Words.{is_identifier_byte, IsNamed, IsNumber, IsNumberIn, IsNameIn, AreOptions, no_options, IsGoIn, IsRunIn, IsCommandIn};
+ghost use Rattle.command_line.specs.Words.{is_identifier_byte, IsNamed, IsNumber, IsNumberIn, IsNameIn, AreOptions, no_options, IsGoIn, IsRunIn, IsMeanIn, IsCommandIn};
 ghost use Rattle.command_line.specs.declared.command.RunOptions.{RunOptions};
 ghost use Rattle.command_line.specs.declared.command.Command.{Command};
 
@@ -16,6 +16,9 @@ const MOST_PARAGRAPHS: u64 = 40_960;
 
 /// The most instructions that a word may say.
 const MOST_INSTRUCTIONS: u64 = 1_000_000_000_000_000_000;
+
+/// The most turns that a word may say.
+const MOST_TURNS: u64 = 1_000_000_000_000_000_000;
 
 fn is_identifier_byte(byte: u8) -> bool
     ensures { result ≡ is_identifier_byte byte }
@@ -118,17 +121,22 @@ fn is_none(options: RunOptions) -> bool
     options.buffer.is_none() && options.limit.is_none() && options.retry.is_none()
 }
 
-/// What the line says.
+/// What the line says. Options that its command does not use have no effect, but each must be well said.
 pub fn command_in(matches: &ArgMatches<'_>) -> Option<Command>
     ensures found { IfSome result (IsCommandIn (rows_of (found_of matches.now))) }
     ensures go { (name : List ℕ) → IsGoIn (rows_of (found_of matches.now)) name → result ≡ Some (Command.Go name) }
+    ensures mean { (name : List ℕ) (turns : Option ℕ) → IsMeanIn (rows_of (found_of matches.now)) name turns → result ≡ Some (Command.Mean name turns) }
     ensures run { (name : List ℕ) (options : RunOptions) → IsRunIn (rows_of (found_of matches.now)) name options → result ≡ Some (Command.Run name options) }
 {
     let options = options_in(matches)?;
+    let turns = number_in(text(matches, "turns"), MOST_TURNS)?;
     let name = name_in(text(matches, "name"))?;
     let command = text(matches, "command")?;
     if command == "run" {
         return Some(Command::Run { name, options });
+    }
+    if command == "mean" {
+        return Some(Command::Mean { name, turns });
     }
     if command == "go" && is_none(options) {
         return Some(Command::Go { name });

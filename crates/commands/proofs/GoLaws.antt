@@ -13,14 +13,14 @@ use Rattle.literal_form.specs.Statement.{Statement, mean}
 use Rattle.dos_runner.specs.declared.runner.RunEnd.TheVariants as ends
 use Rattle.dos_runner.specs.Outside.{Outside}
 use Rattle.commands.specs.declared.names.FileKind.TheVariants.{Source}
-use Rattle.commands.specs.declared.outcome.At.{At}
-use Rattle.commands.specs.declared.outcome.Feature.TheVariants as feature
-use Rattle.commands.specs.declared.outcome.Refusal.{Refusal}
-use Rattle.commands.specs.declared.outcome.Refusal.TheVariants as refusal
-use Rattle.commands.specs.declared.outcome.Outcome.{Outcome}
-use Rattle.commands.specs.declared.outcome.Outcome.TheVariants as outcome
+use Rattle.source_gathering.specs.declared.error.At.{At}
+use Rattle.tp_lexer.specs.declared.token.Feature.{Feature}
+use Rattle.outcomes.specs.declared.refusal.Refusal.{Refusal}
+use Rattle.outcomes.specs.declared.refusal.Refusal.TheVariants as refusal
+use Rattle.outcomes.specs.declared.outcome.Outcome.{Outcome}
+use Rattle.outcomes.specs.declared.outcome.Outcome.TheVariants as outcome
 use Rattle.commands.specs.Files.{file_of}
-use Rattle.commands.specs.Line.{line_of}
+use Rattle.outcomes.specs.Line.{line_of}
 use Rattle.commands.specs.World.{World, Holds, Lacks, IsUntouched}
 use Rattle.commands.specs.Go.{Goes, Says, Ran, SaysNothing}
 use Rattle.commands.specs.Turbo.{IsAsked, Headline, IsWritten, Written, Complete, Faults, GoRefused, Refuses, Fronts, FilesAfter, TookErrors, EndsWithLine, WroteItsLine, Unchanged}
@@ -71,6 +71,9 @@ headline outcome.InputFault words old mid errors faults did = λ name statements
 headline outcome.OutputFault words old mid errors faults did = λ name statements asked run. stands_there ends.OutputFault words old mid name statements did asked
 headline outcome.ErrorsFault words old mid errors faults did = λ name statements asked run. absurd run
 headline outcome.FilesFault words old mid errors faults did = λ name statements asked run. absurd run
+headline outcome.TurnLimit words old mid errors faults did = absurd did
+headline (outcome.Undefined act) words old mid errors faults did = absurd did
+headline outcome.Stuck words old mid errors faults did = absurd did
 headline outcome.Done words old mid errors faults did = absurd did
 headline outcome.NoMemory words old mid errors faults did = λ name statements asked run. absurd run
 
@@ -96,6 +99,9 @@ written outcome.InputFault words old mid errors faults did line = λ name statem
 written outcome.OutputFault words old mid errors faults did line = λ name statements code asked is. absurd (subst IsProgram (sym is) tt)
 written outcome.ErrorsFault words old mid errors faults did line = λ name statements code asked is. absurd (subst IsProgram (sym is) tt)
 written outcome.FilesFault words old mid errors faults did line = λ name statements code asked is. absurd (subst IsProgram (sym is) tt)
+written outcome.TurnLimit words old mid errors faults did line = absurd did
+written (outcome.Undefined act) words old mid errors faults did line = absurd did
+written outcome.Stuck words old mid errors faults did line = absurd did
 written outcome.Done words old mid errors faults did line = absurd did
 written outcome.NoMemory words old mid errors faults did line = λ name statements code asked is. absurd (subst IsProgram (sym is) tt)
 
@@ -115,12 +121,15 @@ complete (outcome.Refused (refusal.MissingFile file)) words old mid errors fault
 complete (outcome.Refused (refusal.NotInProfile at feature)) words old mid errors faults did rise rises = λ name statements asked.
     let same = go_once words did.name name did.named asked.named in
     let P : List ℕ → Type 0 = λ n. SaysNothing old.folder (file_of n Source) in
-    absurd (nothing_not old.folder (file_of name Source) asked.text statements asked.held asked.source (subst P same did.reason.1))
+    absurd (nothing_not old.folder (file_of name Source) asked.text statements asked.held asked.source (subst P same did.reason.2))
 complete (outcome.Refused other) words old mid errors faults did rise rises = absurd did.reason
 complete outcome.InputFault words old mid errors faults did rise rises = λ name statements asked. inr did.run.run.rose
 complete outcome.OutputFault words old mid errors faults did rise rises = λ name statements asked. inr did.run.run.rose
 complete outcome.ErrorsFault words old mid errors faults did rise rises = λ name statements asked. inr (still_risen old.streams.errors_faults mid.streams.errors_faults faults did.run.run.rose rises)
 complete outcome.FilesFault words old mid errors faults did rise rises = λ name statements asked. inr did.0
+complete outcome.TurnLimit words old mid errors faults did rise rises = absurd did
+complete (outcome.Undefined act) words old mid errors faults did rise rises = absurd did
+complete outcome.Stuck words old mid errors faults did rise rises = absurd did
 complete outcome.Done words old mid errors faults did rise rises = absurd did
 complete outcome.NoMemory words old mid errors faults did rise rises = λ name statements asked. inr tt
 
@@ -129,6 +138,9 @@ fault outcome.InputFault words old mid errors faults did rises = did.run.run.ros
 fault outcome.OutputFault words old mid errors faults did rises = did.run.run.rose
 fault outcome.ErrorsFault words old mid errors faults did rises = still_risen old.streams.errors_faults mid.streams.errors_faults faults did.run.run.rose rises
 fault outcome.FilesFault words old mid errors faults did rises = did.0
+fault outcome.TurnLimit words old mid errors faults did rises = absurd did
+fault (outcome.Undefined act) words old mid errors faults did rises = absurd did
+fault outcome.Stuck words old mid errors faults did rises = absurd did
 fault outcome.Done words old mid errors faults did rises = absurd did
 fault outcome.NoMemory words old mid errors faults did rises = tt
 fault (outcome.Program exit) words old mid errors faults did rises = tt
@@ -144,7 +156,7 @@ refused (refusal.MissingFile file) words old mid did = λ name named.
 refused (refusal.NotInProfile at feature) words old mid did = λ name named.
     let same = go_once words did.name name did.named named in
     let P : List ℕ → Type 0 = λ n. SaysNothing old.folder (file_of n Source) in
-    (did.reason.0 ∙ ap front_of same, λ text statements held source. nothing_not old.folder (file_of name Source) text statements held source (subst P same did.reason.1))
+    (did.reason.0 ∙ ap front_of same, did.reason.1, λ text statements held source. nothing_not old.folder (file_of name Source) text statements held source (subst P same did.reason.2))
 refused other words old mid did = absurd did.reason
 
 pub all_taken : (old new : Option (List ℕ)) (out : List ℕ) → new ≡ append_known old out → TakesPrefix old new out
@@ -185,6 +197,9 @@ took outcome.InputFault words old mid did name statements asked = let f = conclu
 took outcome.OutputFault words old mid did name statements asked = let f = concluded ends.OutputFault words old mid did in asked_fronts ends.OutputFault words old mid name statements did asked (record { output = f.output; errors = f.errors })
 took outcome.ErrorsFault words old mid did name statements asked = let f = concluded ends.ErrorsFault words old mid did in asked_fronts ends.ErrorsFault words old mid name statements did asked (record { output = f.output; errors = f.errors })
 took outcome.FilesFault words old mid did name statements asked = untouched_fronts statements old mid did.1
+took outcome.TurnLimit words old mid did name statements asked = absurd did
+took (outcome.Undefined act) words old mid did name statements asked = absurd did
+took outcome.Stuck words old mid did name statements asked = absurd did
 took outcome.Done words old mid did name statements asked = absurd did
 took outcome.NoMemory words old mid did name statements asked = untouched_fronts statements old mid did
 
@@ -203,6 +218,9 @@ ends_with_line outcome.InputFault words old mid errors faults did line = (mid.st
 ends_with_line outcome.OutputFault words old mid errors faults did line = (mid.streams.errors, line, took_errors outcome.OutputFault words old mid did)
 ends_with_line outcome.ErrorsFault words old mid errors faults did line = tt
 ends_with_line outcome.FilesFault words old mid errors faults did line = (mid.streams.errors, line, took_errors outcome.FilesFault words old mid did)
+ends_with_line outcome.TurnLimit words old mid errors faults did line = absurd did
+ends_with_line (outcome.Undefined act) words old mid errors faults did line = absurd did
+ends_with_line outcome.Stuck words old mid errors faults did line = absurd did
 ends_with_line outcome.Done words old mid errors faults did line = absurd did
 ends_with_line outcome.NoMemory words old mid errors faults did line = (mid.streams.errors, line, took_errors outcome.NoMemory words old mid did)
 
@@ -224,6 +242,9 @@ unchanged outcome.InputFault words old mid errors faults did line = tt
 unchanged outcome.OutputFault words old mid errors faults did line = tt
 unchanged outcome.ErrorsFault words old mid errors faults did line = tt
 unchanged outcome.FilesFault words old mid errors faults did line = λ name asked. wrote_its_line outcome.FilesFault old mid errors faults did.1 line
+unchanged outcome.TurnLimit words old mid errors faults did line = absurd did
+unchanged (outcome.Undefined act) words old mid errors faults did line = absurd did
+unchanged outcome.Stuck words old mid errors faults did line = absurd did
 unchanged outcome.Done words old mid errors faults did line = absurd did
 unchanged outcome.NoMemory words old mid errors faults did line = wrote_its_line outcome.NoMemory old mid errors faults did line
 
@@ -241,6 +262,9 @@ files_after outcome.InputFault words old mid errors faults did = leaves ends.Inp
 files_after outcome.OutputFault words old mid errors faults did = leaves ends.OutputFault words old mid errors faults did
 files_after outcome.ErrorsFault words old mid errors faults did = leaves ends.ErrorsFault words old mid errors faults did
 files_after outcome.FilesFault words old mid errors faults did = inl did.1.folder
+files_after outcome.TurnLimit words old mid errors faults did = absurd did
+files_after (outcome.Undefined act) words old mid errors faults did = absurd did
+files_after outcome.Stuck words old mid errors faults did = absurd did
 files_after outcome.Done words old mid errors faults did = absurd did
 files_after outcome.NoMemory words old mid errors faults did = inl did.folder
 
@@ -281,6 +305,9 @@ causes outcome.InputFault words old mid errors faults did = ran_causes ends.Inpu
 causes outcome.OutputFault words old mid errors faults did = ran_causes ends.OutputFault outcome.OutputFault words old mid (told mid errors faults) did
 causes outcome.ErrorsFault words old mid errors faults did = ran_causes ends.ErrorsFault outcome.ErrorsFault words old mid (told mid errors faults) did
 causes outcome.FilesFault words old mid errors faults did = record { usage = λ none. inr did.0; missing = λ name named lacks. inr did.0; outside = λ name text named held none. inr did.0; absent = λ name options asked lacks. inr did.0; unopened = λ name options error asked has why. inr did.0 }
+causes outcome.TurnLimit words old mid errors faults did = absurd did
+causes (outcome.Undefined act) words old mid errors faults did = absurd did
+causes outcome.Stuck words old mid errors faults did = absurd did
 causes outcome.Done words old mid errors faults did = absurd did
 causes outcome.NoMemory words old mid errors faults did = record { usage = λ none. inr tt; missing = λ name named lacks. inr tt; outside = λ name text named held none. inr tt; absent = λ name options asked lacks. inr tt; unopened = λ name options error asked has why. inr tt }
 causes (outcome.Refused (refusal.MissingFile file)) words old mid errors faults did = record {
@@ -292,12 +319,13 @@ causes (outcome.Refused (refusal.MissingFile file)) words old mid errors faults 
   absent = λ name options asked lacks. absurd (not_both words did.name name options did.named asked);
   unopened = λ name options error asked has why. absurd (not_both words did.name name options did.named asked);
 }
-causes (outcome.Refused (refusal.NotInProfile at feature.NotYet)) words old mid errors faults did = record {
+causes (outcome.Refused (refusal.NotInProfile at f)) words old mid errors faults did = record {
   usage = λ none. absurd (none.go did.name did.named);
   missing = λ name named lacks.
       let P : List ℕ → Type 0 = λ n. SaysNothing old.folder (file_of n Source) in
-      absurd (says_nothing_lacks old.folder (file_of name Source) (subst P (go_once words did.name name did.named named) did.reason.1) lacks);
-  outside = λ name text named held none. inl (ap (λ a. outcome.Refused (refusal.NotInProfile a feature.NotYet)) (did.reason.0 ∙ ap front_of (go_once words did.name name did.named named)));
+      absurd (says_nothing_lacks old.folder (file_of name Source) (subst P (go_once words did.name name did.named named) did.reason.2) lacks);
+  outside = λ name text named held none. inl (ap (λ a. outcome.Refused (refusal.NotInProfile a f)) (did.reason.0 ∙ ap front_of (go_once words did.name name did.named named))
+      ∙ ap (λ (g : Feature). outcome.Refused (refusal.NotInProfile (front_of name) g)) did.reason.1);
   absent = λ name options asked lacks. absurd (not_both words did.name name options did.named asked);
   unopened = λ name options error asked has why. absurd (not_both words did.name name options did.named asked);
 }

@@ -1,8 +1,8 @@
-pub mod Joined
 pub mod FileLaws
 pub mod WordLaws
 pub mod RanLaws
 pub mod GoLaws
 pub mod RunLaws
 pub mod TextLaws
+pub mod MeanLaws
 pub mod TurboLaws

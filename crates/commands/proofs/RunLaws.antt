@@ -11,14 +11,14 @@ use Rattle.opened_program.specs.Opening.{HasReason, IsRefused}
 use Rattle.opened_program.proofs.ReasonLaws.{one_reason, no_reason}
 use Rattle.overlay_runner.specs.Event.{Rises}
 use Rattle.commands.specs.declared.names.FileKind.TheVariants.{Executable, Overlays}
-use Rattle.commands.specs.declared.outcome.Refusal.{Refusal}
-use Rattle.commands.specs.declared.outcome.Refusal.TheVariants as refusal
-use Rattle.commands.specs.declared.outcome.Outcome.{Outcome}
-use Rattle.commands.specs.declared.outcome.Outcome.TheVariants as outcome
+use Rattle.outcomes.specs.declared.refusal.Refusal.{Refusal}
+use Rattle.outcomes.specs.declared.refusal.Refusal.TheVariants as refusal
+use Rattle.outcomes.specs.declared.outcome.Outcome.{Outcome}
+use Rattle.outcomes.specs.declared.outcome.Outcome.TheVariants as outcome
 use Rattle.command_line.specs.declared.command.RunOptions.{RunOptions}
 use Rattle.commands.specs.Ending.{outcome_of}
 use Rattle.commands.specs.Files.{file_of}
-use Rattle.commands.specs.Line.{line_of}
+use Rattle.outcomes.specs.Line.{line_of}
 use Rattle.commands.specs.Performs.{DidRun}
 use Rattle.commands.specs.Run.{refused_as, HasNoStart, IsUnopened, IsOfRun, IsNotRun, RunsFrom, GaveUp, RunDid}
 use Rattle.commands.specs.Turbo.{IsFaultOrNoMemory, Faults, RunRefused, Refuses, Unchanged, AfterLine, RunsFiles, RanFiles}
@@ -190,20 +190,20 @@ no-start held outcome.NoMemory name buffer files files' reason = tt
 no-start held other name buffer files files' reason = absurd reason
 
 gave-up-told : (folder : Option Folder) (inner result : Outcome) (name : List ℕ) (options : RunOptions) (old mid : World) (errors : Option (List ℕ)) (faults : ℕ) → AfterLine result inner mid.streams.errors errors
-    → IsNotRun inner name options.buffer folder old.files_faults mid.files_faults → IfSome folder (λ held. RunsFiles held result name options old (told mid errors faults))
-gave-up-told None inner result name options old mid errors faults line reason = tt
-gave-up-told (Some held) inner result name options old mid errors faults line reason = record {
+    → mid.streams ≡ old.streams → IsNotRun inner name options.buffer folder old.files_faults mid.files_faults → IfSome folder (λ held. RunsFiles held result name options old (told mid errors faults))
+gave-up-told None inner result name options old mid errors faults line untouched reason = tt
+gave-up-told (Some held) inner result name options old mid errors faults line untouched reason = record {
   inner = inner;
   before = mid.streams.errors;
   before_faults = mid.streams.errors_faults;
-  did = inl (no-start held inner name options.buffer old.files_faults mid.files_faults reason);
+  did = inl (no-start held inner name options.buffer old.files_faults mid.files_faults reason, untouched);
   line = line;
 }
 
-pub ran_out : (folder : Option Folder) (inner result : Outcome) (name : List ℕ) (options : RunOptions) (old mid : World) (errors : Option (List ℕ)) (faults : ℕ) → inner ≡ outcome.NoMemory → AfterLine result inner mid.streams.errors errors
+pub ran_out : (folder : Option Folder) (inner result : Outcome) (name : List ℕ) (options : RunOptions) (old mid : World) (errors : Option (List ℕ)) (faults : ℕ) → inner ≡ outcome.NoMemory → mid.streams ≡ old.streams → AfterLine result inner mid.streams.errors errors
     → IfSome folder (λ held. RunsFiles held result name options old (told mid errors faults))
-ran_out folder inner result name options old mid errors faults is line =
-    gave-up-told folder inner result name options old mid errors faults line
+ran_out folder inner result name options old mid errors faults is untouched line =
+    gave-up-told folder inner result name options old mid errors faults line untouched
     (subst (λ (o : Outcome). IsNotRun o name options.buffer folder old.files_faults mid.files_faults) (sym is) tt)
 
 ran-told : (folder : Option Folder) (inner result : Outcome) (end : RunEnd) (name : List ℕ) (options : RunOptions) (old mid : World) (errors : Option (List ℕ)) (faults : ℕ) → AfterLine result inner mid.streams.errors errors → inner ≡ outcome_of end
@@ -221,5 +221,5 @@ pub ran : (inner result : Outcome) (words : List (List ℕ)) (old mid : World) (
 ran inner result words old mid errors faults did line = λ name options asked. by name options (did.did name options asked)
   where
     by : (name : List ℕ) (options : RunOptions) → RunDid inner name options old mid → IfSome old.folder (λ held. RunsFiles held result name options old (told mid errors faults))
-    by name options (inl gave) = gave-up-told old.folder inner result name options old mid errors faults line gave.reason
+    by name options (inl gave) = gave-up-told old.folder inner result name options old mid errors faults line gave.untouched.streams gave.reason
     by name options (inr went) = ran-told old.folder inner result went.0 name options old mid errors faults line went.1 went.2.run

@@ -7,9 +7,9 @@ use Rattle.tp_outside.proofs.Known.{append_known-nil}
 use Rattle.command_line.specs.declared.command.RunOptions.{RunOptions}
 use Rattle.command_line.specs.Words.{IsGo, IsRun, IsHelp, IsVersion}
 use Rattle.command_line.proofs.LineLaws.{help_not, version_not}
-use Rattle.commands.specs.declared.outcome.Outcome.{Outcome}
-use Rattle.commands.specs.declared.outcome.Outcome.TheVariants as outcome
-use Rattle.commands.specs.Line.{line_of}
+use Rattle.outcomes.specs.declared.outcome.Outcome.{Outcome}
+use Rattle.outcomes.specs.declared.outcome.Outcome.TheVariants as outcome
+use Rattle.outcomes.specs.Line.{line_of}
 use Rattle.commands.specs.Performs.{Shown, DidShow}
 use Rattle.commands.specs.Texts.{IsTextOf}
 use Rattle.commands.specs.Turbo.{IsFault, Faults, Unchanged, Told}

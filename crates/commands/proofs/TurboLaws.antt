@@ -3,64 +3,88 @@ use Rattle.std.proofs.Common.{◌≡◌, inl, inr, ℕ, ◌≤◌, List, Option,
 use Rattle.std.specs.Io.KnownBytes.{append_known}
 use Rattle.tp_outside.specs.Faults.{HasRisen}
 use Rattle.tp_outside.specs.Streams.{TakesPrefix}
-use Rattle.commands.specs.declared.outcome.Refusal.{Refusal}
-use Rattle.commands.specs.declared.outcome.Refusal.TheVariants as refusal
-use Rattle.commands.specs.declared.outcome.Outcome.{Outcome}
-use Rattle.commands.specs.declared.outcome.Outcome.TheVariants as outcome
-use Rattle.commands.specs.Line.{line_of}
+use Rattle.outcomes.specs.declared.refusal.Refusal.{Refusal}
+use Rattle.outcomes.specs.declared.refusal.Refusal.TheVariants as refusal
+use Rattle.outcomes.specs.declared.outcome.Outcome.{Outcome}
+use Rattle.outcomes.specs.declared.outcome.Outcome.TheVariants as outcome
+use Rattle.outcomes.specs.Line.{line_of}
 use Rattle.commands.specs.Performs.{Performs}
-use Rattle.commands.specs.Turbo.{Headline, Written, Complete, Faults, GoRefused, RunRefused, Refused, Refuses, Fronts, FilesAfter, TookErrors, EndsWithLine, Unchanged, AfterLine, RanFiles, Tells}
+use Rattle.commands.specs.Turbo.{Headline, Written, Complete, Faults, GoRefused, RunRefused, Refused, Refuses, Fronts, FilesAfter, TookErrors, EndsWithLine, Unchanged, AfterLine, RanFiles, MeanRefused, MeantFiles, Tells}
 use Rattle.commands.specs.World.{World}
 use Rattle.commands.proofs.GoLaws.{told, wrote_its_line}
 use Rattle.commands.proofs.GoLaws as go
 use Rattle.commands.proofs.RunLaws as run
+use Rattle.commands.proofs.MeanLaws as mean
+use Rattle.commands.proofs.MeanLaws.{not_mean}
 use Rattle.commands.proofs.TextLaws as text
 use Rattle.commands.proofs.TextLaws.{not_go, not_run}
-use Rattle.commands.proofs.WordLaws.{not_both}
+use Rattle.commands.proofs.WordLaws.{not_both, not_go_and_mean, not_run_and_mean}
 
 pub headline : (result : Outcome) (words : List (List ℕ)) (old mid : World) (errors : Option (List ℕ)) (faults : ℕ) → Performs result words old mid → Headline words old (told mid errors faults) result
 headline result words old mid errors faults (inl misused) = λ name statements asked has. absurd (misused.none.go name asked.named)
 headline result words old mid errors faults (inr (inl went)) = go.headline result words old mid errors faults went.goes
 headline result words old mid errors faults (inr (inr (inl ran))) = λ name statements asked has. absurd (not_both words name ran.name ran.options asked.named ran.asked)
 headline result words old mid errors faults (inr (inr (inr (inl out)))) = subst (λ (o : Outcome). Headline words old (told mid errors faults) o) (sym out.is) (go.headline outcome.NoMemory words old mid errors faults out.untouched)
-headline result words old mid errors faults (inr (inr (inr (inr shown)))) = λ name statements asked has. absurd (not_go words shown.text name shown.asked asked.named)
+headline result words old mid errors faults (inr (inr (inr (inr (inl shown))))) = λ name statements asked has. absurd (not_go words shown.text name shown.asked asked.named)
+headline result words old mid errors faults (inr (inr (inr (inr (inr meant))))) = λ name statements asked has. absurd (not_go_and_mean words name meant.name meant.turns asked.named meant.asked)
 
 pub written : (result : Outcome) (words : List (List ℕ)) (old mid : World) (errors : Option (List ℕ)) (faults : ℕ) → Performs result words old mid → errors ≡ append_known mid.streams.errors (line_of result) → Written words old (told mid errors faults) result
 written result words old mid errors faults (inl misused) line = λ name statements code asked is. absurd (misused.none.go name asked.named)
 written result words old mid errors faults (inr (inl went)) line = go.written result words old mid errors faults went.goes line
 written result words old mid errors faults (inr (inr (inl ran))) line = λ name statements code asked is. absurd (not_both words name ran.name ran.options asked.named ran.asked)
 written result words old mid errors faults (inr (inr (inr (inl out)))) line = subst (λ (o : Outcome). Written words old (told mid errors faults) o) (sym out.is) (go.written outcome.NoMemory words old mid errors faults out.untouched (line ∙ ap (λ (o : Outcome). append_known mid.streams.errors (line_of o)) out.is))
-written result words old mid errors faults (inr (inr (inr (inr shown)))) line = λ name statements code asked is. absurd (not_go words shown.text name shown.asked asked.named)
+written result words old mid errors faults (inr (inr (inr (inr (inl shown))))) line = λ name statements code asked is. absurd (not_go words shown.text name shown.asked asked.named)
+written result words old mid errors faults (inr (inr (inr (inr (inr meant))))) line = λ name statements code asked is. absurd (not_go_and_mean words name meant.name meant.turns asked.named meant.asked)
 
 pub complete : (result : Outcome) (words : List (List ℕ)) (old mid : World) (errors : Option (List ℕ)) (faults : ℕ) → Performs result words old mid → old.streams.errors_faults ≤ mid.streams.errors_faults → mid.streams.errors_faults ≤ faults → Complete words old (told mid errors faults) result
 complete result words old mid errors faults (inl misused) rise rises = λ name statements asked. absurd (misused.none.go name asked.named)
 complete result words old mid errors faults (inr (inl went)) rise rises = go.complete result words old mid errors faults went.goes rise rises
 complete result words old mid errors faults (inr (inr (inl ran))) rise rises = λ name statements asked. absurd (not_both words name ran.name ran.options asked.named ran.asked)
 complete result words old mid errors faults (inr (inr (inr (inl out)))) rise rises = subst (λ (o : Outcome). Complete words old (told mid errors faults) o) (sym out.is) (go.complete outcome.NoMemory words old mid errors faults out.untouched rise rises)
-complete result words old mid errors faults (inr (inr (inr (inr shown)))) rise rises = λ name statements asked. absurd (not_go words shown.text name shown.asked asked.named)
+complete result words old mid errors faults (inr (inr (inr (inr (inl shown))))) rise rises = λ name statements asked. absurd (not_go words shown.text name shown.asked asked.named)
+complete result words old mid errors faults (inr (inr (inr (inr (inr meant))))) rise rises = λ name statements asked. absurd (not_go_and_mean words name meant.name meant.turns asked.named meant.asked)
 
 pub fault : (result : Outcome) (words : List (List ℕ)) (old mid : World) (errors : Option (List ℕ)) (faults : ℕ) → Performs result words old mid → mid.streams.errors_faults ≤ faults → Faults old (told mid errors faults) result
 fault result words old mid errors faults (inl misused) rises = subst (λ (o : Outcome). Faults old (told mid errors faults) o) (sym misused.is) tt
 fault result words old mid errors faults (inr (inl went)) rises = go.fault result words old mid errors faults went.goes rises
 fault result words old mid errors faults (inr (inr (inl ran))) rises = run.fault result ran.name ran.options old mid errors faults (ran.did ran.name ran.options ran.asked) rises
 fault result words old mid errors faults (inr (inr (inr (inl out)))) rises = subst (λ (o : Outcome). Faults old (told mid errors faults) o) (sym out.is) tt
-fault result words old mid errors faults (inr (inr (inr (inr shown)))) rises = text.fault result shown.text old mid errors faults shown.shown
+fault result words old mid errors faults (inr (inr (inr (inr (inl shown))))) rises = text.fault result shown.text old mid errors faults shown.shown
+fault result words old mid errors faults (inr (inr (inr (inr (inr meant))))) rises = mean.fault result meant.name meant.turns old mid errors faults (meant.did meant.name meant.turns meant.asked) rises
 
 refuses-so : (r : Refusal) (words : List (List ℕ)) (old mid : World) → Performs (outcome.Refused r) words old mid → Refused words old (outcome.Refused r)
-refuses-so r words old mid (inl misused) = subst (λ (o : Outcome). Refused words old o) (sym misused.is) (misused.none.go, misused.none.run, misused.none.text)
-refuses-so r words old mid (inr (inl went)) = (go.refused r words old mid went.goes, other r, λ text asked. not_go words text went.name asked went.asked)
+refuses-so r words old mid (inl misused) = subst (λ (o : Outcome). Refused words old o) (sym misused.is) (misused.none.go, misused.none.run, misused.none.mean, misused.none.text)
+refuses-so r words old mid (inr (inl went)) = (go.refused r words old mid went.goes, other r, mean_other r, λ text asked. not_go words text went.name asked went.asked)
   where
+    mean_other : (r : Refusal) → MeanRefused words old r
+    mean_other refusal.Usage = λ name turns asked. not_go_and_mean words went.name name turns went.asked asked
+    mean_other r = λ name turns asked. absurd (not_go_and_mean words went.name name turns went.asked asked)
+
     other : (r : Refusal) → RunRefused words old r
     other refusal.Usage = λ name options asked. not_both words went.name name options went.asked asked
     other r = λ name options asked. absurd (not_both words went.name name options went.asked asked)
-refuses-so r words old mid (inr (inr (inl ran))) = (other r, run.refused r words old mid ran, λ text asked. not_run words text ran.name ran.options asked ran.asked)
+refuses-so r words old mid (inr (inr (inl ran))) = (other r, run.refused r words old mid ran, mean_other r, λ text asked. not_run words text ran.name ran.options asked ran.asked)
   where
+    mean_other : (r : Refusal) → MeanRefused words old r
+    mean_other refusal.Usage = λ name turns asked. not_run_and_mean words ran.name name ran.options turns ran.asked asked
+    mean_other r = λ name turns asked. absurd (not_run_and_mean words ran.name name ran.options turns ran.asked asked)
+
     other : (r : Refusal) → GoRefused words old r
     other (refusal.MissingFile file) = λ name asked. absurd (not_both words name ran.name ran.options asked ran.asked)
     other (refusal.NotInProfile at feature) = λ name asked. absurd (not_both words name ran.name ran.options asked ran.asked)
     other r = λ name asked. not_both words name ran.name ran.options asked ran.asked
 refuses-so r words old mid (inr (inr (inr (inl out)))) = absurd (let is = out.is in cc)
-refuses-so r words old mid (inr (inr (inr (inr shown)))) = absurd shown.shown
+refuses-so r words old mid (inr (inr (inr (inr (inl shown))))) = absurd shown.shown
+refuses-so r words old mid (inr (inr (inr (inr (inr meant))))) = (go_other r, run_other r, mean.refused r words old mid meant, λ text asked. not_mean words text meant.name meant.turns asked meant.asked)
+  where
+    go_other : (r : Refusal) → GoRefused words old r
+    go_other (refusal.MissingFile file) = λ name asked. absurd (not_go_and_mean words name meant.name meant.turns asked meant.asked)
+    go_other (refusal.NotInProfile at feature) = λ name asked. absurd (not_go_and_mean words name meant.name meant.turns asked meant.asked)
+    go_other r = λ name asked. not_go_and_mean words name meant.name meant.turns asked meant.asked
+
+    run_other : (r : Refusal) → RunRefused words old r
+    run_other refusal.Usage = λ name options asked. not_run_and_mean words name meant.name options meant.turns asked meant.asked
+    run_other r = λ name options asked. absurd (not_run_and_mean words name meant.name options meant.turns asked meant.asked)
 
 pub refused : (result : Outcome) (words : List (List ℕ)) (old mid : World) → Performs result words old mid → Refused words old result
 refused (outcome.Refused r) words old mid did = refuses-so r words old mid did
@@ -73,20 +97,25 @@ refused outcome.Done words old mid did = tt
 refused (outcome.Program exit) words old mid did = tt
 refused (outcome.InstructionLimit taken) words old mid did = tt
 refused (outcome.Stopped cs ip why) words old mid did = tt
+refused outcome.TurnLimit words old mid did = tt
+refused (outcome.Undefined act) words old mid did = tt
+refused outcome.Stuck words old mid did = tt
 
 pub fronts : (result : Outcome) (words : List (List ℕ)) (old mid : World) (errors : Option (List ℕ)) (faults : ℕ) → Performs result words old mid → Fronts words old (told mid errors faults)
 fronts result words old mid errors faults (inl misused) = λ name statements asked. absurd (misused.none.go name asked.named)
 fronts result words old mid errors faults (inr (inl went)) = go.fronts result words old mid errors faults went.goes
 fronts result words old mid errors faults (inr (inr (inl ran))) = λ name statements asked. absurd (not_both words name ran.name ran.options asked.named ran.asked)
 fronts result words old mid errors faults (inr (inr (inr (inl out)))) = go.fronts outcome.NoMemory words old mid errors faults out.untouched
-fronts result words old mid errors faults (inr (inr (inr (inr shown)))) = λ name statements asked. absurd (not_go words shown.text name shown.asked asked.named)
+fronts result words old mid errors faults (inr (inr (inr (inr (inl shown))))) = λ name statements asked. absurd (not_go words shown.text name shown.asked asked.named)
+fronts result words old mid errors faults (inr (inr (inr (inr (inr meant))))) = λ name statements asked. absurd (not_go_and_mean words name meant.name meant.turns asked.named meant.asked)
 
 took_errors : (result : Outcome) (words : List (List ℕ)) (old mid : World) → Performs result words old mid → TookErrors words old mid.streams.errors
 took_errors result words old mid (inl misused) = λ name statements asked. absurd (misused.none.go name asked.named)
 took_errors result words old mid (inr (inl went)) = go.took_errors result words old mid went.goes
 took_errors result words old mid (inr (inr (inl ran))) = λ name statements asked. absurd (not_both words name ran.name ran.options asked.named ran.asked)
 took_errors result words old mid (inr (inr (inr (inl out)))) = go.took_errors outcome.NoMemory words old mid out.untouched
-took_errors result words old mid (inr (inr (inr (inr shown)))) = λ name statements asked. absurd (not_go words shown.text name shown.asked asked.named)
+took_errors result words old mid (inr (inr (inr (inr (inl shown))))) = λ name statements asked. absurd (not_go words shown.text name shown.asked asked.named)
+took_errors result words old mid (inr (inr (inr (inr (inr meant))))) = λ name statements asked. absurd (not_go_and_mean words name meant.name meant.turns asked.named meant.asked)
 
 pub ends_with_line : (result : Outcome) (words : List (List ℕ)) (old mid : World) (errors : Option (List ℕ)) (faults : ℕ) → Performs result words old mid → errors ≡ append_known mid.streams.errors (line_of result) → EndsWithLine words old (told mid errors faults) result
 ends_with_line (outcome.Program code) words old mid errors faults did line = (mid.streams.errors, line, took_errors (outcome.Program code) words old mid did)
@@ -94,6 +123,9 @@ ends_with_line outcome.Done words old mid errors faults did line = (mid.streams.
 ends_with_line (outcome.InstructionLimit taken) words old mid errors faults did line = (mid.streams.errors, line, took_errors (outcome.InstructionLimit taken) words old mid did)
 ends_with_line (outcome.Stopped cs ip why) words old mid errors faults did line = (mid.streams.errors, line, took_errors (outcome.Stopped cs ip why) words old mid did)
 ends_with_line (outcome.Refused r) words old mid errors faults did line = (mid.streams.errors, line, took_errors (outcome.Refused r) words old mid did)
+ends_with_line outcome.TurnLimit words old mid errors faults did line = (mid.streams.errors, line, took_errors outcome.TurnLimit words old mid did)
+ends_with_line (outcome.Undefined act) words old mid errors faults did line = (mid.streams.errors, line, took_errors (outcome.Undefined act) words old mid did)
+ends_with_line outcome.Stuck words old mid errors faults did line = (mid.streams.errors, line, took_errors outcome.Stuck words old mid did)
 ends_with_line outcome.InputFault words old mid errors faults did line = (mid.streams.errors, line, took_errors outcome.InputFault words old mid did)
 ends_with_line outcome.OutputFault words old mid errors faults did line = (mid.streams.errors, line, took_errors outcome.OutputFault words old mid did)
 ends_with_line outcome.ErrorsFault words old mid errors faults did line = tt
@@ -108,14 +140,16 @@ unchanged result words old mid errors faults (inl misused) line =
 unchanged result words old mid errors faults (inr (inl went)) line = go.unchanged result words old mid errors faults went.goes line
 unchanged result words old mid errors faults (inr (inr (inl ran))) line = run.unchanged result words old mid errors faults ran line
 unchanged result words old mid errors faults (inr (inr (inr (inl out)))) line = subst (λ (o : Outcome). Unchanged words old (told mid errors faults) o) (sym out.is) (go.unchanged outcome.NoMemory words old mid errors faults out.untouched (line ∙ ap (λ (o : Outcome). append_known mid.streams.errors (line_of o)) out.is))
-unchanged result words old mid errors faults (inr (inr (inr (inr shown)))) line = text.unchanged result words shown.text old mid errors faults shown.shown
+unchanged result words old mid errors faults (inr (inr (inr (inr (inl shown))))) line = text.unchanged result words shown.text old mid errors faults shown.shown
+unchanged result words old mid errors faults (inr (inr (inr (inr (inr meant))))) line = mean.unchanged result words old mid errors faults meant line
 
 pub files_after : (result : Outcome) (words : List (List ℕ)) (old mid : World) (errors : Option (List ℕ)) (faults : ℕ) → Performs result words old mid → FilesAfter words old (told mid errors faults)
 files_after result words old mid errors faults (inl misused) = inl misused.untouched.folder
 files_after result words old mid errors faults (inr (inl went)) = go.files_after result words old mid errors faults went.goes
 files_after result words old mid errors faults (inr (inr (inl ran))) = inl (run.folder_kept result words old mid ran)
 files_after result words old mid errors faults (inr (inr (inr (inl out)))) = inl out.untouched.folder
-files_after result words old mid errors faults (inr (inr (inr (inr shown)))) = inl shown.folder
+files_after result words old mid errors faults (inr (inr (inr (inr (inl shown))))) = inl shown.folder
+files_after result words old mid errors faults (inr (inr (inr (inr (inr meant))))) = inl (mean.folder_kept result words old mid meant)
 
 pub causes : (result : Outcome) (words : List (List ℕ)) (old mid : World) (errors : Option (List ℕ)) (faults : ℕ) → Performs result words old mid → Refuses words old (told mid errors faults) result
 causes result words old mid errors faults (inl misused) = record {
@@ -128,12 +162,19 @@ causes result words old mid errors faults (inl misused) = record {
 causes result words old mid errors faults (inr (inl went)) = go.causes result words old mid errors faults went.goes
 causes result words old mid errors faults (inr (inr (inl ran))) = run.causes result words old mid errors faults ran
 causes result words old mid errors faults (inr (inr (inr (inl out)))) = subst (λ (o : Outcome). Refuses words old (told mid errors faults) o) (sym out.is) (go.causes outcome.NoMemory words old mid errors faults out.untouched)
-causes result words old mid errors faults (inr (inr (inr (inr shown)))) = record {
+causes result words old mid errors faults (inr (inr (inr (inr (inl shown))))) = record {
   usage = λ none. absurd (none.text shown.text shown.asked);
   missing = λ name asked lacks. absurd (not_go words shown.text name shown.asked asked);
   outside = λ name text asked held none. absurd (not_go words shown.text name shown.asked asked);
   absent = λ name options asked lacks. absurd (not_run words shown.text name options shown.asked asked);
   unopened = λ name options error asked has why. absurd (not_run words shown.text name options shown.asked asked);
+}
+causes result words old mid errors faults (inr (inr (inr (inr (inr meant))))) = record {
+  usage = λ none. absurd (none.mean meant.name meant.turns meant.asked);
+  missing = λ name asked lacks. absurd (not_go_and_mean words name meant.name meant.turns asked meant.asked);
+  outside = λ name text asked held none. absurd (not_go_and_mean words name meant.name meant.turns asked meant.asked);
+  absent = λ name options asked lacks. absurd (not_run_and_mean words name meant.name options meant.turns asked meant.asked);
+  unopened = λ name options error asked has why. absurd (not_run_and_mean words name meant.name options meant.turns asked meant.asked);
 }
 
 -- what was run, with the line after it or a front of the line
@@ -141,14 +182,30 @@ ran-files : (inner result : Outcome) (words : List (List ℕ)) (old mid : World)
 ran-files inner result words old mid errors faults (inl misused) line = λ name options asked. absurd (misused.none.run name options asked)
 ran-files inner result words old mid errors faults (inr (inl went)) line = λ name options asked. absurd (not_both words went.name name options went.asked asked)
 ran-files inner result words old mid errors faults (inr (inr (inl ran))) line = run.ran inner result words old mid errors faults ran line
-ran-files inner result words old mid errors faults (inr (inr (inr (inl out)))) line = λ name options asked. run.ran_out old.folder inner result name options old mid errors faults out.is line
-ran-files inner result words old mid errors faults (inr (inr (inr (inr shown)))) line = λ name options asked. absurd (not_run words shown.text name options shown.asked asked)
+ran-files inner result words old mid errors faults (inr (inr (inr (inl out)))) line = λ name options asked. run.ran_out old.folder inner result name options old mid errors faults out.is out.untouched.streams line
+ran-files inner result words old mid errors faults (inr (inr (inr (inr (inl shown))))) line = λ name options asked. absurd (not_run words shown.text name options shown.asked asked)
+ran-files inner result words old mid errors faults (inr (inr (inr (inr (inr meant))))) line = λ name options asked. absurd (not_run_and_mean words name meant.name options meant.turns asked meant.asked)
 
 pub ran_with_line : (result : Outcome) (words : List (List ℕ)) (old mid : World) (errors : Option (List ℕ)) (faults : ℕ) → Performs result words old mid → errors ≡ append_known mid.streams.errors (line_of result) → RanFiles words old (told mid errors faults) result
 ran_with_line result words old mid errors faults did line = ran-files result result words old mid errors faults did (inl (refl, line))
 
 pub ran_without_line : (inner : Outcome) (words : List (List ℕ)) (old mid : World) (errors : Option (List ℕ)) (faults : ℕ) → Performs inner words old mid → TakesPrefix mid.streams.errors errors (line_of inner) → RanFiles words old (told mid errors faults) outcome.ErrorsFault
 ran_without_line inner words old mid errors faults did front = ran-files inner outcome.ErrorsFault words old mid errors faults did (inr (refl, front))
+
+-- what was shown of a meaning, with the line after it or a front of the line
+means-files : (inner result : Outcome) (words : List (List ℕ)) (old mid : World) (errors : Option (List ℕ)) (faults : ℕ) → Performs inner words old mid → AfterLine result inner mid.streams.errors errors → MeantFiles words old (told mid errors faults) result
+means-files inner result words old mid errors faults (inl misused) line = λ name turns asked. absurd (misused.none.mean name turns asked)
+means-files inner result words old mid errors faults (inr (inl went)) line = λ name turns asked. absurd (not_go_and_mean words went.name name turns went.asked asked)
+means-files inner result words old mid errors faults (inr (inr (inl ran))) line = λ name turns asked. absurd (not_run_and_mean words ran.name name ran.options turns ran.asked asked)
+means-files inner result words old mid errors faults (inr (inr (inr (inl out)))) line = λ name turns asked. mean.ran_out old.folder inner result name turns old mid errors faults out.is out.untouched.streams line
+means-files inner result words old mid errors faults (inr (inr (inr (inr (inl shown))))) line = λ name turns asked. absurd (not_mean words shown.text name turns shown.asked asked)
+means-files inner result words old mid errors faults (inr (inr (inr (inr (inr meant))))) line = mean.means inner result words old mid errors faults meant line
+
+pub meant_with_line : (result : Outcome) (words : List (List ℕ)) (old mid : World) (errors : Option (List ℕ)) (faults : ℕ) → Performs result words old mid → errors ≡ append_known mid.streams.errors (line_of result) → MeantFiles words old (told mid errors faults) result
+meant_with_line result words old mid errors faults did line = means-files result result words old mid errors faults did (inl (refl, line))
+
+pub meant_without_line : (inner : Outcome) (words : List (List ℕ)) (old mid : World) (errors : Option (List ℕ)) (faults : ℕ) → Performs inner words old mid → TakesPrefix mid.streams.errors errors (line_of inner) → MeantFiles words old (told mid errors faults) outcome.ErrorsFault
+meant_without_line inner words old mid errors faults did front = means-files inner outcome.ErrorsFault words old mid errors faults did (inr (refl, front))
 
 pub line_failed : (words : List (List ℕ)) (old new : World) (mid : ℕ) → old.streams.errors_faults ≤ mid → HasRisen mid new.streams.errors_faults → Refuses words old new outcome.ErrorsFault
 line_failed words old new mid counted rose = go.line_failed words old new mid counted rose
@@ -159,7 +216,8 @@ tells_with_line result words old mid errors faults (inl misused) line = λ t ask
 tells_with_line result words old mid errors faults (inr (inl went)) line = λ t asked. absurd (not_go words t went.name asked went.asked)
 tells_with_line result words old mid errors faults (inr (inr (inl ran))) line = λ t asked. absurd (not_run words t ran.name ran.options asked ran.asked)
 tells_with_line result words old mid errors faults (inr (inr (inr (inl out)))) line = λ t asked. absurd (out.none t asked)
-tells_with_line result words old mid errors faults (inr (inr (inr (inr shown)))) line = λ t asked. text.tells_with_line result words old mid errors faults t shown line asked
+tells_with_line result words old mid errors faults (inr (inr (inr (inr (inl shown))))) line = λ t asked. text.tells_with_line result words old mid errors faults t shown line asked
+tells_with_line result words old mid errors faults (inr (inr (inr (inr (inr meant))))) line = λ t asked. absurd (not_mean words t meant.name meant.turns asked meant.asked)
 
 pub tells_without_line : (inner : Outcome) (words : List (List ℕ)) (old mid : World) (errors : Option (List ℕ)) (faults : ℕ) → Performs inner words old mid → old.streams.errors_faults ≤ mid.streams.errors_faults → HasRisen mid.streams.errors_faults faults
     → Tells words old (told mid errors faults) outcome.ErrorsFault
@@ -167,5 +225,6 @@ tells_without_line inner words old mid errors faults (inl misused) counted rose 
 tells_without_line inner words old mid errors faults (inr (inl went)) counted rose = λ t asked. absurd (not_go words t went.name asked went.asked)
 tells_without_line inner words old mid errors faults (inr (inr (inl ran))) counted rose = λ t asked. absurd (not_run words t ran.name ran.options asked ran.asked)
 tells_without_line inner words old mid errors faults (inr (inr (inr (inl out)))) counted rose = λ t asked. absurd (out.none t asked)
-tells_without_line inner words old mid errors faults (inr (inr (inr (inr shown)))) counted rose = λ t asked.
+tells_without_line inner words old mid errors faults (inr (inr (inr (inr (inl shown))))) counted rose = λ t asked.
     text.tells_without_line inner words old mid errors faults t shown (go.still_rising old.streams.errors_faults mid.streams.errors_faults faults counted rose) asked
+tells_without_line inner words old mid errors faults (inr (inr (inr (inr (inr meant))))) counted rose = λ t asked. absurd (not_mean words t meant.name meant.turns asked meant.asked)

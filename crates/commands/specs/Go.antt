@@ -5,6 +5,7 @@ use Rattle.tp_outside.specs.Folder.{Folder, with_known_file}
 use Rattle.cpu_8086.specs.State.{State}
 use Rattle.literal_form.specs.Source.{IsSource}
 use Rattle.literal_form.specs.Statement.{Statement, mean}
+use Rattle.tp_lexer.specs.declared.token.Feature.TheVariants.{NotYet}
 use Rattle.mz_file.specs.Format.{exe_of}
 use Rattle.mz_file.specs.Load.{loaded}
 use Rattle.literal_code.specs.Agrees.{Agrees, EndsWithin}
@@ -12,9 +13,9 @@ use Rattle.dos_runner.specs.declared.runner.RunEnd.{RunEnd}
 use Rattle.dos_runner.specs.declared.runner.RunEnd.TheVariants as ends
 use Rattle.dos_runner.specs.Outside.{RunsTo}
 use Rattle.commands.specs.declared.names.FileKind.TheVariants.{Source, Executable}
-use Rattle.commands.specs.declared.outcome.Refusal.TheVariants as refusal
-use Rattle.commands.specs.declared.outcome.Outcome.{Outcome}
-use Rattle.commands.specs.declared.outcome.Outcome.TheVariants as outcome
+use Rattle.outcomes.specs.declared.refusal.Refusal.TheVariants as refusal
+use Rattle.outcomes.specs.declared.outcome.Outcome.{Outcome}
+use Rattle.outcomes.specs.declared.outcome.Outcome.TheVariants as outcome
 use Rattle.commands.specs.Files.{file_of}
 use Rattle.command_line.specs.Words.{IsGo}
 use Rattle.commands.specs.World.{World, IsUntouched}
@@ -30,7 +31,8 @@ SaysNothing folder file = IfSome folder (λ held. (text : List ℕ) × (held fil
 -- Why a source gave no program.
 abbrev pub ReadsNot : Outcome → List ℕ → Option Folder → ℕ → ℕ → Type 0
 ReadsNot (outcome.Refused (refusal.MissingFile name)) file folder old new = (name ≡ file) × IfSome folder (λ held. held file ≡ None)
-ReadsNot (outcome.Refused (refusal.NotInProfile at feature)) file folder old new = (at ≡ record { file = file; line = 1; column = 1 }) × SaysNothing folder file
+ReadsNot (outcome.Refused (refusal.NotInProfile at feature)) file folder old new =
+    (at ≡ record { file = file; line = 1; column = 1 }) × (feature ≡ NotYet) × SaysNothing folder file
 ReadsNot outcome.FilesFault file folder old new = HasRisen old new
 ReadsNot outcome.NoMemory file folder old new = Unit {0}
 ReadsNot other file folder old new = ⊥
@@ -64,6 +66,9 @@ pub record GivesUp (result : Outcome) (words : List (List ℕ)) (old new : World
 -- What `go` does, by its outcome.
 abbrev pub Goes : Outcome → List (List ℕ) → World → World → Type 0
 Goes outcome.Done words old new = ⊥
+Goes outcome.TurnLimit words old new = ⊥
+Goes (outcome.Undefined act) words old new = ⊥
+Goes outcome.Stuck words old new = ⊥
 Goes (outcome.Refused r) words old new = GivesUp (outcome.Refused r) words old new
 Goes outcome.FilesFault words old new = HasRisen old.files_faults new.files_faults × IsUntouched old new
 Goes outcome.NoMemory words old new = IsUntouched old new

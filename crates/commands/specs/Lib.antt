@@ -1,7 +1,7 @@
 pub mod Ending
 pub mod Files
 pub mod Go
-pub mod Line
+pub mod Mean
 pub mod Performs
 pub mod Run
 pub mod Texts

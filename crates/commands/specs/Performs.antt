@@ -3,20 +3,22 @@ use Rattle.std.specs.Prelude.{◌≡◌, ◌⊎◌, ℕ, List, Option}
 use Rattle.std.specs.Io.KnownBytes.{append_known}
 use Rattle.tp_outside.specs.Faults.{HasRisen}
 use Rattle.tp_outside.specs.Streams.{TakesPrefix}
-use Rattle.commands.specs.declared.outcome.Outcome.{Outcome}
-use Rattle.commands.specs.declared.outcome.Outcome.TheVariants as outcome
-use Rattle.commands.specs.declared.outcome.Refusal.TheVariants as refusal
+use Rattle.outcomes.specs.declared.outcome.Outcome.{Outcome}
+use Rattle.outcomes.specs.declared.outcome.Outcome.TheVariants as outcome
+use Rattle.outcomes.specs.declared.refusal.Refusal.TheVariants as refusal
 use Rattle.command_line.specs.declared.command.RunOptions.{RunOptions}
 use Rattle.commands.specs.Go.{Goes}
+use Rattle.commands.specs.Mean.{MeanDid}
 use Rattle.commands.specs.Run.{RunDid}
 use Rattle.commands.specs.Texts.{IsTextOf}
-use Rattle.command_line.specs.Words.{IsGo, IsRun}
+use Rattle.command_line.specs.Words.{IsGo, IsRun, IsMean}
 use Rattle.commands.specs.World.{World, IsUntouched}
 
 -- The words name no command.
 pub record NamesNone (words : List (List ℕ)) : Type 0 where
   pub go : (name : List ℕ) → IsGo words name → ⊥
   pub run : (name : List ℕ) (options : RunOptions) → IsRun words name options → ⊥
+  pub mean : (name : List ℕ) (turns : Option ℕ) → IsMean words name turns → ⊥
   pub text : (text : List ℕ) → IsTextOf words text → ⊥
 
 pub record Misused (result : Outcome) (words : List (List ℕ)) (old new : World) : Type 0 where
@@ -36,6 +38,13 @@ pub record DidRun (result : Outcome) (words : List (List ℕ)) (old new : World)
   pub options : RunOptions
   pub asked : IsRun words name options
   pub did : (name : List ℕ) (options : RunOptions) → IsRun words name options → RunDid result name options old new
+
+-- They name `mean`, a program and how many turns it may take.
+pub record DidMean (result : Outcome) (words : List (List ℕ)) (old new : World) : Type 0 where
+  pub name : List ℕ
+  pub turns : Option ℕ
+  pub asked : IsMean words name turns
+  pub did : (name : List ℕ) (turns : Option ℕ) → IsMean words name turns → MeanDid result name turns old new
 
 -- Memory ran out before the words were read, which ask for no text.
 pub record RanOut (result : Outcome) (words : List (List ℕ)) (old new : World) : Type 0 where
@@ -61,4 +70,4 @@ pub record DidShow (result : Outcome) (words : List (List ℕ)) (old new : World
 
 abbrev pub Performs : Outcome → List (List ℕ) → World → World → Type 0
 Performs result words old new =
-    Misused result words old new ⊎ (DidGo result words old new ⊎ (DidRun result words old new ⊎ (RanOut result words old new ⊎ DidShow result words old new)))
+    Misused result words old new ⊎ (DidGo result words old new ⊎ (DidRun result words old new ⊎ (RanOut result words old new ⊎ (DidShow result words old new ⊎ DidMean result words old new))))

@@ -11,10 +11,10 @@ use Rattle.overlay_runner.specs.declared.runner.Runner.{Runner}
 use Rattle.overlay_runner.specs.Event.{Rises}
 use Rattle.overlay_runner.specs.Runner.{Begins, with_retry, RunsOn}
 use Rattle.commands.specs.declared.names.FileKind.TheVariants.{Executable, Overlays}
-use Rattle.commands.specs.declared.outcome.Outcome.{Outcome}
-use Rattle.commands.specs.declared.outcome.Outcome.TheVariants as outcome
-use Rattle.commands.specs.declared.outcome.Refusal.{Refusal}
-use Rattle.commands.specs.declared.outcome.Refusal.TheVariants as refusal
+use Rattle.outcomes.specs.declared.outcome.Outcome.{Outcome}
+use Rattle.outcomes.specs.declared.outcome.Outcome.TheVariants as outcome
+use Rattle.outcomes.specs.declared.refusal.Refusal.{Refusal}
+use Rattle.outcomes.specs.declared.refusal.Refusal.TheVariants as refusal
 use Rattle.command_line.specs.declared.command.RunOptions.{RunOptions}
 use Rattle.commands.specs.Files.{file_of}
 use Rattle.commands.specs.Ending.{outcome_of}
@@ -66,9 +66,13 @@ HasNoStart held other name buffer = ⊥
 
 -- The refusals that `run` meets.
 abbrev pub IsOfRun : Refusal → Type 0
-IsOfRun refusal.Usage = ⊥
-IsOfRun (refusal.NotInProfile at feature) = ⊥
-IsOfRun other = Unit {0}
+IsOfRun (refusal.MissingFile name) = Unit {0}
+IsOfRun (refusal.NotExecutable cause) = Unit {0}
+IsOfRun (refusal.OverlayFileDamaged at) = Unit {0}
+IsOfRun (refusal.OverlayMismatch overlay) = Unit {0}
+IsOfRun (refusal.BufferTooSmall need have) = Unit {0}
+IsOfRun (refusal.MemoryTooSmall need) = Unit {0}
+IsOfRun other = ⊥
 
 -- The same, also where the folder isn't told.
 abbrev pub IsNotRun : Outcome → List ℕ → Option ℕ → Option Folder → ℕ → ℕ → Type 0

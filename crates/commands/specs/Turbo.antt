@@ -4,6 +4,11 @@ use Rattle.std.specs.Io.KnownBytes.{append_known}
 use Rattle.tp_outside.specs.Faults.{HasRisen}
 use Rattle.tp_outside.specs.Folder.{Folder, with_known_file}
 use Rattle.tp_outside.specs.Streams.{TakesPrefix}
+use Rattle.typed_tree.specs.declared.units.Program.{Program}
+use Rattle.whole_input.specs.Input.{HasMore}
+use Rattle.front_end.specs.Typed.{IsProgramIn}
+use Rattle.front_end.specs.Untyped.{IsNoProgram}
+use Rattle.mean_program.specs.Shown.{Shows}
 use Rattle.literal_form.specs.Source.{IsSource}
 use Rattle.literal_form.specs.Statement.{Statement, mean}
 use Rattle.literal_code.specs.Agrees.{Agrees}
@@ -13,16 +18,18 @@ use Rattle.opened_program.specs.declared.error.OpenError.{OpenError}
 use Rattle.opened_program.specs.Opening.{HasReason}
 use Rattle.commands.specs.declared.names.FileKind.TheVariants.{Source, Executable}
 use Rattle.command_line.specs.declared.command.RunOptions.{RunOptions}
-use Rattle.commands.specs.declared.outcome.Feature.TheVariants.{NotYet}
-use Rattle.commands.specs.declared.outcome.Refusal.{Refusal}
-use Rattle.commands.specs.declared.outcome.Refusal.TheVariants as refusal
-use Rattle.commands.specs.declared.outcome.Outcome.{Outcome}
-use Rattle.commands.specs.declared.outcome.Outcome.TheVariants as outcome
+use Rattle.tp_lexer.specs.declared.token.Feature.TheVariants.{NotYet}
+use Rattle.outcomes.specs.declared.refusal.Refusal.{Refusal}
+use Rattle.outcomes.specs.declared.refusal.Refusal.TheVariants as refusal
+use Rattle.outcomes.specs.declared.refusal.What.TheVariants as what
+use Rattle.outcomes.specs.declared.outcome.Outcome.{Outcome}
+use Rattle.outcomes.specs.declared.outcome.Outcome.TheVariants as outcome
 use Rattle.commands.specs.Files.{file_of}
-use Rattle.commands.specs.Line.{line_of}
-use Rattle.command_line.specs.Words.{IsGo, IsRun}
+use Rattle.outcomes.specs.Line.{line_of}
+use Rattle.command_line.specs.Words.{IsGo, IsRun, IsMean}
 use Rattle.commands.specs.World.{World, Holds, Lacks}
 use Rattle.commands.specs.Go.{Says}
+use Rattle.commands.specs.Mean.{turns_of, sinks_of}
 use Rattle.commands.specs.Performs.{NamesNone}
 use Rattle.commands.specs.Texts.{IsTextOf}
 use Rattle.commands.specs.Run.{refused_as, HasNoStart, IsUnopened, RunsFrom}
@@ -97,7 +104,7 @@ GoRefused words old (refusal.MissingFile file) =
     (name : List ℕ) → IsGo words name → (file ≡ file_of name Source) × ((text : List ℕ) → Holds old.folder file text → ⊥)
 GoRefused words old (refusal.NotInProfile at feature) =
     (name : List ℕ) → IsGo words name → (at ≡ record { file = file_of name Source; line = 1; column = 1 })
-    × ((text : List ℕ) (statements : List Statement) → Holds old.folder (file_of name Source) text → IsSource text statements → ⊥)
+    × (feature ≡ NotYet) × ((text : List ℕ) (statements : List Statement) → Holds old.folder (file_of name Source) text → IsSource text statements → ⊥)
 GoRefused words old other = (name : List ℕ) → IsGo words name → ⊥
 
 -- So has each refusal of `run`, in the files of the program that the words name.
@@ -106,9 +113,27 @@ RunRefused words old refusal.Usage = (name : List ℕ) (options : RunOptions) �
 RunRefused words old r =
     (name : List ℕ) (options : RunOptions) → IsRun words name options → IfSome old.folder (λ held. HasNoStart held (outcome.Refused r) name options.buffer)
 
+-- The input has more bytes than it may have, and the program of this name is one.
+pub record HasLongInput (held : Folder) (name : List ℕ) (input : Option (List ℕ)) (r : Refusal) : Type 0 where
+  pub program : Program
+  pub is : IsProgramIn held name program
+  pub number : ℕ
+  pub large : r ≡ refusal.TooLarge what.Input number
+  pub rest : Option (List ℕ)
+  pub more : HasMore input rest number
+
+-- Why a program of this name is refused that is to be shown.
+abbrev pub HasNoMeaning : Folder → List ℕ → Option (List ℕ) → Refusal → Type 0
+HasNoMeaning held name input r = IsNoProgram held name (outcome.Refused r) ⊎ HasLongInput held name input r
+
+-- So has each refusal of `mean`.
+abbrev pub MeanRefused : List (List ℕ) → World → Refusal → Type 0
+MeanRefused words old refusal.Usage = (name : List ℕ) (turns : Option ℕ) → IsMean words name turns → ⊥
+MeanRefused words old r = (name : List ℕ) (turns : Option ℕ) → IsMean words name turns → IfSome old.folder (λ held. HasNoMeaning held name old.streams.input r)
+
 -- Words that ask for a text are not refused.
 abbrev pub Refused : List (List ℕ) → World → Outcome → Type 0
-Refused words old (outcome.Refused r) = GoRefused words old r × RunRefused words old r × ((text : List ℕ) → IsTextOf words text → ⊥)
+Refused words old (outcome.Refused r) = GoRefused words old r × RunRefused words old r × MeanRefused words old r × ((text : List ℕ) → IsTextOf words text → ⊥)
 Refused words old other = Unit {0}
 
 -- Each cause gives its refusal, or there was a fault of the object that is named, or no memory.
@@ -132,13 +157,13 @@ AfterLine result inner before after =
 abbrev pub streams_before : World → Option (List ℕ) → ℕ → Outside
 streams_before new errors faults = record new.streams { errors = errors; errors_faults = faults }
 
--- What `run` did with the files that a folder holds: the program did not begin, or its run came to an end, and the outcome is
--- that end's; then came the line.
+-- What `run` did with the files that a folder holds: the program did not begin, and nothing was read or written; or its run came to an
+-- end, and the outcome is that end's; then came the line.
 pub record RunsFiles (held : Folder) (result : Outcome) (name : List ℕ) (options : RunOptions) (old new : World) : Type 0 where
   pub inner : Outcome
   pub before : Option (List ℕ)
   pub before_faults : ℕ
-  pub did : HasNoStart held inner name options.buffer
+  pub did : (HasNoStart held inner name options.buffer × (streams_before new before before_faults ≡ old.streams))
       ⊎ ((end : RunEnd) × (inner ≡ outcome_of end) × RunsFrom held end name options old.streams (streams_before new before before_faults))
   pub line : AfterLine result inner before new.streams.errors
 
@@ -147,6 +172,21 @@ pub record RunsFiles (held : Folder) (result : Outcome) (name : List ℕ) (optio
 abbrev pub RanFiles : List (List ℕ) → World → World → Outcome → Type 0
 RanFiles words old new result =
     (name : List ℕ) (options : RunOptions) → IsRun words name options → IfSome old.folder (λ held. RunsFiles held result name options old new)
+
+-- What `mean` did with the files that a folder holds: there is no program of this name, and nothing was read or written; or what it
+-- means was shown, its input read to the end; then came the line.
+pub record MeansFiles (held : Folder) (result : Outcome) (name : List ℕ) (turns : Option ℕ) (old new : World) : Type 0 where
+  pub inner : Outcome
+  pub before : Option (List ℕ)
+  pub before_faults : ℕ
+  pub did : (IsNoProgram held name inner × (streams_before new before before_faults ≡ old.streams)) ⊎ ((program : Program) × IsProgramIn held name program × Shows program (turns_of turns) inner
+      old.streams.input new.streams.input old.streams.input_faults new.streams.input_faults (sinks_of old.streams) (sinks_of (streams_before new before before_faults)))
+  pub line : AfterLine result inner before new.streams.errors
+
+-- Where the words ask for a meaning and the files tell what they hold, output and errors grew by what the program of these files means.
+abbrev pub MeantFiles : List (List ℕ) → World → World → Outcome → Type 0
+MeantFiles words old new result =
+    (name : List ℕ) (turns : Option ℕ) → IsMean words name turns → IfSome old.folder (λ held. MeansFiles held result name turns old new)
 
 -- No file changed and nothing was written but the line that the outcome is due.
 pub record WroteItsLine (old new : World) (result : Outcome) : Type 0 where

@@ -8,13 +8,15 @@ ghost use Rattle.commands.specs.World.{world};
 
 use crate::ending::outcome_of;
 use crate::names::{FileKind, file_name};
-use crate::outcome::{At, Feature, Outcome, Refusal};
 use cpu_8086::Machine;
 use dos_runner::run;
 use literal_code::executable;
 use literal_form::{LiteralProgram, ReadError, read_program};
 use mz_file::{load, write_exe};
+use outcomes::{Outcome, Refusal};
+use source_gathering::At;
 use std::alloc::{AllocError, Global};
+use tp_lexer::Feature;
 use tp_outside::{self, Files, Sink, Source, WriteError, read_file};
 use type_layout::{Bytes, FileName, Name};
 

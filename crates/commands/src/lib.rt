@@ -3,13 +3,11 @@
 
 mod ending;
 mod go;
-mod line;
+mod mean;
 mod names;
-mod outcome;
 mod perform;
 mod run;
 mod texts;
 mod top;
 
-pub use outcome::{At, Feature, Outcome, Refusal};
 pub use top::turbo;

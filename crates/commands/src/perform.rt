@@ -5,10 +5,11 @@ ghost use Rattle.commands.specs.Performs.{Performs};
 ghost use Rattle.commands.specs.World.{world};
 
 use crate::go::go;
-use crate::outcome::{Outcome, Refusal};
+use crate::mean::mean;
 use crate::run::run_program;
 use crate::texts::{help_text, show, version_text};
 use command_line::{Command, command_of};
+use outcomes::{Outcome, Refusal};
 use std::alloc::Global;
 use tp_outside::{Files, Sink, Source};
 
@@ -35,6 +36,9 @@ pub fn perform<F: Files, S: Source, K: Sink, E: Sink>(
         Ok(Some(Command::Go { name })) => go(alloc, &name, files, input, output, errors),
         Ok(Some(Command::Run { name, options })) => {
             run_program(alloc, &name, options, files, input, output, errors)
+        }
+        Ok(Some(Command::Mean { name, turns })) => {
+            mean(alloc, &name, turns, files, input, output, errors)
         }
         Ok(Some(Command::Help)) => show(output, help_text()),
         Ok(Some(Command::Version)) => show(output, version_text()),

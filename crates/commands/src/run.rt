@@ -10,8 +10,8 @@ ghost use Rattle.commands.specs.declared.names.FileKind.{FileKind};
 
 use crate::ending::outcome_of;
 use crate::names::{FileKind, file_name};
-use crate::outcome::{Outcome, Refusal};
 use command_line::RunOptions;
+use outcomes::{Outcome, Refusal};
 use overlay_runner::{OpenError, Runner};
 use std::alloc::Global;
 use tp_outside::{self, Files, Sink, Source, read_file};

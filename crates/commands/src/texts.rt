@@ -5,7 +5,7 @@ ghost use Rattle.tp_outside.specs.Streams.{TakesPrefix};
 ghost use Rattle.commands.specs.Performs.{Shown};
 ghost use Rattle.commands.specs.Texts.{help_text, version_text};
 
-use crate::outcome::Outcome;
+use outcomes::Outcome;
 use tp_outside::{Sink, write_all};
 
 /// What words there are.
@@ -14,19 +14,23 @@ pub fn help_text() -> &'static str
     ensures { result.now ≡ help_text }
 {
     "Usage: tp go NAME\n\
+     \x20      tp mean NAME [--turns N]\n\
      \x20      tp run NAME [--buffer P] [--limit N] [--retry P]\n\
      \x20      tp --help\n\
      \x20      tp --version\n\n\
      go   reads name.pas, writes name.exe, and runs it\n\
+     mean reads name.pas and its units, and shows what the program means\n\
      run  runs name.exe, with name.ovr if it has overlays\n\n\
      --buffer P  the overlay buffer in paragraphs of 16 bytes, up to 40960\n\
      \x20           (default: as large as the largest overlay)\n\
      --limit N   stop after N instructions (default: 1000000000)\n\
+     --turns N   stop after N turns of loops and calls (default: 1000000)\n\
      --retry P   keep up to P paragraphs of overlays in use (default: 0)\n\n\
      The exit status is that of the program. Where it did not end by itself,\n\
-     a line on standard error says why, and the status is 251 at the limit,\n\
-     252 for a refusal, 253 where the machine stopped, 254 for a fault of a\n\
-     file or a stream, and 255 for want of memory.\n"
+     a line on standard error says why, and the status is 249 for an act that\n\
+     the language leaves open, 250 and 251 at the limits, 252 for a refusal,\n\
+     253 where the machine stopped, 254 for a fault of a file or a stream, and\n\
+     255 for want of memory.\n"
 }
 
 /// Which version this is.

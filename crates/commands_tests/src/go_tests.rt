@@ -80,6 +80,7 @@ fn is_so(alloc: Global, source: &[u8], new: &[u8], row: &Row) -> Result<bool, Al
         files,
         output,
         errors,
+        ..NONE
     };
     let mut left = before(alloc, source, failing)?;
     let is_status = status_of(alloc, &["go", "A"], &mut left)? == status;

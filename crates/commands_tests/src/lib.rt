@@ -4,6 +4,8 @@
 #[cfg(test)]
 mod go_tests;
 #[cfg(test)]
+mod mean_tests;
+#[cfg(test)]
 mod outside;
 #[cfg(test)]
 mod run_tests;

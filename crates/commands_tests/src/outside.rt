@@ -1,6 +1,7 @@
 //! A command over objects in memory. Each step has a function of its own, since the proof of a function grows with what it holds at each of its exits.
 
-use commands::{Outcome, turbo};
+use commands::turbo;
+use outcomes::Outcome;
 use std::alloc::{AllocError, Global};
 use std::test::Fail;
 use tp_outside::{MemoryFiles, MemorySink, MemorySource};
@@ -9,12 +10,14 @@ use tp_outside::{MemoryFiles, MemorySink, MemorySource};
 #[derive(Clone, Copy)]
 pub struct Failing {
     pub files: u64,
+    pub input: u64,
     pub output: u64,
     pub errors: u64,
 }
 
 pub const NONE: Failing = Failing {
     files: 0,
+    input: 0,
     output: 0,
     errors: 0,
 };
@@ -28,14 +31,19 @@ pub struct Outside {
     errors: MemorySink,
 }
 
-/// An empty folder, no input, and room for a hundred bytes of output and of errors.
-pub fn empty_outside(alloc: Global, failing: Failing) -> Result<Outside, AllocError> {
+/// An empty folder, this input, and room for a hundred bytes of output and of errors.
+pub fn outside_with(alloc: Global, input: &[u8], failing: Failing) -> Result<Outside, AllocError> {
     Ok(Outside {
         files: MemoryFiles::new(alloc, &[failing.files])?,
-        input: MemorySource::new(alloc, b"", &[])?,
+        input: MemorySource::new(alloc, input, &[failing.input])?,
         output: MemorySink::new(alloc, 100, &[failing.output])?,
         errors: MemorySink::new(alloc, 100, &[failing.errors])?,
     })
+}
+
+/// An empty folder, no input, and the same room.
+pub fn empty_outside(alloc: Global, failing: Failing) -> Result<Outside, AllocError> {
+    outside_with(alloc, b"", failing)
 }
 
 fn owned(alloc: Global, words: &[&str]) -> Result<Vec<String>, AllocError> {

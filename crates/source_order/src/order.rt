@@ -50,7 +50,7 @@ fn all_uses(alloc: Global, sources: &[Source]) -> Result<Vec<UsesOf>, AllocError
 
 /// The order in which the sources of a program are initialised, the program's own first in the list and last in the order: their
 /// places in the list. Each stands behind the sources that it uses, those of its interface part before those of its implementation
-/// part and each clause in order; but one that was met and is not finished is passed over. There is none exactly where a source
+/// part and each clause in order; but where the walk comes back to a source in which it stands, it goes on with the next one. There is none exactly where a source
 /// lies on a circle of uses in interface parts, or where memory runs out.
 pub fn source_order(alloc: Global, sources: &[Source]) -> Result<Order, OrderError>
     requires { 0 < length sources.now }

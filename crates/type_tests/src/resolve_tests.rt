@@ -139,8 +139,9 @@ fn first_missing(scope: &Scope) -> Option<usize> {
     None
 }
 
+// The scope names P, the four used units, and OTHER, which declares a type that B shows; SYSTEM is no unit of its own.
 fn are_one(scope: &Scope) -> bool {
-    first_missing(scope).is_none() && scope.types().count() == 13 && scope.units().len() == 5
+    first_missing(scope).is_none() && scope.types().count() == 13 && scope.units().len() == 6
 }
 
 fn of_four(alloc: Global) -> Result<bool, AllocError> {

@@ -146,8 +146,8 @@ shown unit reached = record {
   items = map (renumbered_item (new_ids reached (length unit.types.types))) unit.items;
 }
 
--- The interface of a unit: its items, and exactly the types that they reach, in the order of the unit's table and
--- numbered anew from 0.
+-- The interface of a unit: its items, with just those types behind them to which they lead; these keep their order, and
+-- their ids close up.
 pub record IsInterfaceOf (unit : Unit) (interface : Interface) : Type 0 where
   pub reached : List ℕ
   pub exactly : (number : ℕ) → number < length unit.types.types

@@ -14,6 +14,7 @@ use Rattle.typed_tree.specs.declared.units.Item.{Item}
 use Rattle.typed_tree.specs.declared.units.Item.TheVariants as item
 use Rattle.scopes.specs.declared.entries.Entry.{Entry}
 use Rattle.scopes.specs.declared.entries.Entry.TheVariants as entry
+use Rattle.scopes.specs.Predeclared.{system}
 use Rattle.scopes.specs.Symbols.{SymbolList, has}
 use Rattle.scopes.specs.Environment.{Environment, with_used}
 use Rattle.unit_interface.specs.declared.keys.Key.{Key}
@@ -142,8 +143,20 @@ with_items ids unit symbols (item ∷ items) = with_items ids unit (with_new sym
 
 -- ---- interfaces into a scope
 
--- a scope that uses a further unit, with the unit's types and names
+-- the names of units with that of one that declares a type, if it is new; SYSTEM, whose types are predeclared, is no unit of its own
+abbrev pub with_declaring : List (List ℕ) → List ℕ → List (List ℕ)
+with_declaring units unit = cond (same_bytes unit system) units (with_unit units unit)
+
+abbrev pub with_all_declaring : List (List ℕ) → List (List ℕ) → List (List ℕ)
+with_all_declaring units [] = units
+with_all_declaring units (unit ∷ more) = with_all_declaring (with_declaring units unit) more
+
+-- A scope that uses a further unit, with the unit's types and names. It names the unit, and those that declare its types: their
+-- methods can be called.
 abbrev pub with_interface : Environment → Interface → Environment
 with_interface environment interface =
-    with_used (record environment { types = with_types environment.types interface.types; units = with_unit environment.units interface.name })
+    with_used (record environment {
+      types = with_types environment.types interface.types;
+      units = with_all_declaring (with_unit environment.units interface.name) interface.types.units;
+    })
     (with_items (ids_in environment.types interface.types) (place_of environment.units interface.name) [] interface.items)

@@ -114,8 +114,8 @@ fn items_of(alloc: Global, ids: &[TypeId], items: &[Item]) -> Result<Items, Allo
     Ok(copy)
 }
 
-/// The interface of a unit: its items, and exactly the types that these reach, in the order of the unit's table and
-/// numbered anew from 0. A type keeps the unit that declares it and its number there. There is one such interface; an
+/// The interface of a unit: its items, with just those types behind them to which they lead. The types keep their order,
+/// and their ids close up; each keeps the unit that declares it and its number there. There is one such interface; an
 /// error says that there is no memory.
 pub fn interface_of(alloc: Global, unit: &Unit) -> Result<Interface, AllocError>
     ensures ok { IfOk result (IsInterfaceOf unit.now) }

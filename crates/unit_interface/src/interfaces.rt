@@ -3,8 +3,8 @@
 use type_layout::{Name, Types};
 use typed_tree::Items;
 
-/// The interface of a unit: its items, and the types that these reach, in the order of the unit's own table and
-/// numbered anew from 0.
+/// The interface of a unit: its items, and the types to which they lead. These keep the order that they have in the unit's
+/// own table, but their ids close up.
 #[derive(Debug, Drop)]
 pub struct Interface {
     pub name: Name,

@@ -1,8 +1,10 @@
 //! The types and items of an interface, as they come into a scope.
 
 ghost use Rattle.std.specs.Prelude.{◌≡◌, ◌<◌, [], length, IfErr, IfOk, OnOk};
+ghost use Rattle.scopes.specs.Predeclared.{system};
+ghost use Rattle.type_layout.specs.Words.{same_bytes};
 ghost use Rattle.type_layout.specs.Table.{IsWellFormed, place_of, with_type};
-ghost use Rattle.unit_interface.specs.Merge.{renumbered, is_new, with_merged, merged, name_of, entry_of, with_items, with_interface};
+ghost use Rattle.unit_interface.specs.Merge.{renumbered, is_new, with_merged, merged, name_of, entry_of, with_items, with_declaring, with_all_declaring, with_interface};
 ghost use Rattle.unit_interface.specs.Misfits.{IsMisfitCause, IsMisfitAt, IsCause, IsMergeCause};
 
 use crate::Interface;
@@ -197,7 +199,37 @@ pub(crate) fn symbols_of(
     Ok(symbols)
 }
 
-/// Adds a used unit with the types and names of its interface.
+fn is_system(unit: &Name) -> bool
+    ensures { result ≡ same_bytes unit.now system }
+{
+    unit.as_bytes() == b"SYSTEM".as_slice()
+}
+
+// Names a unit that declares a type of the scope.
+fn add_declaring(scope: &mut Scope, unit: &Name) -> Result<(), AllocError>
+    ensures { OnOk result (scope.new ≡ record scope.old { units = with_declaring scope.old.units unit.now }) }
+{
+    if is_system(unit) {
+        return Ok(());
+    }
+    let _place = scope.unit(unit.copied())?;
+    Ok(())
+}
+
+// Names the units that declare types of the scope.
+fn add_all_declaring(scope: &mut Scope, units: &[Name]) -> Result<(), AllocError>
+    ensures { OnOk result (scope.new ≡ record scope.old { units = with_all_declaring scope.old.units units.now }) }
+{
+    match units {
+        [] => Ok(()),
+        [unit, rest @ ..] => {
+            add_declaring(scope, unit)?;
+            add_all_declaring(scope, rest)
+        }
+    }
+}
+
+/// Adds a used unit with the types and names of its interface, and names the units that declare these types.
 pub(crate) fn add_interface(
     alloc: Global,
     scope: &mut Scope,
@@ -208,6 +240,7 @@ pub(crate) fn add_interface(
 {
     let ids = ids_in(alloc, scope.types(), &interface.types)?;
     let unit = scope.unit(interface.name.copied())?;
+    add_all_declaring(scope, interface.types.units())?;
     merge(alloc, scope, &interface.types, ids.as_slice())?;
     let symbols = symbols_of(alloc, ids.as_slice(), unit, interface.items.as_slice())?;
     scope.add_use(symbols)?;

@@ -61,8 +61,8 @@ fn ordered(alloc: Global, units: &[UsesOf], start: u32) -> Result<Order, AllocEr
 }
 
 /// The order in which the units that `start` needs are initialised, it itself last. Each unit stands behind the units
-/// that it uses, those of the interface part before those of the implementation part and each clause in order; but a
-/// unit that was met and is not finished is passed over. Names that are no unit of the list are passed over too.
+/// that it uses, those of the interface part before those of the implementation part and each clause in order; but where
+/// the walk comes back to a unit in which it stands, it goes on with the next one. Names that are no unit of the list are passed over too.
 pub fn initial_order(alloc: Global, units: &[UsesOf], start: u32) -> Result<Order, OrderError>
     requires { start < length units.now }
     ensures ok { IfOk result (λ order. order ≡ start_order units.now start) }

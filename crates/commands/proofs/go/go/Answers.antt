@@ -3,7 +3,7 @@ use Rattle.tp_outside.specs.Folder.{with_known_file}
 use Rattle.literal_form.specs.Statement.{Statement}
 use Rattle.literal_form.specs.LiteralProgram.{statements_of}
 use Rattle.commands.specs.declared.names.FileKind.TheVariants.{Executable}
-use Rattle.commands.specs.declared.outcome.Outcome.{Outcome}
+use Rattle.outcomes.specs.declared.outcome.Outcome.{Outcome}
 use Rattle.commands.specs.Files.{file_of}
 use Rattle.commands.specs.Go.{Goes, Says, Ran}
 use Rattle.commands.specs.World.{World, world}

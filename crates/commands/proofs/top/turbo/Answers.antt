@@ -103,12 +103,26 @@ returns-in-Ok-clause-ran g c =
     let mid : World = world (g.F.Files.folder c.perform-outcome.new.files) (g.F.Files.faults c.perform-outcome.new.files) (g.S.Source.remaining c.perform-outcome.new.input) (g.K.Sink.contents c.perform-outcome.new.output) (g.E.Sink.contents c.perform-outcome.new.errors) (g.S.Source.faults c.perform-outcome.new.input) (g.K.Sink.faults c.perform-outcome.new.output) (g.E.Sink.faults c.perform-outcome.new.errors) in
     laws.ran_with_line c.perform-outcome.result words old mid (g.E.Sink.contents c.write_line.new.errors) (g.E.Sink.faults c.write_line.new.errors) c.perform-outcome.ensures.performs c.in-Ok.ensures.written
 
+pub returns-in-Ok-clause-meant : goal.returns-in-Ok-clause-meant
+returns-in-Ok-clause-meant g c =
+    let words : List (List ℕ) = map string_bytes c.args.words.now in
+    let old : World = world (g.F.Files.folder c.args.files.now) (g.F.Files.faults c.args.files.now) (g.S.Source.remaining c.args.input.now) (g.K.Sink.contents c.args.output.now) (g.E.Sink.contents c.args.errors.now) (g.S.Source.faults c.args.input.now) (g.K.Sink.faults c.args.output.now) (g.E.Sink.faults c.args.errors.now) in
+    let mid : World = world (g.F.Files.folder c.perform-outcome.new.files) (g.F.Files.faults c.perform-outcome.new.files) (g.S.Source.remaining c.perform-outcome.new.input) (g.K.Sink.contents c.perform-outcome.new.output) (g.E.Sink.contents c.perform-outcome.new.errors) (g.S.Source.faults c.perform-outcome.new.input) (g.K.Sink.faults c.perform-outcome.new.output) (g.E.Sink.faults c.perform-outcome.new.errors) in
+    laws.meant_with_line c.perform-outcome.result words old mid (g.E.Sink.contents c.write_line.new.errors) (g.E.Sink.faults c.write_line.new.errors) c.perform-outcome.ensures.performs c.in-Ok.ensures.written
+
 pub returns-in-Err-clause-ran : goal.returns-in-Err-clause-ran
 returns-in-Err-clause-ran g c =
     let words : List (List ℕ) = map string_bytes c.args.words.now in
     let old : World = world (g.F.Files.folder c.args.files.now) (g.F.Files.faults c.args.files.now) (g.S.Source.remaining c.args.input.now) (g.K.Sink.contents c.args.output.now) (g.E.Sink.contents c.args.errors.now) (g.S.Source.faults c.args.input.now) (g.K.Sink.faults c.args.output.now) (g.E.Sink.faults c.args.errors.now) in
     let mid : World = world (g.F.Files.folder c.perform-outcome.new.files) (g.F.Files.faults c.perform-outcome.new.files) (g.S.Source.remaining c.perform-outcome.new.input) (g.K.Sink.contents c.perform-outcome.new.output) (g.E.Sink.contents c.perform-outcome.new.errors) (g.S.Source.faults c.perform-outcome.new.input) (g.K.Sink.faults c.perform-outcome.new.output) (g.E.Sink.faults c.perform-outcome.new.errors) in
     laws.ran_without_line c.perform-outcome.result words old mid (g.E.Sink.contents c.write_line.new.errors) (g.E.Sink.faults c.write_line.new.errors) c.perform-outcome.ensures.performs c.write_line.ensures.prefix
+
+pub returns-in-Err-clause-meant : goal.returns-in-Err-clause-meant
+returns-in-Err-clause-meant g c =
+    let words : List (List ℕ) = map string_bytes c.args.words.now in
+    let old : World = world (g.F.Files.folder c.args.files.now) (g.F.Files.faults c.args.files.now) (g.S.Source.remaining c.args.input.now) (g.K.Sink.contents c.args.output.now) (g.E.Sink.contents c.args.errors.now) (g.S.Source.faults c.args.input.now) (g.K.Sink.faults c.args.output.now) (g.E.Sink.faults c.args.errors.now) in
+    let mid : World = world (g.F.Files.folder c.perform-outcome.new.files) (g.F.Files.faults c.perform-outcome.new.files) (g.S.Source.remaining c.perform-outcome.new.input) (g.K.Sink.contents c.perform-outcome.new.output) (g.E.Sink.contents c.perform-outcome.new.errors) (g.S.Source.faults c.perform-outcome.new.input) (g.K.Sink.faults c.perform-outcome.new.output) (g.E.Sink.faults c.perform-outcome.new.errors) in
+    laws.meant_without_line c.perform-outcome.result words old mid (g.E.Sink.contents c.write_line.new.errors) (g.E.Sink.faults c.write_line.new.errors) c.perform-outcome.ensures.performs c.write_line.ensures.prefix
 
 pub returns-in-Ok-clause-told : goal.returns-in-Ok-clause-told
 returns-in-Ok-clause-told g c =

@@ -1,0 +1,4 @@
+pub mod Names
+pub mod Members
+pub mod Called
+pub mod Checked

@@ -1,0 +1,125 @@
+-- Members of objects and records, and names, are typed.
+use Rattle.std.proofs.Common.{◌≡◌, inl, ℕ, ◌==◌, Bool, true, false, cond, List, [], Option, Some, None, refl, subst, ap}
+use Rattle.type_layout.specs.declared.definitions.TypeId.{TypeId}
+use Rattle.type_layout.specs.declared.definitions.TypeDef.{TypeDef}
+use Rattle.type_layout.specs.declared.texts.Place.{Place}
+use Rattle.pascal_grammar.specs.declared.lexeme.Position.{Position}
+use Rattle.tp_lexer.specs.declared.token.Feature.{Feature}
+use Rattle.left_out_names.specs.Names.{feature_of}
+use Rattle.typed_tree.specs.Expressions.{Expression, Load, Var}
+use Rattle.well_formed.specs.Scopes.{Scope}
+use Rattle.well_formed.specs.Typed.{IsTyped, HasPlace}
+use Rattle.scopes.specs.declared.entries.Entry.TheVariants as entry
+use Rattle.scopes.specs.declared.entries.BlockKind.{BlockKind}
+use Rattle.scopes.specs.declared.entries.BlockKind.TheVariants as block
+use Rattle.scopes.specs.Environment.{Environment, Meaning, named, member, find, kind_of}
+use Rattle.typing_rules.specs.Judgements.{Through}
+use Rattle.typing_rules.specs.Selectors.{selected}
+use Rattle.method_rules.specs.Methods.{Bound, bound}
+use Rattle.method_rules.specs.Calls.{called_on}
+use Rattle.allocation_rules.specs.Allocations.{made}
+use Rattle.tp_check_expr.specs.declared.names.Purpose.{Purpose}
+use Rattle.tp_check_expr.specs.declared.names.Purpose.TheVariants as purpose
+use Rattle.tp_check_expr.specs.Names.{variable, as_wanted}
+use Rattle.tp_check_expr.specs.Owners.{held, Instance, self_meant, self_word, self_of, own_in, owner_in, inherited_in, inherited_on, inherited_by, inherited_from}
+use Rattle.tp_check_expr.specs.Calls.{is_method_of, method_wanted, chosen, opened, meant, constructor_named, name_for, name_judged}
+use Rattle.typed_nodes.specs.Laws.{IsOperand}
+use Rattle.typed_nodes.proofs.Selected.{selected_typed}
+use Rattle.typed_methods.specs.Declared.{IsBound}
+use Rattle.typed_methods.proofs.Bound.{bound_typed, inherited_typed}
+use Rattle.typed_methods.proofs.Calls.{called_typed}
+use Rattle.typed_allocations.proofs.Makers.{constructor_found, made_typed}
+use Rattle.checked_expressions.specs.Agreeing.{Agrees}
+use Rattle.checked_expressions.proofs.Names.{at, wanted_typed, entered_typed}
+
+module _ (g : Environment) (s : Scope) (a : Agrees g s) where
+  method_call : (here : Position) (one : Bound) (e : Expression) → IsBound s one → (called_on g.types.types here.place here.switches.r one []).holds e → IsOperand s e
+  method_call here one e bound h =
+      inl (called_typed s a.sound here.place here.switches.r one [] e bound tt (at g s a (λ (t : List TypeDef). (called_on t here.place here.switches.r one []).holds e) h))
+
+  pub method_typed : (here : Position) (for : Purpose) (one : Bound) (e : Expression) → IsBound s one → (method_wanted g.types.types here for one).holds e → IsOperand s e
+  method_typed here (purpose.Routine ty fault) one e bound h = absurd h
+  method_typed here for one e bound h = method_call here one e bound h
+
+  chosen_by : (here : Position) (for : Purpose) (x : Expression) (word : List ℕ) (e : Expression) → IsOperand s x → (b : Bool)
+      → cond b (Through (bound g here.place x word).holds (λ (one : Bound) (o : Expression). (method_wanted g.types.types here for one).holds o) e)
+      (Through (selected g.types.types here.place x word).holds (λ (y o : Expression). (as_wanted g.types.types here.place for y).holds o) e)
+      → IsOperand s e
+  chosen_by here for x word e ox true h = method_typed here for h.part e (bound_typed g s a.has a.sound here.place x word h.part ox h.holds) h.made
+  chosen_by here for x word e ox false h =
+      let field = selected_typed s a.sound here.place word x h.part ox (at g s a (λ (t : List TypeDef). (selected t here.place x word).holds h.part) h.holds) in
+      wanted_typed g s a here.place for h.part e (inl field) h.made
+
+  pub chosen_typed : (here : Position) (for : Purpose) (x : Expression) (word : List ℕ) (e : Expression) → IsOperand s x → (chosen g here for x word).holds e → IsOperand s e
+  chosen_typed here for x word e ox h = chosen_by here for x word e ox (is_method_of g.types.types x word) h
+
+  -- ---- what has members that are known by their names
+
+  self_typed : (m : Option Meaning) → find g self_word ≡ m → (own : Instance) → self_meant g m ≡ Some own → HasPlace s own.at own.class × IsTyped s (Load own.class own.at)
+  self_typed (Some (named number (entry.Var unit level n ty))) is own e =
+      let known = a.known self_word number (entry.Var unit level n ty) is in
+      let same : (let it : Instance = record { block = number; class = ty; at = Var (variable g unit level n) } in it) ≡ own = cc in
+      subst (λ (o : Instance). HasPlace s o.at o.class × IsTyped s (Load o.class o.at)) same (known, (known.0, known))
+  self_typed m is own e = let bad : ⊥ = cc in absurd bad
+
+  own_typed : (number : ℕ) (own : Instance) (owner : Expression) → IsTyped s (Load own.class own.at) → (b : Bool) → cond b (Some (Load own.class own.at)) None ≡ Some owner → IsOperand s owner
+  own_typed number own owner typed true e =
+      let same : Load own.class own.at ≡ owner = cc in
+      subst (λ (x : Expression). IsOperand s x) same (inl typed)
+  own_typed number own owner typed false e = let bad : ⊥ = cc in absurd bad
+
+  self_owner : (number : ℕ) (o : Option Instance) → self_meant g (find g self_word) ≡ o → (owner : Expression) → own_in number o ≡ Some owner → IsOperand s owner
+  self_owner number None is owner e = let bad : ⊥ = cc in absurd bad
+  self_owner number (Some own) is owner e = own_typed number own owner (self_typed (find g self_word) refl own is).1 (own.block == number) e
+
+  pub owner_typed : (number : ℕ) (k : Option BlockKind) → kind_of g number ≡ k → (owner : Expression) → owner_in g number k ≡ Some owner → IsOperand s owner
+  owner_typed number (Some (block.With ty)) is owner e =
+      let place = a.held number ty is in
+      let same : Load ty (held g number) ≡ owner = cc in
+      subst (λ (x : Expression). IsOperand s x) same (inl (place.0, place))
+  owner_typed number (Some (block.Routine own (Some class))) is owner e = self_owner number (self_of g) refl owner e
+  owner_typed number k is owner e = let bad : ⊥ = cc in absurd bad
+
+  opened_typed : (here : Position) (for : Purpose) (o : Option Expression) (word : List ℕ) (e : Expression) → ((owner : Expression) → o ≡ Some owner → IsOperand s owner)
+      → (opened g here for o word).holds e → IsOperand s e
+  opened_typed here for None word e owned h = absurd h
+  opened_typed here for (Some owner) word e owned h = chosen_typed here for owner word e (owned owner refl) h
+
+  meant_typed : (here : Position) (for : Purpose) (word : List ℕ) (feature : Option Feature) (m : Option Meaning) → find g word ≡ m → (e : Expression)
+      → (meant g here for word feature m).holds e → IsOperand s e
+  meant_typed here for word feature None is e h = absurd h
+  meant_typed here for word feature (Some (named number one)) is e h = entered_typed g s a here for one e (a.known word number one is) h
+  meant_typed here for word feature (Some (member number one)) is e h =
+      opened_typed here for (owner_in g number (kind_of g number)) word e (λ owner k. owner_typed number (kind_of g number) refl owner k) h
+
+  new_typed : (here : Position) (ty : TypeId) (place : Place) (word : List ℕ) (e : Expression) → (constructor_named g here ty place word).holds e → IsOperand s e
+  unfolding constructor_named
+  new_typed here ty place word e h =
+      let maker = constructor_found g s a.has a.sound place ty word h.part h.holds in
+      inl (made_typed s a.sound here.place here.switches.r ty h.part [] e maker tt (at g s a (λ (t : List TypeDef). (made t here.place here.switches.r ty h.part []).holds e) h.made))
+
+  name_by : (here : Position) (for : Purpose) (word : List ℕ) (e : Expression) → (name_for g here for word).holds e → IsOperand s e
+  name_by here (purpose.Constructor ty place) word e h = new_typed here ty place word e h
+  name_by here for word e h = meant_typed here for word (feature_of word) (find g word) refl e h
+
+  pub name_typed : (here : Position) (for : Purpose) (word : List ℕ) (e : Expression) → (name_judged g here for word).holds e → IsOperand s e
+  unfolding name_judged
+  name_typed here for word e h = name_by here for word e h
+
+  -- ---- methods of ancestors
+
+  ancestor_in : (place : Place) (one : _) (word : List ℕ) (own : Instance) (k : Option BlockKind) (b : Bound) → HasPlace s own.at own.class
+      → (inherited_in g place one word own k).holds b → IsBound s b
+  ancestor_in place one word own (Some (block.Routine number (Some class))) b there h = inherited_typed g s a.has a.sound one.place place own.class own.at one.ty word b there h
+  ancestor_in place one word own k b there h = absurd h
+
+  ancestor_on : (place : Place) (one : _) (word : List ℕ) (o : Option Instance) → self_meant g (find g self_word) ≡ o → (b : Bound) → (inherited_on g place one word o).holds b → IsBound s b
+  ancestor_on place one word None is b h = absurd h
+  ancestor_on place one word (Some own) is b h = ancestor_in place one word own (kind_of g own.block) b (self_typed (find g self_word) refl own is).0 h
+
+  ancestor_by : (place : Place) (one : _) (word : List ℕ) (m : Option Meaning) → find g self_word ≡ m → (b : Bound) → (inherited_by g place one word m).holds b → IsBound s b
+  ancestor_by place one word None is b h = absurd h
+  ancestor_by place one word (Some meaning) is b h = ancestor_on place one word (self_meant g (Some meaning)) (ap (λ (m : Option Meaning). self_meant g m) is) b h
+
+  pub ancestor_bound : (place : Place) (one : _) (word : List ℕ) (b : Bound) → (inherited_from g place one word).holds b → IsBound s b
+  ancestor_bound place one word b h = ancestor_by place one word (find g self_word) refl b h

@@ -1,0 +1,6 @@
+//! Each expression that is typed by the rules has a typed node.
+#![tactic(auto)]
+
+mod laws;
+
+pub use laws::checked_expression_law;

@@ -1,0 +1,367 @@
+-- The block behind a header is well formed, where its declarations are.
+use Rattle.std.proofs.Common.{◌≡◌, ◌⊎◌, inl, inr, ℕ, zero, suc, ◌+◌, ◌<◌, ◌≤◌, Bool, true, false, List, [], ◌∷◌, ◌++◌, length, map, Option, Some, refl, sym, subst, ap, ◌∙◌, arith}
+use Rattle.std.proofs.lemmas.List.{length-map}
+use Rattle.std.specs.Prelude.{slice_get, ◌^◌, nat_lt}
+use Rattle.std.proofs.Math.Nat.{min-eq_left, min-eq_right}
+use Rattle.std.proofs.lemmas.Option.{slice_get_within}
+use Rattle.type_layout.specs.declared.definitions.TypeId.{TypeId}
+use Rattle.type_layout.specs.declared.definitions.Param.{Param}
+use Rattle.type_layout.specs.declared.definitions.Method.{Method}
+use Rattle.type_layout.specs.declared.definitions.TypeDef.{TypeDef}
+use Rattle.type_layout.specs.declared.texts.Place.{Place}
+use Rattle.type_layout.proofs.Local.{slice_get-append}
+use Rattle.syntax_tree.specs.declared.statement.CompoundStatement.{CompoundStatement}
+use Rattle.statement_tree.specs.Trees.{compound, view_statements}
+use Rattle.typed_tree.specs.declared.units.Routine.{Routine}
+use Rattle.typed_tree.specs.Statements.{Statement}
+use Rattle.well_formed.specs.Fits.{definition, IsSome, shape_of}
+use Rattle.well_formed.specs.Scopes.{Scope, listed, variables_of}
+use Rattle.well_formed.specs.WellFormed.{IsStatement, IsOwner}
+use Rattle.scopes.specs.declared.entries.Entry.{Entry}
+use Rattle.scopes.specs.declared.entries.Entry.TheVariants as entry
+use Rattle.scopes.specs.declared.entries.BlockKind.TheVariants as block
+use Rattle.scopes.specs.declared.searches.OpenBlock.{OpenBlock}
+use Rattle.scopes.specs.Members.{narrow}
+use Rattle.scopes.specs.Environment.{Environment, outer, with_block, without_block}
+use Rattle.method_rules.specs.Slots.{methods_of}
+use Rattle.typing_rules.specs.Judgements.{Judgement}
+use Rattle.declarations.specs.Progress.{level_of}
+use Rattle.routines.specs.declared.drafts.Site.{Site}
+use Rattle.routines.specs.Drafts.{Done, Numbered, Drafted, knowing, Stage, stage, with_done}
+use Rattle.routines.specs.Headings.{Opened}
+use Rattle.routines.specs.Insides.{site_in, inside, done, closed}
+use Rattle.routines.specs.Blocks.{block_judged}
+use Rattle.wider_scopes.specs.Wider.{IsSame}
+use Rattle.checked_statements.specs.Trees.{depth_in}
+use Rattle.checked_statements.proofs.Checked.{stated_well}
+use Rattle.known_names.specs.Known.{open_in, first_in, AreNested, IsPlaced, AreKnown, scope_over}
+use Rattle.known_names.specs.Growing.{Extends}
+use Rattle.known_names.proofs.Frames.{open_end}
+use Rattle.known_names.proofs.Entering.{blocks_join, routine_known, closed_known, closed_each}
+use Rattle.known_names.proofs.Growing.{same_known}
+use Rattle.known_names.proofs.Agreeing.{agrees_within}
+use Rattle.checked_routines.specs.Reading.{locals_of, tree_of, Frame, frame, with_locals, trees_of, scope_of, numbers_of, IsOwn, IsAnnounced, IsBody, IsBlock, AreThere, IsBottom, IsRead, IsSite, with_inner}
+use Rattle.checked_routines.specs.Trees.{IsKept}
+use Rattle.checked_routines.proofs.Lists.{having, get_with, get_back, plain_at, finished_at, finished_kept, finished_length, IsNone, trees_apart, trees_finished, trees_at}
+use Rattle.checked_routines.proofs.Steps.{extends_itself, extends_on, with_routines, extends_with, bare_keeps, each_weaker, there_kept, not_open}
+use Rattle.checked_routines.proofs.Bottoms.{more_bottom, closed_bottom, closed_open}
+use Rattle.checked_routines.proofs.Entered.{IsInner, params_inner, self_inner, types_alike, all_alike}
+use Rattle.checked_routines.proofs.Opened.{IsOpened}
+
+-- ---- the same routines, whatever they have declared
+
+placed_same : (one other : Routine) → IsSame one other → IsPlaced one → IsPlaced other
+placed_same one other k h = record {
+  outermost = λ some. sym k.outer ∙ h.outermost (subst (λ (o : Option TypeId). IsSome o) (sym k.owner) some);
+  few = subst (λ header. length header.params < 2 ^ 31) k.header h.few;
+}
+
+placed_with : (routines : List Routine) (number : ℕ) (locals : List TypeId) → ((at : ℕ) (one : Routine) → slice_get routines at ≡ Some one → IsPlaced one)
+    → (at : ℕ) (one : Routine) → slice_get (with_locals number locals routines) at ≡ Some one → IsPlaced one
+placed_with routines number locals placed at one e =
+    let it = get_back routines number at locals one e in
+    placed_same it.0 one it.2 (placed at it.0 it.1)
+
+-- with other types and units, which are the same
+abbrev fitted : Scope → List TypeDef → ℕ → Scope
+fitted s types units = record { types = types; units = units; globals = s.globals; routines = s.routines; levels = s.levels; withs = s.withs }
+
+fit : (P : Scope → Type 0) (s : Scope) (types : List TypeDef) (units : ℕ) → s.types ≡ types → units ≡ s.units → P s → P (fitted s types units)
+fit P s types units t u h = subst (λ (n : ℕ). P (fitted s types n)) (sym u) (subst (λ (ts : List TypeDef). P (fitted s ts s.units)) t h)
+
+nothing_at : (at : ℕ) (ty : TypeId) → slice_get [] at ≡ Some ty → ⊥
+nothing_at zero ty e = let bad : ⊥ = cc in bad
+nothing_at (suc at) ty e = let bad : ⊥ = cc in bad
+
+-- ---- a block is opened
+
+module _ (d : Drafted) (frames : List Frame) (site : Site) (at : IsSite site frames) (o : Opened) (op : IsOpened d frames o) (shallow : level_of site.home + 1 ≤ 16) where
+  abbrev number : ℕ
+  number = o.begun.number
+
+  abbrev base : Scope
+  base = scope_of o.draft frames
+
+  abbrev bare : Routine
+  bare = having [] (tree_of op.one)
+
+  apart : IsNone number frames
+  apart =
+      let tree = trees_at o.draft.routines frames number op.one op.is in
+      let nested : AreNested base.routines (numbers_of frames) = subst (λ (ns : List ℕ). AreNested base.routines ns) op.read.around op.read.known.nested in
+      not_open base.routines frames number tree.0 nested tree.1 (tree.2.outer ∙ op.outer)
+
+  before : slice_get base.routines number ≡ Some (tree_of op.one)
+  before = trees_apart o.draft.routines frames number apart ∙ plain_at o.draft.routines number op.one op.is
+
+  abbrev opened : Scope
+  opened = with_routines base (with_locals number [] base.routines)
+
+  grows : Extends base opened
+  grows = extends_with base number [] (tree_of op.one) before (bare_keeps [] (tree_of op.one) (ap (λ (x : Option Done). locals_of x) op.left))
+
+  there : slice_get opened.routines number ≡ Some bare
+  there = get_with base.routines number [] (tree_of op.one) before
+
+  known : AreKnown o.draft.scope opened
+  known = same_known o.draft.scope base op.read.known opened grows refl (placed_with base.routines number [] op.read.known.placed)
+
+  abbrev entered : Environment
+  entered = with_block o.draft.scope (block.Routine number o.begun.owner)
+
+  depth_count : length (open_in o.draft.scope) ≡ level_of site.home
+  depth_count = ap (λ (ns : List ℕ). length ns) op.read.around ∙ length-map frames (λ (one : Frame). one.number) ∙ sym at.level
+
+  numbers_count : length (numbers_of frames) ≡ level_of site.home
+  numbers_count = length-map frames (λ (one : Frame). one.number) ∙ sym at.level
+
+  level_is : narrow (level_of site.home + 1) ≡ level_of site.home + 1
+  level_is = let small : level_of site.home + 1 ≤ 4294967295 = omega (arith, shallow) in min-eq_left small
+
+  open_known : AreKnown entered opened
+  open_known =
+      let few : length (open_in o.draft.scope) + 1 < 2 ^ 31 = (let c = depth_count in omega (arith, c, shallow)) in
+      routine_known o.draft.scope opened number o.begun.owner bare known there (op.outer ∙ sym (ap (λ (ns : List ℕ). first_in ns) op.read.around)) few
+
+  inner : IsInner o.draft.routines opened (number ∷ numbers_of frames) entered
+  inner =
+      let new : OpenBlock = record { kind = block.Routine number o.begun.owner; symbols = [] } in
+      record {
+        known = open_known;
+        around = open_end o.draft.scope.blocks new [] ∙ ap (λ (ns : List ℕ). number ∷ ns) op.read.around;
+        own = blocks_join (IsOwn o.draft.routines) [] o.draft.scope.blocks new op.read.own tt;
+        bottom = subst (λ (n : ℕ). IsBottom (o.draft.scope.blocks ++ new ∷ []) (suc n)) (sym (length-map frames (λ (one : Frame). one.number))) (more_bottom o.draft.scope.blocks new (length frames) op.read.bottom);
+        units = refl;
+      }
+
+  params_count : length o.begun.header.params ≡ length op.one.first.header.params
+  params_count =
+      let e : length (map (λ (p : Param). shape_of p) o.begun.header.params) ≡ length (map (λ (p : Param). shape_of p) op.one.first.header.params) = ap (λ shapes. length shapes) op.params in
+      sym (length-map o.begun.header.params shape_of) ∙ e ∙ length-map op.one.first.header.params shape_of
+
+  params_few : length op.one.first.header.params < 2 ^ 31
+  params_few = (op.read.known.placed number (tree_of op.one) before).few
+
+  announced : IsAnnounced base number op.one.first
+  announced = op.read.announced number op.one op.is
+
+  -- what is known inside
+  inside_known : (place : Place) (g : Environment) → (inside (site_in site o.begun) place o.begun o.draft.scope).holds g → IsInner o.draft.routines opened (number ∷ numbers_of frames) g
+  inside_known place g k =
+      let next : level_of site.home + 1 ≡ suc (length (numbers_of frames)) = (let c = numbers_count in omega (arith, c)) in
+      let level : narrow (level_of site.home + 1) ≡ suc (length (numbers_of frames)) = level_is ∙ next in
+      let few = params_few in
+      let same = params_count in
+      let low : length o.begun.header.params ≤ 4294967295 = omega (arith, few, same) in
+      let where_self : narrow (length o.begun.header.params) ≡ length op.one.first.header.params = min-eq_left low ∙ same in
+      let owner : IsOwner opened o.begun.owner = subst (λ (x : Option TypeId). IsOwner opened x) op.owner announced.owner in
+      let mid = self_inner o.draft.routines opened number (numbers_of frames) bare there o.begun.owner (narrow (level_of site.home + 1)) place (narrow (length o.begun.header.params)) entered k.part
+      level op.owner owner where_self inner k.holds in
+      let types : map (λ (p : Param). p.ty) o.begun.header.params ≡ map (λ (p : Param). p.ty) op.one.first.header.params = types_alike o.begun.header.params op.one.first.header.params op.params in
+      let these : (j : ℕ) (ty : TypeId) → slice_get (map (λ (p : Param). p.ty) o.begun.header.params) j ≡ Some ty → slice_get (variables_of bare) (0 + j) ≡ Some ty =
+      λ j ty e. (
+      let own : slice_get (map (λ (p : Param). p.ty) op.one.first.header.params) j ≡ Some ty = subst (λ (ts : List TypeId). slice_get ts j ≡ Some ty) types e in
+      let zero_more : 0 + j ≡ j = omega arith in
+      ap (λ (n : ℕ). slice_get (variables_of bare) n) zero_more
+      ∙ slice_get-append (map (λ (p : Param). p.ty) op.one.first.header.params) (listed op.one.first.owner ++ (listed op.one.first.header.result ++ [])) j (slice_get_within (map (λ (p : Param). p.ty) op.one.first.header.params) j ty own)
+      ∙ own) in
+      let bound : 0 + length o.begun.header.params ≤ 4294967295 = omega (arith, low) in
+      params_inner o.draft.routines opened number (numbers_of frames) bare there o.begun.header.params (narrow (level_of site.home + 1)) place 0 k.part g level
+      (all_alike opened.types o.begun.header.params op.one.first.header.params op.params announced.header.params) these bound mid k.made
+
+  -- ---- what was read is well formed in the scope inside
+
+  module _ (g : Environment) (k : IsInner o.draft.routines opened (number ∷ numbers_of frames) g) where
+    abbrev within : Drafted
+    within = knowing o.draft g
+
+    abbrev inner_frames : List Frame
+    inner_frames = frame number [] ∷ frames
+
+    abbrev inside_scope : Scope
+    inside_scope = scope_of within inner_frames
+
+    fits : (P : Scope → Type 0) → P opened → P inside_scope
+    fits P h = fit P opened g.types.types (length g.units) k.known.has.types k.units h
+
+    block_there : (at : ℕ) (one : Numbered) (done : Done) → slice_get o.draft.routines at ≡ Some one → one.done ≡ Some done → IsBlock opened at done
+    block_there at one done e has =
+        let it = op.read.blocks at one done e has in
+        let body = it.body in
+        record { types = it.types; body = record { then = body.then; around = body.around; well = body.well; sound = body.sound; nested = body.nested; innermost = body.innermost; since = extends_on body.then base opened body.since grows } }
+
+    announced_there : (at : ℕ) (one : Numbered) → slice_get o.draft.routines at ≡ Some one → IsAnnounced opened at one.first
+    announced_there at one e =
+        let it = op.read.announced at one e in
+        record { header = it.header; function = it.function; owner = it.owner; outer = it.outer }
+
+    pub inside_read : IsRead within inner_frames
+    inside_read = record {
+      known = fits (λ s. AreKnown g s) k.known;
+      around = k.around;
+      bottom = subst (λ (n : ℕ). IsBottom g.blocks n) (ap (λ (n : ℕ). suc n) (length-map frames (λ (one : Frame). one.number))) k.bottom;
+      locals = (λ at ty e. absurd (nothing_at at ty e), fits (λ s. AreThere s frames) (there_kept base opened frames (λ ty h. h) op.read.locals));
+      own = k.own;
+      methods = λ at place one ty method e owned is same. op.read.methods at place one ty method e owned (ap (λ (types : List TypeDef). slice_get (methods_of (definition types ty)) place) (sym op.read.known.has.types ∙ k.known.has.types) ∙ is) same;
+      announced = λ at one e. fits (λ s. IsAnnounced s at one.first) (announced_there at one e);
+      blocks = λ at one done e has. fits (λ s. IsBlock s at done) (block_there at one done e has);
+    }
+
+    pub inside_since : Extends base inside_scope
+    inside_since = fits (λ s. Extends base s) grows
+
+-- ---- a block is closed
+
+-- what is left behind a block
+module _ (frames : List Frame) (number : ℕ) (place : Place) (s : Stage) (typed : Statement) (r : IsRead s.draft (frame number s.locals ∷ frames))
+    (well : IsStatement (scope_over (scope_of s.draft (frame number s.locals ∷ frames)) (open_in s.draft.scope)) typed) where
+  abbrev last : Scope
+  last = scope_of s.draft (frame number s.locals ∷ frames)
+
+  abbrev made : Done
+  made = done place s.locals typed
+
+  abbrev left : Drafted
+  left = closed number place s typed
+
+  nested_last : AreNested last.routines (number ∷ numbers_of frames)
+  nested_last = subst (λ (ns : List ℕ). AreNested last.routines ns) r.around r.known.nested
+
+  apart_last : IsNone number frames
+  apart_last = not_open last.routines frames number nested_last.0.0 nested_last.1 nested_last.0.1 nested_last.0.2
+
+  same_trees : trees_of left.routines frames ≡ last.routines
+  same_trees = trees_finished s.draft.routines frames number made apart_last
+
+  fits_left : (P : Scope → Type 0) → P last → P (scope_of left frames)
+  fits_left P h = subst (λ (rs : List Routine). P (with_routines last rs)) (sym same_trees) h
+
+  own_left : (around : List ℕ) (one : Entry) → IsOwn s.draft.routines around one → IsOwn left.routines around one
+  own_left around (entry.Code routine level header far) o =
+      λ none. (
+      let it = o none in
+      let next = finished_kept s.draft.routines number routine.number made it.0 it.1 in
+      (next.0, next.1, ap (λ first. first.header) next.2 ∙ it.2, ap (λ first. first.outer) next.2 ∙ it.3, ap (λ first. first.owner) next.2 ∙ it.4))
+  own_left around (entry.Const ty v) o = tt
+  own_left around (entry.Ty ty) o = tt
+  own_left around (entry.Var unit level n ty) o = tt
+  own_left around (entry.Std n) o = tt
+
+  body_left : IsBody last number made
+  body_left = record {
+    then = last;
+    around = open_in s.draft.scope;
+    well = well;
+    sound = r.known.sound;
+    nested = r.known.nested;
+    innermost = ap (λ (ns : List ℕ). first_in ns) r.around;
+    since = extends_itself last;
+  }
+
+  first_left : (at : ℕ) (one : Numbered) → slice_get left.routines at ≡ Some one → (first : Numbered) × (slice_get s.draft.routines at ≡ Some first) × (one.first ≡ first.first)
+  first_left at one e = by (finished_at s.draft.routines number at made one e)
+    where
+      by : (slice_get s.draft.routines at ≡ Some one) ⊎ ((first : Numbered) × (slice_get s.draft.routines at ≡ Some first) × (one ≡ with_done made first) × (number ≡ at))
+          → (first : Numbered) × (slice_get s.draft.routines at ≡ Some first) × (one.first ≡ first.first)
+      by (inl f) = (one, f, refl)
+      by (inr f) = (f.0, f.1, ap (λ (x : Numbered). x.first) f.2)
+
+  block_left : (at : ℕ) (one : Numbered) (some : Done) → slice_get left.routines at ≡ Some one → one.done ≡ Some some → IsBlock last at some
+  block_left at one some e has = by (finished_at s.draft.routines number at made one e)
+    where
+      by : (slice_get s.draft.routines at ≡ Some one) ⊎ ((first : Numbered) × (slice_get s.draft.routines at ≡ Some first) × (one ≡ with_done made first) × (number ≡ at)) → IsBlock last at some
+      by (inl f) = r.blocks at one some f has
+      by (inr f) =
+          let is : Some made ≡ Some some = sym (ap (λ (x : Numbered). x.done) f.2) ∙ has in
+          let same : made ≡ some = cc in
+          let whole : IsBlock last number made = record { types = r.locals.0; body = body_left } in
+          subst (λ (x : Done). IsBlock last at x) same (subst (λ (n : ℕ). IsBlock last n made) f.3 whole)
+
+  methods_left : (at place_in : ℕ) (one : Numbered) (ty : TypeId) (method : Method) → slice_get left.routines at ≡ Some one → one.first.owner ≡ Some ty
+      → slice_get (methods_of (definition s.draft.scope.types.types ty)) place_in ≡ Some method → method.routine.number ≡ at → one.first.header ≡ method.header
+  methods_left at place_in one ty method e owned is same =
+      let first = first_left at one e in
+      ap (λ x. x.header) first.2 ∙ r.methods at place_in first.0 ty method first.1 (sym (ap (λ x. x.owner) first.2) ∙ owned) is same
+
+  announced_left : (at : ℕ) (one : Numbered) → slice_get left.routines at ≡ Some one → IsAnnounced last at one.first
+  announced_left at one e =
+      let first = first_left at one e in
+      subst (λ x. IsAnnounced last at x) (sym first.2) (r.announced at first.0 first.1)
+
+  pub left_read : IsRead left frames
+  left_read =
+      let bottom : IsBottom s.draft.scope.blocks (suc (length (numbers_of frames))) = subst (λ (n : ℕ). IsBottom s.draft.scope.blocks (suc n)) (sym (length-map frames (λ (one : Frame). one.number))) r.bottom in
+      record {
+        known = fits_left (λ x. AreKnown (without_block s.draft.scope) x) (closed_known s.draft.scope last r.known);
+        around = closed_open s.draft.scope.blocks number (numbers_of frames) bottom r.around;
+        bottom = closed_bottom s.draft.scope.blocks (length frames) r.bottom;
+        locals = fits_left (λ x. AreThere x frames) r.locals.1;
+        own = each_weaker (IsOwn s.draft.routines) (IsOwn left.routines) own_left [] (outer s.draft.scope.blocks) (closed_each s.draft.scope (IsOwn s.draft.routines) r.own);
+        methods = methods_left;
+        announced = λ at one e. fits_left (λ x. IsAnnounced x at one.first) (announced_left at one e);
+        blocks = λ at one some e has. fits_left (λ x. IsBlock x at some) (block_left at one some e has);
+      }
+
+  pub left_since : Extends last (scope_of left frames)
+  left_since = fits_left (λ x. Extends last x) (extends_itself last)
+
+-- ---- the whole block
+
+unnarrowed : (n : ℕ) → narrow n ≤ 16 → n ≤ 16
+unnarrowed n h = by (nat_lt 4294967295 n) refl
+  where
+    by : (b : Bool) → nat_lt 4294967295 n ≡ b → n ≤ 16
+    by true e =
+        let above : 4294967295 ≤ n = grind arith in
+        let most : narrow n ≡ 4294967295 = min-eq_right above in
+        absurd (omega (arith, h, most))
+    by false e =
+        let low : n ≤ 4294967295 = grind arith in
+        let same : narrow n ≡ n = min-eq_left low in
+        omega (arith, h, same)
+
+-- what is asked of the declarations of a block
+abbrev pub DeclaredKeep : (Site → Stage → Judgement Stage) → Type 0
+DeclaredKeep declared =
+    (inner : Site) (s t : Stage) (frames : List Frame) → IsSite inner frames → IsRead s.draft (with_inner s.locals frames) → length t.draft.routines < 2 ^ 32 → (declared inner s).holds t
+    → IsRead t.draft (with_inner t.locals frames) × Extends (scope_of s.draft (with_inner s.locals frames)) (scope_of t.draft (with_inner t.locals frames))
+
+module _ (d : Drafted) (frames : List Frame) (site : Site) (at : IsSite site frames) (o : Opened) (op : IsOpened d frames o) (place : Place) (body : CompoundStatement) (kept : IsKept body)
+    (declared : Site → Stage → Judgement Stage) (rec : DeclaredKeep declared) where
+  abbrev inner_site : Site
+  inner_site = site_in site o.begun
+
+  inner_at : level_of site.home + 1 ≤ 16 → IsSite inner_site (frame o.begun.number [] ∷ frames)
+  inner_at shallow =
+      let next : level_of site.home + 1 ≡ suc (length frames) = (let e = at.level in omega (arith, e)) in
+      record { level = level_is d frames site at o op shallow ∙ next; outer = refl }
+
+  pub block_kept : (e : Drafted) → length e.routines < 2 ^ 32 → (block_judged site place o body declared).holds e → IsRead e frames × Extends (scope_of d frames) (scope_of e frames)
+  block_kept e few h =
+      let g : Environment = h.part in
+      let read = h.made in
+      let s : Stage = read.part in
+      let end = read.made.made in
+      let depth = end.made in
+      let shallow : level_of site.home + 1 ≤ 16 = unnarrowed (level_of site.home + 1) depth.holds.asked in
+      let inner = inside_known d frames site at o op shallow place g h.holds in
+      let first = inside_read d frames site at o op shallow g inner in
+      let draft_is : e ≡ closed o.begun.number place s end.part = depth.made in
+      let count : length e.routines ≡ length s.draft.routines =
+      ap (λ (x : Drafted). length x.routines) draft_is ∙ finished_length s.draft.routines o.begun.number (done place s.locals end.part) in
+      let room : length s.draft.routines < 2 ^ 32 = subst (λ (n : ℕ). n < 2 ^ 32) count few in
+      let known = rec inner_site (stage (knowing o.draft g) []) s (frame o.begun.number [] ∷ frames) (inner_at shallow) first room read.holds in
+      let agrees = agrees_within s.draft.scope (scope_of s.draft (frame o.begun.number s.locals ∷ frames)) known.0.known in
+      let literal : depth_in (view_statements body.statements.items) + 0 ≤ 2147483648 = (let k = kept.depth in omega (arith, k)) in
+      let well : IsStatement (scope_over (scope_of s.draft (frame o.begun.number s.locals ∷ frames)) (open_in s.draft.scope)) end.part =
+      stated_well (compound (view_statements body.statements.items)) s.draft.scope (scope_over (scope_of s.draft (frame o.begun.number s.locals ∷ frames)) (open_in s.draft.scope)) agrees end.part kept.literals literal end.holds in
+      let left = left_read frames o.begun.number place s end.part known.0 well in
+      let since = left_since frames o.begun.number place s end.part known.0 well in
+      let opened_since = inside_since d frames site at o op shallow g inner in
+      let up : Extends (scope_of d frames) (scope_of s.draft (frame o.begun.number s.locals ∷ frames)) =
+      extends_on (scope_of d frames) (scope_of (knowing o.draft g) (frame o.begun.number [] ∷ frames)) (scope_of s.draft (frame o.begun.number s.locals ∷ frames))
+      (extends_on (scope_of d frames) (scope_of o.draft frames) (scope_of (knowing o.draft g) (frame o.begun.number [] ∷ frames)) op.since opened_since) known.1 in (
+        subst (λ (x : Drafted). IsRead x frames) (sym draft_is) left,
+        subst (λ (x : Drafted). Extends (scope_of d frames) (scope_of x frames)) (sym draft_is)
+            (extends_on (scope_of d frames) (scope_of s.draft (frame o.begun.number s.locals ∷ frames)) (scope_of (closed o.begun.number place s end.part) frames) up since),
+      )

@@ -1,0 +1,9 @@
+pub mod Lists
+pub mod Steps
+pub mod Bottoms
+pub mod Entered
+pub mod Named
+pub mod Headed
+pub mod Opened
+pub mod Blocks
+pub mod Kept

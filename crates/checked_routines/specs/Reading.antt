@@ -1,0 +1,142 @@
+-- A unit while it is read, as trees have it.
+use Rattle.std.specs.Prelude.{◌≡◌, ℕ, zero, suc, true, List, [], ◌∷◌, length, map, Option, Some, None, is_some, slice_get}
+use Rattle.type_layout.specs.declared.definitions.TypeId.{TypeId}
+use Rattle.type_layout.specs.declared.definitions.Kind.TheVariants as kind
+use Rattle.type_layout.specs.declared.definitions.Method.{Method}
+use Rattle.typed_tree.specs.declared.statements.Stmt.TheVariants as stmt
+use Rattle.typed_tree.specs.declared.units.Global.{Global}
+use Rattle.typed_tree.specs.declared.units.Routine.{Routine}
+use Rattle.well_formed.specs.Fits.{definition}
+use Rattle.well_formed.specs.Scopes.{Scope, HasType}
+use Rattle.well_formed.specs.WellFormed.{IsStatement, IsInside, IsOwner}
+use Rattle.scopes.specs.declared.entries.Entry.{Entry}
+use Rattle.scopes.specs.declared.entries.Entry.TheVariants as entry
+use Rattle.scopes.specs.declared.entries.BlockKind.TheVariants as block
+use Rattle.scopes.specs.declared.searches.OpenBlock.{OpenBlock}
+use Rattle.method_rules.specs.Slots.{methods_of}
+use Rattle.declarations.specs.Progress.{level_of}
+use Rattle.routines.specs.declared.drafts.Announced.{Announced}
+use Rattle.routines.specs.declared.drafts.Site.{Site}
+use Rattle.routines.specs.Drafts.{Done, Numbered, Drafted}
+use Rattle.typed_nodes.specs.Tables.{IsHeaderIn, IsSound}
+use Rattle.known_names.specs.Known.{EachIn, open_in, first_in, AreNested, AreKnown, scope_over}
+use Rattle.known_names.specs.Growing.{Extends}
+
+-- ---- routines
+
+abbrev pub locals_of : Option Done → List TypeId
+locals_of None = []
+locals_of (Some done) = done.locals
+
+-- what trees may know of a routine: all but its statements
+abbrev pub tree_of : Numbered → Routine
+tree_of one = record {
+  name = one.first.name;
+  header = one.first.header;
+  owner = one.first.owner;
+  outer = one.first.outer;
+  far = one.first.far;
+  locals = locals_of one.done;
+  body = stmt.Exit;
+}
+
+-- a routine whose block is open, and what it has declared there so far
+pub record Frame : Type 0 where
+  pub number : ℕ
+  pub locals : List TypeId
+
+abbrev pub frame : ℕ → List TypeId → Frame
+frame number locals = record { number = number; locals = locals }
+
+abbrev pub with_locals : ℕ → List TypeId → List Routine → List Routine
+with_locals number locals [] = []
+with_locals zero locals (one ∷ rest) = (record one { locals = locals }) ∷ rest
+with_locals (suc number) locals (one ∷ rest) = one ∷ with_locals number locals rest
+
+-- all routines; those whose blocks are open have what is declared there so far
+abbrev pub trees_of : List Numbered → List Frame → List Routine
+trees_of routines [] = map tree_of routines
+trees_of routines (one ∷ frames) = with_locals one.number one.locals (trees_of routines frames)
+
+abbrev pub scope_of : Drafted → List Frame → Scope
+scope_of d frames = record {
+  types = d.scope.types.types;
+  units = length d.scope.units;
+  globals = map (λ (global : Global). global.ty) d.globals;
+  routines = trees_of d.routines frames;
+  levels = [];
+  withs = [];
+}
+
+abbrev pub numbers_of : List Frame → List ℕ
+numbers_of frames = map (λ (one : Frame). one.number) frames
+
+-- ---- what is known of routines by their names
+
+-- a name of a routine of the unit stands in the block that the routine is declared in, with its first header
+abbrev pub IsOwn : List Numbered → List ℕ → Entry → Type 0
+IsOwn routines around (entry.Code routine level header far) =
+    routine.unit ≡ 0 → (one : Numbered) × (slice_get routines routine.number ≡ Some one) × (one.first.header ≡ header) × (one.first.outer ≡ first_in around) × (one.first.owner ≡ None)
+IsOwn routines around one = Unit {0}
+
+-- ---- routines that were read
+
+-- what a first header tells is well formed
+pub record IsAnnounced (s : Scope) (number : ℕ) (first : Announced) : Type 0 where
+  pub header : IsHeaderIn s.types first.header
+  pub function : is_some first.header.result ≡ true → first.header.kind ≡ kind.Function
+  pub owner : IsOwner s first.owner
+  pub outer : IsInside number first.outer
+
+-- statements that were well formed where some of the unit was read, in the block of a routine and of those round it
+pub record IsBody (s : Scope) (number : ℕ) (done : Done) : Type 0 where
+  pub then : Scope
+  pub around : List ℕ
+  pub well : IsStatement (scope_over then around) done.body
+  pub sound : IsSound then.types
+  pub nested : AreNested then.routines around
+  pub innermost : first_in around ≡ Some number
+  pub since : Extends then s
+
+-- a block
+pub record IsBlock (s : Scope) (number : ℕ) (done : Done) : Type 0 where
+  pub types : (place : ℕ) (ty : TypeId) → slice_get done.locals place ≡ Some ty → HasType s ty
+  pub body : IsBody s number done
+
+-- what open blocks have declared is of types of the table
+abbrev pub AreThere : Scope → List Frame → Type 0
+AreThere s [] = Unit {0}
+AreThere s (one ∷ frames) = ((place : ℕ) (ty : TypeId) → slice_get one.locals place ≡ Some ty → HasType s ty) × AreThere s frames
+
+-- the block of the unit, and so many of routines inside it
+pub record IsBottom (blocks : List OpenBlock) (count : ℕ) : Type 0 where
+  pub first : OpenBlock
+  pub rest : List OpenBlock
+  pub is : blocks ≡ first ∷ rest
+  pub part : first.kind ≡ block.Part
+  pub several : length rest ≡ count
+
+-- ---- the whole
+
+-- All that is known is there among trees; names of routines stand where these are declared; a method's routine has the header that its
+-- type has under the routine's number; and each routine is well formed, as far as it was read.
+pub record IsRead (d : Drafted) (frames : List Frame) : Type 0 where
+  pub known : AreKnown d.scope (scope_of d frames)
+  pub around : open_in d.scope ≡ numbers_of frames
+  pub bottom : IsBottom d.scope.blocks (length frames)
+  pub locals : AreThere (scope_of d frames) frames
+  pub own : EachIn (IsOwn d.routines) [] d.scope.blocks
+  pub methods : (number place : ℕ) (one : Numbered) (ty : TypeId) (method : Method) → slice_get d.routines number ≡ Some one → one.first.owner ≡ Some ty
+      → slice_get (methods_of (definition d.scope.types.types ty)) place ≡ Some method → method.routine.number ≡ number → one.first.header ≡ method.header
+  pub announced : (number : ℕ) (one : Numbered) → slice_get d.routines number ≡ Some one → IsAnnounced (scope_of d frames) number one.first
+  pub blocks : (number : ℕ) (one : Numbered) (done : Done) → slice_get d.routines number ≡ Some one → one.done ≡ Some done → IsBlock (scope_of d frames) number done
+
+-- where a block stands
+pub record IsSite (site : Site) (frames : List Frame) : Type 0 where
+  pub level : level_of site.home ≡ length frames
+  pub outer : site.outer ≡ first_in (numbers_of frames)
+
+-- the frames with what the innermost block has declared
+abbrev pub with_inner : List TypeId → List Frame → List Frame
+with_inner locals [] = []
+with_inner locals (one ∷ frames) = frame one.number locals ∷ frames

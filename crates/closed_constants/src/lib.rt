@@ -1,0 +1,6 @@
+//! The laws on types that names, headers and constants have.
+#![tactic(auto)]
+
+mod laws;
+
+pub use laws::bound_laws;

@@ -1,0 +1,79 @@
+-- The scope of a source before it uses a unit is closed.
+use Rattle.std.proofs.Common.{ℕ, zero, suc, ◌+◌, ◌≤◌, pos, Bool, true, false, not, ◌&&◌, cond, List, [], ◌∷◌, ◌++◌, length, arith}
+use Rattle.std.specs.Prelude.{slice_get, codes}
+use Rattle.type_layout.specs.Words.{is_name}
+use Rattle.scopes.specs.declared.entries.Entry.{Entry}
+use Rattle.scopes.specs.declared.entries.Entry.TheVariants.{Ty, Std}
+use Rattle.scopes.specs.Symbols.{SymbolList, has}
+use Rattle.scopes.specs.Predeclared.{type_id, type_table, with_known, with_types, with_standard, number_entry, with_constants, type_names, standard, predeclared, first}
+use Rattle.unit_interface.specs.Exports.{with_type}
+use Rattle.closed_constants.specs.Bounds.{AreBelow, in_entry, in_names, IsClosedScope}
+use Rattle.closed_constants.proofs.Below.{below_both, below_first, below_last}
+
+pushed : (n : ℕ) (symbols : SymbolList) (name : List ℕ) (one : Entry) → AreBelow n (in_names symbols) → AreBelow n (in_entry one) → AreBelow n (in_names (symbols ++ (name, one) ∷ []))
+pushed n [] name one h k = below_both n (in_entry one) [] k tt
+pushed n (first_one ∷ symbols) name one h k =
+    below_both n (in_entry first_one.1) (in_names (symbols ++ (name, one) ∷ [])) (below_first n (in_entry first_one.1) (in_names symbols) h)
+    (pushed n symbols name one (below_last n (in_entry first_one.1) (in_names symbols) h) k)
+
+known_by : (n : ℕ) (b : Bool) (symbols : SymbolList) (name : List ℕ) (one : Entry) → AreBelow n (in_names symbols) → AreBelow n (in_entry one)
+    → AreBelow n (in_names (cond b (symbols ++ (name, one) ∷ []) symbols))
+known_by n true symbols name one h k = pushed n symbols name one h k
+known_by n false symbols name one h k = h
+
+known_below : (n : ℕ) (symbols : SymbolList) (name : List ℕ) (one : Entry) → AreBelow n (in_names symbols) → AreBelow n (in_entry one) → AreBelow n (in_names (with_known symbols name one))
+unfolding with_known
+known_below n symbols name one h k = known_by n (is_name name && not (has symbols name)) symbols name one h k
+
+types_known : (n : ℕ) (symbols : SymbolList) (number : ℕ) (names : List (List ℕ)) → number + length names ≤ n → AreBelow n (in_names symbols) → AreBelow n (in_names (with_types symbols number names))
+unfolding with_types
+types_known n symbols number [] low h = h
+types_known n symbols number (name ∷ names) low h =
+    types_known n (with_known symbols name (Ty (type_id number))) (number + 1) names (omega arith) (known_below n symbols name (Ty (type_id number)) h (omega arith, tt))
+
+standard_known : (n : ℕ) (symbols : SymbolList) (number : ℕ) (names : List (List ℕ)) → AreBelow n (in_names symbols) → AreBelow n (in_names (with_standard symbols number names))
+unfolding with_standard
+standard_known n symbols number [] h = h
+standard_known n symbols number (name ∷ names) h =
+    standard_known n (with_known symbols name (Std number)) (number + 1) names (known_below n symbols name (Std number) h tt)
+
+constants_known : (n : ℕ) (symbols : SymbolList) → 7 ≤ n → AreBelow n (in_names symbols) → AreBelow n (in_names (with_constants symbols))
+unfolding with_constants
+constants_known n symbols most h =
+    let max = known_below n symbols (codes "MAXINT") (number_entry (type_id 2) (pos 32767)) h (omega arith, tt) in
+    let long = known_below n _ (codes "MAXLONGINT") (number_entry (type_id 4) (pos 2147483647)) max (omega arith, tt) in
+    let no = known_below n _ (codes "FALSE") (number_entry (type_id 6) (pos 0)) long (omega arith, tt) in
+    known_below n _ (codes "TRUE") (number_entry (type_id 6) (pos 1)) no (omega arith, tt)
+
+seven : length type_names ≤ 11
+unfolding type_names
+seven = omega arith
+
+predeclared_below : AreBelow 11 (in_names predeclared)
+unfolding predeclared
+predeclared_below =
+    standard_known 11 _ 0 standard (constants_known 11 _ (omega arith) (types_known 11 [] 0 type_names (let few = seven in omega arith) tt))
+
+types_below : (by : ℕ) → AreBelow 11 (with_type by (slice_get type_table.types by))
+types_below zero = tt
+types_below (suc zero) = tt
+types_below (suc (suc zero)) = tt
+types_below (suc (suc (suc zero))) = tt
+types_below (suc (suc (suc (suc zero)))) = tt
+types_below (suc (suc (suc (suc (suc zero))))) = tt
+types_below (suc (suc (suc (suc (suc (suc zero)))))) = tt
+types_below (suc (suc (suc (suc (suc (suc (suc zero))))))) = tt
+types_below (suc (suc (suc (suc (suc (suc (suc (suc zero)))))))) = (omega arith, tt)
+types_below (suc (suc (suc (suc (suc (suc (suc (suc (suc zero))))))))) = (omega arith, tt)
+types_below (suc (suc (suc (suc (suc (suc (suc (suc (suc (suc zero)))))))))) = (omega arith, tt)
+types_below (suc (suc (suc (suc (suc (suc (suc (suc (suc (suc (suc by))))))))))) = tt
+
+pub first_closed : (name : List ℕ) → IsClosedScope (first name)
+first_closed name = record {
+  table = omega arith;
+  system = omega arith;
+  types = types_below;
+  predeclared = predeclared_below;
+  used = tt;
+  blocks = tt;
+}

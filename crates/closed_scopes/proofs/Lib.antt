@@ -1,0 +1,5 @@
+pub mod Merging
+pub mod Renumbering
+pub mod Using
+pub mod Beginning
+pub mod Showing

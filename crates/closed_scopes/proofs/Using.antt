@@ -1,0 +1,145 @@
+-- Scopes stay closed where they use units.
+use Rattle.std.proofs.Common.{◌≡◌, ◌∙◌, ℕ, zero, suc, ◌+◌, ◌-◌, ◌<◌, ◌≤◌, ℤ, Bool, true, false, cond, List, [], ◌∷◌, ◌++◌, length, Option, Some, refl, sym, ap, subst, arith, length-append}
+use Rattle.std.specs.Prelude.{slice_get}
+use Rattle.type_layout.specs.declared.definitions.TypeId.{TypeId}
+use Rattle.type_layout.specs.declared.definitions.Host.TheVariants as host
+use Rattle.type_layout.specs.declared.definitions.TypeDef.{TypeDef}
+use Rattle.type_layout.specs.declared.definitions.TypeDef.TheVariants.{Ordinal, Str, SetOf, ArrayOf, RecordOf, PointerTo, ObjectOf, Procedural}
+use Rattle.type_layout.specs.Table.{Table, with_type, place_of}
+use Rattle.scopes.specs.Symbols.{SymbolList}
+use Rattle.scopes.specs.Environment.{Environment}
+use Rattle.unit_interface.specs.declared.interfaces.Interface.{Interface}
+use Rattle.unit_interface.specs.Exports as exports
+use Rattle.unit_interface.specs.Exports.{in_type, behind}
+use Rattle.unit_interface.specs.Merge.{ids_in, new_id, renumbered, is_new, with_interface}
+use Rattle.unit_interface.specs.Resolve.{overlay, overlay_items, with_overlay}
+use Rattle.closed_constants.specs.Bounds.{AreBelow, in_names, in_lists, IsClosedScope}
+use Rattle.closed_constants.proofs.Below.{at_push, below_both, below_first, below_last}
+use Rattle.closed_constants.proofs.Names.{closed_below}
+use Rattle.closed_scopes.specs.Scopes.{IsClosedInterface, with_first, AreTogether}
+use Rattle.closed_scopes.proofs.Merging.{has, met, longer, id_low}
+use Rattle.closed_scopes.proofs.Renumbering.{new_type, new_items}
+
+-- ---- types
+
+abbrev pub TypesBelow : ℕ → List TypeDef → Type 0
+TypesBelow n types = (by : ℕ) → AreBelow n (exports.with_type by (slice_get types by))
+
+-- what is behind a type stays so with new ids
+pub new_behind : (n number : ℕ) (ids : List TypeId) (unit : ℕ) (one : TypeDef) → ((low high : ℤ) → one ≡ Ordinal host.Enumeration low high → number + 1 < n) → AreBelow n (behind number (renumbered ids unit one))
+new_behind n number ids unit (Ordinal host.Enumeration low high) h = (h low high refl, tt)
+new_behind n number ids unit (Ordinal host low high) h = tt
+new_behind n number ids unit (Str max) h = tt
+new_behind n number ids unit (SetOf base) h = tt
+new_behind n number ids unit (ArrayOf index element) h = tt
+new_behind n number ids unit (RecordOf fields) h = tt
+new_behind n number ids unit (PointerTo target) h = tt
+new_behind n number ids unit (ObjectOf parent dynamic fields methods) h = tt
+new_behind n number ids unit (Procedural header) h = tt
+
+by_cond : (P : Table → Type 0) (b : Bool) (one two : Table) → (b ≡ true → P one) → P two → P (cond b one two)
+by_cond P true one two h k = h refl
+by_cond P false one two h k = k
+
+grown_by : (b : Bool) (one two : Table) (n : ℕ) → b ≡ true → n ≤ length one.types → n ≤ length (cond b one two).types
+grown_by true one two n e h = h
+grown_by false one two n e h = absurd (let f : false ≡ true = e in cc)
+
+module _ (table : Table) (i : Interface) (paired : length table.origins ≡ length table.types) (closed : IsClosedInterface i) (together : AreTogether table i.types) where
+  abbrev count : ℕ
+  count = length i.types.types
+
+  abbrev step : ℕ → Table
+  step number = with_first table i.types number
+
+  abbrev new_ids : List TypeId
+  new_ids = ids_in table i.types
+
+  abbrev n : ℕ
+  n = length (step count).types
+
+  low_id : (ty : TypeId) → ty.0 < count → (new_id new_ids ty).0 < n
+  low_id ty h = id_low table i.types paired closed.paired ty.0 ty h
+
+  at_number : (number : ℕ) (one : TypeDef) → slice_get i.types.types number ≡ Some one → AreBelow count (exports.with_type number (Some one))
+  at_number number one at = subst (λ (o : Option TypeDef). AreBelow count (exports.with_type number o)) at (closed.types number)
+
+  -- the type that is added for a new one, and the next one where it needs that
+  one_longer : (number : ℕ) → number < count → is_new new_ids (step number) number ≡ true → length (step number).types + 1 ≤ length (step (suc number)).types
+  one_longer number low new =
+      let one = has i.types.types number low in
+      let m = met table i.types paired closed.paired number one.one one.at low in
+      let added = with_type (step number) m.unit m.count (renumbered new_ids m.place one.one) in
+      let more = grown_by (is_new new_ids (step number) number) added (step number) (length (step number).types + 1) new
+      (omega (arith, length-append (step number).types (renumbered new_ids m.place one.one ∷ []))) in
+      subst (λ (t : Table). length (step number).types + 1 ≤ length t.types) (sym m.is) more
+
+  up_to_all : (number : ℕ) → number ≤ count → length (step number).types ≤ n
+  up_to_all number low =
+      let more : ℕ = count - number in
+      let rest = longer table i.types paired closed.paired number more (omega arith) in
+      let same : length (step (number + more)).types ≡ n = ap (λ (k : ℕ). length (step k).types) (let e : number + more ≡ count = omega arith in e) in
+      omega arith
+
+  types_merged : (number : ℕ) → number ≤ count → TypesBelow n table.types → TypesBelow n (step number).types
+  types_merged zero low h = h
+  types_merged (suc number) low h =
+      let one = has i.types.types number (omega arith) in
+      let m = met table i.types paired closed.paired number one.one one.at (omega arith) in
+      let before = types_merged number (omega arith) h in
+      let added = with_type (step number) m.unit m.count (renumbered new_ids m.place one.one) in
+      let place = length (step number).types in
+      let whole = at_number number one.one one.at in
+      let named = new_type (λ x. x < count) n new_ids low_id m.place one.one (below_first count (in_type one.one) (behind number one.one) whole) in
+      let P : Table → Type 0 = λ t. TypesBelow n t.types in
+      subst P (sym m.is) (by_cond P (is_new new_ids (step number) number) added (step number)
+      (λ new.
+      let followed : (least greatest : ℤ) → one.one ≡ Ordinal host.Enumeration least greatest → place + 1 < n =
+      λ least greatest is.
+      let at : slice_get i.types.types number ≡ Some (Ordinal host.Enumeration least greatest) = one.at ∙ ap (λ (t : TypeDef). Some t) is in
+      let next : suc number < count = (let two = (at_number number (Ordinal host.Enumeration least greatest) at).0 in omega arith) in
+      let here = one_longer number (omega arith) new in
+      let there = one_longer (suc number) next (together number least greatest at new) in
+      let most = up_to_all (suc (suc number)) (omega arith) in
+      omega arith in
+      at_push (λ by found. AreBelow n (exports.with_type by found)) (step number).types (renumbered new_ids m.place one.one) before
+      (below_both n (in_type (renumbered new_ids m.place one.one)) (behind place (renumbered new_ids m.place one.one)) named (new_behind n place new_ids m.place one.one followed)) (λ by. tt))
+      before)
+
+-- ---- scopes
+
+in_more : (n : ℕ) (lists : List SymbolList) (names : SymbolList) → AreBelow n (in_lists lists) → AreBelow n (in_names names) → AreBelow n (in_lists (lists ++ names ∷ []))
+in_more n [] names h k = below_both n (in_names names) [] k tt
+in_more n (first ∷ lists) names h k =
+    below_both n (in_names first) (in_lists (lists ++ names ∷ [])) (below_first n (in_names first) (in_lists lists) h) (in_more n lists names (below_last n (in_names first) (in_lists lists) h) k)
+
+pub interface_closed : (g : Environment) (interface : Interface) → length g.types.origins ≡ length g.types.types → IsClosedScope g → IsClosedInterface interface → AreTogether g.types interface.types
+    → IsClosedScope (with_interface g interface)
+interface_closed g interface paired h closed together =
+    let n = length (with_first g.types interface.types (length interface.types.types)).types in
+    let more = up_to_all g.types interface paired closed together 0 (omega arith) in
+    let b = closed_below n g h more in
+    record {
+      table = omega arith;
+      system = b.system;
+      types = types_merged g.types interface paired closed together (length interface.types.types) (omega arith) b.types;
+      predeclared = b.predeclared;
+      used = in_more n g.used _ b.used (new_items (λ x. x < length interface.types.types) n (ids_in g.types interface.types) (low_id g.types interface paired closed together)
+          _ [] interface.items tt closed.items);
+      blocks = b.blocks;
+    }
+
+pub overlay_closed : (g : Environment) → IsClosedScope g → IsClosedScope (with_overlay g)
+overlay_closed g h =
+    let n = length g.types.types in
+    let most = h.system in
+    let own : (ty : TypeId) → ty.0 < n → (new_id [] ty).0 < n = λ ty low. low in
+    record {
+      table = h.table;
+      system = h.system;
+      types = h.types;
+      predeclared = h.predeclared;
+      used = in_more n g.used _ h.used (new_items (λ x. x < n) n [] own (place_of g.units overlay) [] overlay_items tt
+          (omega arith, (omega arith, (omega arith, (omega arith, (omega arith, tt))))));
+      blocks = h.blocks;
+    }

@@ -1,0 +1,8 @@
+//! The laws on closed scopes of units that use others.
+
+ghost use Rattle.closed_scopes.specs.Scopes.{AreClosed};
+
+/// A scope is closed at its beginning, and stays so where it uses units whose interfaces are closed.
+pub fn scope_laws()
+    ensures { AreClosed }
+{}

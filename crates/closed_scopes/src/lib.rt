@@ -1,0 +1,6 @@
+//! The laws on closed scopes of units that use others.
+#![tactic(auto)]
+
+mod laws;
+
+pub use laws::scope_laws;

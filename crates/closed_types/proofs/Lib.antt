@@ -1,0 +1,10 @@
+pub mod Means
+pub mod Own
+pub mod Entering
+pub mod Reading
+pub mod Promising
+pub mod Denoting
+pub mod Objects
+pub mod Parts
+pub mod Closing
+pub mod Keeping

@@ -1,0 +1,6 @@
+//! The laws on types that declarations name.
+#![tactic(auto)]
+
+mod laws;
+
+pub use laws::closing_laws;

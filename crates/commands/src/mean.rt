@@ -1,0 +1,44 @@
+//! The command `mean`, before its last line.
+
+ghost use Rattle.std.specs.Prelude.{◌≡◌, ◌≤◌, unwrap_or};
+ghost use Rattle.commands.specs.Mean.{MeanDid};
+ghost use Rattle.commands.specs.World.{world};
+
+use front_end::typed_program;
+use mean_program::show_meaning;
+use outcomes::Outcome;
+use std::alloc::Global;
+use tp_outside::{Files, Sink, Source};
+use type_layout::Name;
+
+/// How many turns a program may take where the words don't say it.
+const TURNS: u64 = 1_000_000;
+
+/// Types the program of this name from its sources, and writes what it means on the whole input, within so many turns.
+pub fn mean<F: Files, S: Source, K: Sink, E: Sink>(
+    alloc: Global,
+    name: &Name,
+    turns: Option<u64>,
+    files: &mut F,
+    input: &mut S,
+    output: &mut K,
+    errors: &mut E,
+) -> Outcome
+    ensures did { MeanDid result name.now turns
+        (world (F.folder files.old) (F.faults files.old)
+        (S.remaining input.old) (K.contents output.old) (E.contents errors.old)
+        (S.faults input.old) (K.faults output.old) (E.faults errors.old))
+        (world (F.folder files.new) (F.faults files.new)
+        (S.remaining input.new) (K.contents output.new) (E.contents errors.new)
+        (S.faults input.new) (K.faults output.new) (E.faults errors.new)) }
+    ensures files_counted { F.faults files.old ≤ F.faults files.new }
+    ensures errors_counted { E.faults errors.old ≤ E.faults errors.new }
+{
+    match typed_program(alloc, name, files) {
+        Ok(program) => {
+            let turns = turns.unwrap_or(TURNS);
+            show_meaning(alloc, &program, turns, input, output, errors)
+        }
+        Err(outcome) => outcome,
+    }
+}

@@ -1,0 +1,124 @@
+-- Types as they are written.
+use Rattle.std.proofs.Common.{◌≡◌, ℕ, ◌+◌, ◌<◌, ◌≤◌, List, [], ◌∷◌, length, Option, Some, sym, subst, ap, ◌∙◌, arith}
+use Rattle.std.proofs.Math.IntN.{pos}
+use Rattle.std.specs.Prelude.{◌≤ℤ◌}
+use Rattle.std.proofs.lemmas.Int.{ints}
+use Rattle.type_layout.specs.declared.definitions.TypeId.{TypeId}
+use Rattle.type_layout.specs.declared.definitions.Field.{Field}
+use Rattle.type_layout.specs.declared.definitions.Host.TheVariants as host
+use Rattle.type_layout.specs.declared.definitions.TypeDef.{TypeDef}
+use Rattle.type_layout.specs.declared.texts.Place.{Place}
+use Rattle.typed_tree.specs.declared.expressions.Value.TheVariants as value
+use Rattle.well_formed.specs.Fits.{definition, stored_as}
+use Rattle.syntax_tree.specs.declared.identifier.Identifier.{Identifier}
+use Rattle.scopes.specs.declared.entries.Entry.TheVariants as entry
+use Rattle.scopes.specs.Environment.{Environment}
+use Rattle.constant_expressions.specs.declared.constants.Constant.{Constant}
+use Rattle.type_denoters.specs.Trees as tree
+use Rattle.type_denoters.specs.Trees.{Denoter, Denoters, Fields, no_denoters, and_denoter, no_fields, and_fields}
+use Rattle.type_denoters.specs.Additions.{Denoted}
+use Rattle.type_denoters.specs.Denoters.{Ground, Listed, Indexes, with_set, followed, range_of, values_entered, enumeration_of, string_of, array_of, arrays_of, judged, indexes_judged, fields_judged}
+use Rattle.typed_nodes.proofs.Ordinals.{holding, value_held}
+use Rattle.wider_scopes.proofs.Types.{more_kept, some_of}
+use Rattle.declared_names.specs.Declaring.{IsOfType, Declares}
+use Rattle.declared_names.proofs.Adding.{nothing, behind, entered_is, name_declares, added_declares, last_is}
+
+-- ---- subranges
+
+set_declares : (unit : List ℕ) (g h : Environment) (place : Place) (base : TypeId) → (with_set unit g place base).holds h → Declares g h
+set_declares unit g h place base k = subst (λ (e : Environment). Declares g e) (sym k.made) (added_declares unit g place _ _ k.part k.holds)
+
+followed_declares : (unit : List ℕ) (place : Place) (base : TypeId) (one made : Denoted) → (followed unit place base one).holds made → Declares one.scope made.scope
+followed_declares unit place base one made k = subst (λ (m : Denoted). Declares one.scope m.scope) (sym k.made) (set_declares unit one.scope k.part place base k.holds)
+
+range_declares : (unit : List ℕ) (g : Environment) (place : Place) (low high : Constant) (made : Denoted) → (range_of unit g place low high).holds made → Declares g made.scope
+unfolding range_of
+range_declares unit g place low high made k =
+    let ordinal = k.made in
+    behind g ordinal.part.scope made.scope (added_declares unit g place _ _ ordinal.part ordinal.holds) (followed_declares unit place _ ordinal.part made ordinal.made)
+
+-- ---- enumerations
+
+value_known : (types : List TypeDef) (ty : TypeId) (number : ℕ) → number < 256 → stored_as (definition types ty) ≡ Some host.Enumeration → IsOfType types (entry.Const ty (value.Number (pos number)))
+value_known types ty number h stored =
+    let least : pos 0 ≤ℤ pos number = omega (arith, ints) in
+    let most : pos number ≤ℤ pos 255 = omega (arith, ints, h) in
+    value_held types (definition types ty) host.Enumeration (pos number) stored (holding host.Enumeration (pos number) least most)
+
+values_declare : (g h : Environment) (ty : TypeId) (number : ℕ) (names : List Identifier) → number + length names ≤ 256 → stored_as (definition g.types.types ty) ≡ Some host.Enumeration
+    → (values_entered g ty number names).holds h → Declares g h
+values_declare g h ty number [] few stored k = subst (λ (e : Environment). Declares g e) (sym k) (nothing g)
+values_declare g h ty number (one ∷ rest) few stored k =
+    let below : number < 256 = omega (arith, few) in
+    let first = name_declares g k.part one.position.place one.name (entry.Const ty (value.Number (pos number))) (value_known g.types.types ty number below stored) k.holds in
+    let still : stored_as (definition k.part.types.types ty) ≡ Some host.Enumeration =
+    ap (λ (e : Environment). stored_as (definition e.types.types ty)) (entered_is g k.part one.position.place one.name (entry.Const ty (value.Number (pos number))) k.holds) ∙ stored in
+    behind g k.part h first (values_declare k.part h ty (number + 1) rest (omega (arith, few)) still k.made)
+
+enumeration_declares : (unit : List ℕ) (g : Environment) (place : Place) (names : List Identifier) (made : Denoted) → (enumeration_of unit g place names).holds made → Declares g made.scope
+unfolding enumeration_of
+enumeration_declares unit g place names made k =
+    let few = k.holds in
+    let small = few.asked in
+    let ordinal = k.made in
+    let over = ordinal.made in
+    let values = over.made in
+    let one = added_declares unit g place _ _ ordinal.part ordinal.holds in
+    let set = set_declares unit ordinal.part.scope over.part place ordinal.part.ty over.holds in
+    let back = set.more in
+    let before = last_is unit g place _ _ ordinal.part ordinal.holds in
+    let kept = more_kept ordinal.part.scope.types.types back.0 ordinal.part.ty (some_of (definition ordinal.part.scope.types.types ordinal.part.ty) _ before) in
+    let stored : stored_as (definition over.part.types.types ordinal.part.ty) ≡ Some host.Enumeration =
+    ap (λ (t : List TypeDef). stored_as (definition t ordinal.part.ty)) back.1 ∙ ap (λ (d : Option TypeDef). stored_as d) (kept ∙ before) in
+    let named = values_declare over.part values.part ordinal.part.ty 0 names (omega (arith, small)) stored values.holds in
+    let whole : Declares g values.part = behind g over.part values.part (behind g ordinal.part.scope over.part one set) named in
+    subst (λ (m : Denoted). Declares g m.scope) (sym values.made) whole
+
+-- ---- arrays and strings
+
+string_declares : (unit : List ℕ) (g : Environment) (place : Place) (size : Constant) (made : Denoted) → (string_of unit g place size).holds made → Declares g made.scope
+unfolding string_of
+string_declares unit g place size made k = added_declares unit g place _ _ made k.made
+
+array_declares : (unit : List ℕ) (g : Environment) (place : Place) (index element : TypeId) (made : Denoted) → (array_of unit g place index element).holds made → Declares g made.scope
+unfolding array_of
+array_declares unit g place index element made k = added_declares unit g place _ _ made k.made
+
+arrays_declare : (unit : List ℕ) (place : Place) (all : List TypeId) (element made : Denoted) → (arrays_of unit place all element).holds made → Declares element.scope made.scope
+arrays_declare unit place [] element made k = subst (λ (m : Denoted). Declares element.scope m.scope) (sym k) (nothing element.scope)
+arrays_declare unit place (index ∷ rest) element made k =
+    behind element.scope k.part.scope made.scope (array_declares unit element.scope place index element.ty k.part k.holds) (arrays_declare unit place rest k.part made k.made)
+
+-- ---- all types
+
+mutual
+  pub type_declares : (d : Denoter) (on : Ground) (g : Environment) (made : Denoted) → (judged on g d).holds made → Declares g made.scope
+  type_declares (tree.named one) on g made k = subst (λ (m : Denoted). Declares g m.scope) (sym k.made) (nothing g)
+  type_declares (tree.range low high) on g made k = range_declares on.unit g _ k.left k.right made k.made
+  type_declares (tree.enumeration place all) on g made k = enumeration_declares on.unit g place all made k
+  type_declares (tree.pointer one) on g made k = added_declares on.unit g one.position.place _ _ made k.made
+  type_declares tree.string on g made k = subst (λ (m : Denoted). Declares g m.scope) (sym k) (nothing g)
+  type_declares (tree.sized place size) on g made k = string_declares on.unit g place k.part made k.made
+  type_declares (tree.procedure place groups) on g made k = added_declares on.unit g place _ _ made k.made
+  type_declares (tree.function place groups result) on g made k = added_declares on.unit g place _ _ made k.made
+  type_declares (tree.object place ancestor all methods) on g made k = absurd k
+  type_declares (tree.array place all element) on g made k =
+      let inner = k.made in
+      let first = indexes_declare all on g [] k.part k.holds in
+      let second = type_declares element on k.part.scope inner.part inner.holds in
+      behind g inner.part.scope made.scope (behind g k.part.scope inner.part.scope first second) (arrays_declare on.unit place k.part.types inner.part made inner.made)
+  type_declares (tree.record_of place all) on g made k =
+      behind g k.part.scope made.scope (fields_declare all on g [] k.part k.holds) (added_declares on.unit k.part.scope place _ _ made k.made)
+  type_declares (tree.set place element) on g made k =
+      behind g k.part.scope made.scope (type_declares element on g k.part k.holds) (added_declares on.unit k.part.scope place _ _ made k.made)
+
+  indexes_declare : (all : Denoters) (on : Ground) (g : Environment) (before : List TypeId) (i : Indexes) → (indexes_judged on g before all).holds i → Declares g i.scope
+  indexes_declare no_denoters on g before i k = subst (λ (x : Indexes). Declares g x.scope) (sym k) (nothing g)
+  indexes_declare (and_denoter one rest) on g before i k =
+      behind g k.part.scope i.scope (type_declares one on g k.part k.holds) (indexes_declare rest on k.part.scope (k.part.ty ∷ before) i k.made)
+
+  pub fields_declare : (all : Fields) (on : Ground) (g : Environment) (before : List Field) (l : Listed) → (fields_judged on g before all).holds l → Declares g l.scope
+  fields_declare no_fields on g before l k = subst (λ (x : Listed). Declares g x.scope) (sym k) (nothing g)
+  fields_declare (and_fields names one rest) on g before l k =
+      let inner = k.made in
+      behind g k.part.scope l.scope (type_declares one on g k.part k.holds) (fields_declare rest on k.part.scope inner.part l inner.made)

@@ -1,0 +1,36 @@
+-- What declarations of types add to a scope.
+use Rattle.std.specs.Prelude.{◌≡◌, List, [], ◌∷◌, ◌++◌}
+use Rattle.type_layout.specs.declared.definitions.TypeDef.{TypeDef}
+use Rattle.type_layout.specs.Table.{Table}
+use Rattle.typed_tree.specs.declared.expressions.Value.TheVariants as value
+use Rattle.well_formed.specs.Fits.{definition, IsValue}
+use Rattle.scopes.specs.declared.entries.Entry.{Entry}
+use Rattle.scopes.specs.declared.entries.Entry.TheVariants as entry
+use Rattle.scopes.specs.Symbols.{SymbolList}
+use Rattle.scopes.specs.Environment.{Environment, with_name}
+
+-- the same with another table
+abbrev pub typing : Environment → Table → Environment
+typing g types = record g { types = types }
+
+-- further names in the innermost block
+abbrev pub with_names : Environment → SymbolList → Environment
+with_names g [] = g
+with_names g (one ∷ rest) = with_names (with_name g one.0 one.1) rest
+
+-- the name of a type, or of a value of an enumeration
+abbrev pub IsOfType : List TypeDef → Entry → Type 0
+IsOfType types (entry.Ty ty) = Unit {0}
+IsOfType types (entry.Const ty (value.Number n)) = IsValue types (value.Number n) (definition types ty)
+IsOfType types _ = ⊥
+
+abbrev pub AreOfTypes : List TypeDef → SymbolList → Type 0
+AreOfTypes types [] = Unit {0}
+AreOfTypes types (one ∷ rest) = IsOfType types one.1 × AreOfTypes types rest
+
+-- Types at the end of the table, and such names in the innermost block.
+pub record Declares (g h : Environment) : Type 0 where
+  pub names : SymbolList
+  pub whole : h ≡ with_names (typing g h.types) names
+  pub more : (back : List TypeDef) × (h.types.types ≡ g.types.types ++ back)
+  pub known : AreOfTypes h.types.types names

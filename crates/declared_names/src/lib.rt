@@ -1,0 +1,6 @@
+//! Declarations of types add types, and names of types and of values.
+#![tactic(auto)]
+
+mod laws;
+
+pub use laws::type_name_laws;

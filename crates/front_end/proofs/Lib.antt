@@ -1,0 +1,3 @@
+pub mod Zipped
+pub mod Steps
+pub mod Whys

@@ -1,0 +1,122 @@
+-- What each step answers, over plain variables.
+use Rattle.std.proofs.Common.{◌≡◌, ◌⊎◌, ℕ, ◌+◌, ◌<◌, ◌≤◌, List, Result, Ok, Err, IfOk, IfErr, Some, Contains, length, get_or, sym, ap, ◌∙◌, subst, inl, inr}
+use Rattle.std.specs.Prelude.{slice_get}
+use Rattle.std.specs.List.{AllZip}
+use Rattle.std.proofs.lemmas.Option.{slice_get_within, get_or_from_slice_get}
+use Rattle.tp_lexer.specs.declared.token.Text.{Text}
+use Rattle.typed_tree.specs.declared.units.Unit.{Unit}
+use Rattle.typed_tree.specs.declared.units.Program.{Program}
+use Rattle.object_vmt.specs.declared.faults.ClassError.{ClassError}
+use Rattle.object_vmt.specs.Dispatch.{IsCause}
+use Rattle.syntax_tree.specs.declared.identifier.Identifier.{Identifier}
+use Rattle.source_tree.specs.Sources.{used}
+use Rattle.source_gathering.specs.declared.sources.Source.{Source}
+use Rattle.scopes.specs.Environment.{Environment}
+use Rattle.typing_rules.specs.declared.faults.CheckError.{CheckError}
+use Rattle.typing_rules.specs.declared.faults.Fault.{Fault}
+use Rattle.typing_rules.specs.Faults.{Tells, error_of}
+use Rattle.unit_interface.specs.declared.interfaces.Interface.{Interface}
+use Rattle.unit_interface.specs.declared.order.OrderError.{OrderError}
+use Rattle.unit_interface.specs.Order.{start_order, IsCause as IsOrderCause}
+use Rattle.source_order.specs.Orders.{all_uses}
+use Rattle.tp_check_decl.specs.Units.{view_unit}
+use Rattle.tp_check_decl.specs.Checked.{IsTypedAs, FailsAt}
+use Rattle.outcomes.specs.declared.outcome.Outcome.{Outcome}
+use Rattle.outcomes.specs.declared.outcome.Outcome.TheVariants as outcome
+use Rattle.outcomes.specs.declared.refusal.Refusal.TheVariants as refusal
+use Rattle.outcomes.specs.declared.refusal.What.TheVariants as what
+use Rattle.refusals.specs.Outcomes.{order_outcome, check_outcome, class_outcome}
+use Rattle.source_interfaces.specs.Scopes.{known, AreThere, KnowsNothing}
+use Rattle.source_interfaces.specs.Kinds.{AreOfKinds, IsOfWrongKind}
+use Rattle.source_interfaces.specs.Interfaces.{AreInterfaces, IsAcyclic, LacksInterface}
+use Rattle.source_interfaces.proofs.Steps.{no_memory_known}
+use Rattle.front_end.specs.Typed.{sources_at, IsUnitOf, AreUnits, AreLawful, IsProgram}
+use Rattle.front_end.specs.Untyped.{IsNoUnit, LacksUnit, HasWrongClass, AreUntyped}
+
+-- ---- the typed unit of a source
+
+pub unit_by : (have : List Interface) (source : Source) (uses : List Identifier) (scope : Environment) (unit : Unit) → uses ≡ used source.tree → scope ≡ known have source.name uses → AreThere have uses
+    → IsTypedAs source.name source.says scope source.tree (view_unit unit) → IsUnitOf have source unit
+unit_by have source uses scope unit all is there typed = record {
+  there = subst (AreThere have) all there;
+  typed = subst (λ (g : Environment). IsTypedAs source.name source.says g source.tree (view_unit unit)) (is ∙ ap (known have source.name) all) typed;
+}
+
+pub unit_knows_nothing : (texts : List Text) (have : List Interface) (source : Source) (uses : List Identifier) (result : Outcome) → uses ≡ used source.tree → KnowsNothing texts have source.name uses result
+    → IsNoUnit texts have source result
+unit_knows_nothing texts have source uses result all why = inl (subst (λ (each : List Identifier). KnowsNothing texts have source.name each result) all why)
+
+pub fails_inside : (texts : List Text) (have : List Interface) (source : Source) (uses : List Identifier) (scope : Environment) (error : CheckError) (result : Outcome) → uses ≡ used source.tree → scope ≡ known have source.name uses
+    → Tells (FailsAt source.name source.says scope source.tree) error → result ≡ check_outcome texts error → IsNoUnit texts have source result
+fails_inside texts have source uses scope error result all known_is tells is =
+    inr (record {
+      error = error;
+      tells = subst (λ (g : Environment). Tells (FailsAt source.name source.says g source.tree) error) (known_is ∙ ap (known have source.name) all) tells;
+      is = is;
+    })
+
+contains_at : (sources : List Source) (place : ℕ) (source : Source) → slice_get sources place ≡ Some source → Contains sources source
+contains_at sources place source at = (place, slice_get_within sources place source at, get_or_from_slice_get sources place source source at)
+
+pub lacks_unit : (texts : List Text) (sources : List Source) (have : List Interface) (place : ℕ) (source : Source) (result : Outcome) → slice_get sources place ≡ Some source → IsNoUnit texts have source result → LacksUnit texts sources have result
+lacks_unit texts sources have place source result at why = record { source = source; one = contains_at sources place source at; cause = why }
+
+pub lacks_unit_memory : (texts : List Text) (sources : List Source) (have : List Interface) (place : ℕ) (source : Source) (result : Outcome) → slice_get sources place ≡ Some source → result ≡ outcome.NoMemory → LacksUnit texts sources have result
+lacks_unit_memory texts sources have place source result at memory = lacks_unit texts sources have place source result at (inl (no_memory_known texts have source.name (used source.tree) result memory))
+
+pub wrong_class : (units : List Unit) (place : ℕ) (unit : Unit) (error : ClassError) (result : Outcome) → place < length units → unit ≡ get_or units place unit → IsCause unit.types.types error → result ≡ class_outcome error
+    → HasWrongClass units result
+wrong_class units place unit error result below is cause told = record { unit = unit; one = (place, below, sym is); error = error; cause = cause; is = told }
+
+-- ---- the whole
+
+pub no_order : (texts : List Text) (sources : List Source) (error : OrderError) (result : Outcome) → IsOrderCause (all_uses sources) error → result ≡ order_outcome error → AreUntyped texts sources result
+no_order texts sources error result cause is = inl (record { error = error; cause = cause; is = is })
+
+pub wrong_kind : (texts : List Text) (sources : List Source) (fault : Fault) (error : CheckError) (result : Outcome) → IsAcyclic sources → IsOfWrongKind sources fault → error ≡ error_of fault → result ≡ check_outcome texts error
+    → AreUntyped texts sources result
+wrong_kind texts sources fault error result acyclic wrong told is = inr (inl (record { acyclic = acyclic; fault = fault; wrong = wrong; is = is ∙ ap (check_outcome texts) told }))
+
+pub no_interfaces : (texts : List Text) (sources : List Source) (result : Outcome) → IsAcyclic sources → AreOfKinds sources → LacksInterface texts sources result → AreUntyped texts sources result
+no_interfaces texts sources result acyclic kinds lacks = inr (inr (inl (record { acyclic = acyclic; kinds = kinds; lacks = lacks })))
+
+pub no_units : (texts : List Text) (sources : List Source) (have : List Interface) (result : Outcome) → IsAcyclic sources → AreOfKinds sources → AreInterfaces sources have → LacksUnit texts sources have result
+    → AreUntyped texts sources result
+no_units texts sources have result acyclic kinds interfaces lacks = inr (inr (inr (inl (record { acyclic = acyclic; kinds = kinds; have = have; interfaces = interfaces; lacks = lacks }))))
+
+pub are_units : (sources : List Source) (have : List Interface) (order : List ℕ) (units : List Unit) → IsAcyclic sources → AreOfKinds sources → AreInterfaces sources have → order ≡ start_order (all_uses sources) 0
+    → AllZip (IsUnitOf have) (sources_at sources order) units → AreUnits sources units
+are_units sources have order units acyclic kinds interfaces is typed = record {
+  acyclic = acyclic;
+  kinds = kinds;
+  have = have;
+  interfaces = interfaces;
+  typed = subst (λ (places : List ℕ). AllZip (IsUnitOf have) (sources_at sources places) units) is typed;
+}
+
+pub wrong_classes : (texts : List Text) (sources : List Source) (have : List Interface) (order : List ℕ) (units : List Unit) (result : Outcome) → IsAcyclic sources → AreOfKinds sources → AreInterfaces sources have
+    → order ≡ start_order (all_uses sources) 0 → AllZip (IsUnitOf have) (sources_at sources order) units → HasWrongClass units result → AreUntyped texts sources result
+wrong_classes texts sources have order units result acyclic kinds interfaces is typed wrong =
+    inr (inr (inr (inr (inl (record { units = units; are = are_units sources have order units acyclic kinds interfaces is typed; wrong = wrong })))))
+
+pub program_by : (sources : List Source) (have : List Interface) (order : List ℕ) (units : List Unit) (result : Result Program Outcome) → IsAcyclic sources → AreOfKinds sources → AreInterfaces sources have
+    → order ≡ start_order (all_uses sources) 0 → AllZip (IsUnitOf have) (sources_at sources order) units → AreLawful units
+    → IfOk result (λ program. (program.units ≡ units) × (program.start + 1 ≡ length units)) → IfOk result (λ program. length units ≤ 256) → IfOk result (IsProgram sources)
+program_by sources have order units (Err error) acyclic kinds interfaces is typed lawful last few = tt
+program_by sources have order units (Ok program) acyclic kinds interfaces is typed lawful last few = record {
+  units = subst (AreUnits sources) (sym last.0) (are_units sources have order units acyclic kinds interfaces is typed);
+  lawful = subst AreLawful (sym last.0) lawful;
+  few = subst (λ (all : List Unit). length all ≤ 256) (sym last.0) few;
+  last = last.1 ∙ ap (λ (all : List Unit). length all) (sym last.0);
+}
+
+pub untyped_by : (texts : List Text) (sources : List Source) (have : List Interface) (order : List ℕ) (units : List Unit) (result : Result Program Outcome) → IsAcyclic sources → AreOfKinds sources → AreInterfaces sources have
+    → order ≡ start_order (all_uses sources) 0 → AllZip (IsUnitOf have) (sources_at sources order) units → AreLawful units
+    → IfErr result (λ error. ((256 < length units) × (error ≡ outcome.Refused (refusal.TooLarge what.Units (length units)))) ⊎ (error ≡ outcome.NoMemory)) → IfErr result (AreUntyped texts sources)
+untyped_by texts sources have order units (Ok program) acyclic kinds interfaces is typed lawful why = tt
+untyped_by texts sources have order units (Err error) acyclic kinds interfaces is typed lawful (inl many) =
+    inr (inr (inr (inr (inr (inl (record { units = units; are = are_units sources have order units acyclic kinds interfaces is typed; lawful = lawful; many = many.0; is = many.1 }))))))
+untyped_by texts sources have order units (Err error) acyclic kinds interfaces is typed lawful (inr memory) = inr (inr (inr (inr (inr (inr memory)))))
+
+pub untyped_memory : (texts : List Text) (sources : List Source) (result : Outcome) → result ≡ outcome.NoMemory → AreUntyped texts sources result
+untyped_memory texts sources result memory = inr (inr (inr (inr (inr (inr memory)))))

@@ -1,0 +1,60 @@
+-- The typed program that sources are.
+use Rattle.std.specs.Prelude.{◌≡◌, ◌≤◌, ℕ, ◌+◌, List, [], ◌∷◌, ◌++◌, length, slice_get}
+use Rattle.std.specs.List.{All, AllZip}
+use Rattle.std.specs.Option.{option_to_list}
+use Rattle.tp_outside.specs.Folder.{Folder}
+use Rattle.tp_lexer.specs.declared.token.Text.{Text}
+use Rattle.typed_tree.specs.declared.units.Unit.{Unit}
+use Rattle.typed_tree.specs.declared.units.Program.{Program}
+use Rattle.object_vmt.specs.Dispatch.{IsLawful}
+use Rattle.source_tree.specs.Sources.{used}
+use Rattle.source_gathering.specs.declared.sources.Source.{Source}
+use Rattle.source_gathering.specs.Walk.{Gathers}
+use Rattle.unit_interface.specs.declared.interfaces.Interface.{Interface}
+use Rattle.unit_interface.specs.Order.{start_order}
+use Rattle.source_order.specs.Orders.{all_uses}
+use Rattle.tp_check_decl.specs.Units.{view_unit}
+use Rattle.tp_check_decl.specs.Checked.{IsTypedAs}
+use Rattle.source_interfaces.specs.Scopes.{whole_scope, AreThere}
+use Rattle.source_interfaces.specs.Kinds.{AreOfKinds}
+use Rattle.source_interfaces.specs.Interfaces.{AreInterfaces, IsAcyclic}
+
+-- the sources at these places
+abbrev pub sources_at : List Source → List ℕ → List Source
+sources_at sources [] = []
+sources_at sources (place ∷ places) = option_to_list (slice_get sources place) ++ sources_at sources places
+
+-- the sources in order of initialisation, the program last
+abbrev pub in_order : List Source → List Source
+in_order sources = sources_at sources (start_order (all_uses sources) 0)
+
+-- The typed unit is that of a source: every rule holds in it, over what is known by the interfaces.
+pub record IsUnitOf (have : List Interface) (source : Source) (unit : Unit) : Type 0 where
+  pub there : AreThere have (used source.tree)
+  pub typed : IsTypedAs source.name source.says (whole_scope have source) source.tree (view_unit unit)
+
+-- the units of all sources, in order of initialisation
+pub record AreUnits (sources : List Source) (units : List Unit) : Type 0 where
+  pub acyclic : IsAcyclic sources
+  pub kinds : AreOfKinds sources
+  pub have : List Interface
+  pub interfaces : AreInterfaces sources have
+  pub typed : AllZip (IsUnitOf have) (in_order sources) units
+
+-- fields and methods of object types keep the rules on lines
+abbrev pub AreLawful : List Unit → Type 0
+AreLawful units = All (λ unit. IsLawful unit.types.types) units
+
+-- The typed program that the sources are: their units in order of initialisation, at most 256, the program itself last.
+pub record IsProgram (sources : List Source) (program : Program) : Type 0 where
+  pub units : AreUnits sources program.units
+  pub lawful : AreLawful program.units
+  pub few : length program.units ≤ 256
+  pub last : program.start + 1 ≡ length program.units
+
+-- The program of this name, by the files of a folder.
+pub record IsProgramIn (held : Folder) (name : List ℕ) (program : Program) : Type 0 where
+  pub texts : List Text
+  pub sources : List Source
+  pub gathers : Gathers held name texts sources
+  pub is : IsProgram sources program

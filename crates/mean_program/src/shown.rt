@@ -1,0 +1,89 @@
+//! What a program means on an input, written to the output and the errors.
+
+ghost use Rattle.std.specs.Prelude.{◌≡◌, ◌≤◌, IfOk, IfErr, OnErr};
+ghost use Rattle.tp_outside.specs.Faults.{HasRisen};
+ghost use Rattle.tp_outside.specs.Streams.{GaveSome};
+ghost use Rattle.behaviour.specs.Seen.{Seen};
+ghost use Rattle.interpreter.specs.Whole.{view_end, view_meaning};
+ghost use Rattle.whole_input.specs.Input.{IsWhole};
+ghost use Rattle.mean_program.specs.Shown.{streams, outcome_of, IsUnread, Writes, Shows};
+
+use interpreter::{MeanEnd, Meaning, mean};
+use outcomes::{Outcome, Refusal, What};
+use std::alloc::Global;
+use tp_outside::{Sink, Source, write_all};
+use typed_tree::Program;
+use whole_input::{InputError, whole_input};
+
+fn read_input<S: Source>(alloc: Global, input: &mut S) -> Result<Vec<u8>, Outcome>
+    ensures whole { IfOk result (λ bytes. IsWhole (S.remaining input.old) (S.remaining input.new) bytes.items) }
+    ensures unread { IfErr result (IsUnread (S.remaining input.old) (S.remaining input.new) (S.faults input.old) (S.faults input.new)) }
+    ensures counted { S.faults input.old ≤ S.faults input.new }
+{
+    match whole_input(alloc, input) {
+        Ok(bytes) => Ok(bytes),
+        Err(InputError::TooLarge { bytes }) => Err(Outcome::Refused(Refusal::TooLarge {
+            what: What::Input,
+            number: bytes,
+        })),
+        Err(InputError::Failed) => Err(Outcome::InputFault),
+        Err(InputError::NoMemory) => Err(Outcome::NoMemory),
+    }
+}
+
+/// The outcome by how the meaning stands.
+fn outcome_of(end: MeanEnd) -> Outcome
+    ensures { result ≡ outcome_of (view_end end) }
+{
+    match end {
+        MeanEnd::Ended(code) => Outcome::Program { code },
+        MeanEnd::Going => Outcome::TurnLimit,
+        MeanEnd::Undefined(act) => Outcome::Undefined { act },
+        MeanEnd::Stopped => Outcome::Stuck,
+    }
+}
+
+/// Writes what the meaning writes, to the output first.
+fn write_meaning<K: Sink, E: Sink>(meaning: &Meaning, output: &mut K, errors: &mut E) -> Outcome
+    ensures written { Writes (view_meaning meaning.now) result
+        (streams (K.contents output.old) (E.contents errors.old) (K.faults output.old) (E.faults errors.old))
+        (streams (K.contents output.new) (E.contents errors.new) (K.faults output.new) (E.faults errors.new)) }
+    ensures output_counted { K.faults output.old ≤ K.faults output.new }
+    ensures errors_counted { E.faults errors.old ≤ E.faults errors.new }
+{
+    match write_all(output, meaning.out.as_slice()) {
+        Ok(()) => match write_all(errors, meaning.err.as_slice()) {
+            Ok(()) => outcome_of(meaning.end),
+            Err(_) => Outcome::ErrorsFault,
+        },
+        Err(_) => Outcome::OutputFault,
+    }
+}
+
+/// Reads the whole input, and writes what the program writes on it within so many turns, as its meaning has it. The outcome is how
+/// that stands, or why the input was not read, or a fault of a sink.
+pub fn show_meaning<S: Source, K: Sink, E: Sink>(
+    alloc: Global,
+    program: &Program,
+    turns: u64,
+    input: &mut S,
+    output: &mut K,
+    errors: &mut E,
+) -> Outcome
+    ensures shown { Shows program.now turns result
+        (S.remaining input.old) (S.remaining input.new) (S.faults input.old) (S.faults input.new)
+        (streams (K.contents output.old) (E.contents errors.old) (K.faults output.old) (E.faults errors.old))
+        (streams (K.contents output.new) (E.contents errors.new) (K.faults output.new) (E.faults errors.new)) }
+    ensures input_counted { S.faults input.old ≤ S.faults input.new }
+    ensures output_counted { K.faults output.old ≤ K.faults output.new }
+    ensures errors_counted { E.faults errors.old ≤ E.faults errors.new }
+{
+    let bytes = match read_input(alloc, input) {
+        Ok(bytes) => bytes,
+        Err(outcome) => return outcome,
+    };
+    match mean(alloc, program, bytes.as_slice(), turns) {
+        Ok(meaning) => write_meaning(&meaning, output, errors),
+        Err(_) => Outcome::NoMemory,
+    }
+}

@@ -1,0 +1,5 @@
+mod Sources
+mod Alike
+mod Fronts
+mod Programs
+mod Missing

@@ -1,0 +1,39 @@
+-- What follows for the sources of every program.
+use Rattle.std.specs.Prelude.{◌≡◌, ℕ, List, map}
+use Rattle.tp_outside.specs.Folder.{Folder}
+use Rattle.tp_lexer.specs.declared.token.Text.{Text}
+use Rattle.typed_tree.specs.declared.units.Program.{Program}
+use Rattle.source_gathering.specs.declared.sources.Source.{Source}
+use Rattle.source_gathering.specs.Walk.{Gathers}
+use Rattle.tp_check_decl.specs.Units.{view_unit}
+use Rattle.outcomes.specs.declared.outcome.Outcome.{Outcome}
+use Rattle.outcomes.specs.declared.outcome.Outcome.TheVariants as outcome
+use Rattle.outcomes.specs.declared.refusal.Refusal.TheVariants as refusal
+use Rattle.front_end.specs.Typed.{IsProgram}
+use Rattle.front_end.specs.Untyped.{AreUntyped}
+
+-- the same program, without where its statements lie in memory
+pub record IsSame (one other : Program) : Type 0 where
+  pub units : map view_unit one.units ≡ map view_unit other.units
+  pub start : one.start ≡ other.start
+
+-- Sources are one program at most.
+abbrev pub OneProgram : Type 0
+OneProgram = (held : Folder) (name : List ℕ) (texts : List Text) (sources : List Source) → Gathers held name texts sources
+    → (one other : Program) → IsProgram sources one → IsProgram sources other → IsSame one other
+
+-- what is told of no rule: want of memory, and interfaces that do not fit
+abbrev pub IsFree : Outcome → Type 0
+IsFree outcome.NoMemory = Unit {0}
+IsFree (outcome.Refused (refusal.VersionMismatch unit import)) = Unit {0}
+IsFree other = ⊥
+
+-- Where sources are a program, no rule is told of.
+abbrev pub IsComplete : Type 0
+IsComplete = (held : Folder) (name : List ℕ) (texts : List Text) (sources : List Source) → Gathers held name texts sources
+    → (program : Program) → IsProgram sources program → (result : Outcome) → AreUntyped texts sources result → IsFree result
+
+-- All that sources use was gathered with them, so no file is missing.
+abbrev pub NoneIsMissing : Type 0
+NoneIsMissing = (held : Folder) (name : List ℕ) (texts : List Text) (sources : List Source) → Gathers held name texts sources
+    → (file : List ℕ) → AreUntyped texts sources (outcome.Refused (refusal.MissingFile file)) → ⊥

@@ -1,0 +1,6 @@
+//! Laws of typed programs.
+#![tactic(auto)]
+
+mod laws;
+
+pub use laws::program_laws;

@@ -1,0 +1,72 @@
+-- The example is a program of one unit that refers only to itself.
+use Rattle.std.proofs.Common.{◌≡◌, ℕ, zero, suc, Bool, List, Some, refl, sym, ap, subst, ◌∙◌}
+use Rattle.std.specs.Prelude.{Option, slice_get}
+use Rattle.std.proofs.lemmas.Option.{same_Some}
+use Rattle.type_layout.specs.declared.definitions.TypeId.{TypeId}
+use Rattle.type_layout.specs.declared.definitions.Field.{Field}
+use Rattle.type_layout.specs.declared.definitions.Method.{Method}
+use Rattle.type_layout.specs.declared.definitions.TypeDef.TheVariants as type
+use Rattle.typed_tree.specs.declared.units.Routine.{Routine}
+use Rattle.typed_tree.specs.Statements.{view_stmt}
+use Rattle.object_vmt.specs.Members.{members_of, members_in}
+use Rattle.object_vmt.specs.Dispatch.{AreAnsweredAlike}
+use Rattle.well_formed.specs.WellFormed.{scope_in}
+use Rattle.meaning.specs.Trees.{Key}
+use Rattle.meaning.specs.ShownCalls.{Boxed}
+use Rattle.declared_types.specs.Declared.{declared}
+use Rattle.typed_programs.specs.WellTyped.{IsSoundUnit, IsWellTyped}
+use Rattle.typed_programs.specs.Example.{table, main_part, counting, counting_program}
+use Rattle.typed_programs.proofs.Counting.{can_be_met}
+use Rattle.own_references.specs.Own.{IsOwnStatement}
+use Rattle.own_references.specs.Laws.{site_in, IsAlone}
+use Rattle.single_programs.specs.Laws.{DeclaresItsTypes, CanBeAlone}
+
+first_origin : (n : ℕ) (key : Key) → declared table (record { 0 = n }) ≡ Some key → n ≡ 0
+first_origin zero key e = refl
+first_origin (suc n) key e = absurd cc
+
+apart : (a b : TypeId) (key : Key) → declared table a ≡ Some key → declared table b ≡ Some key → a ≡ b
+apart a b key ea eb = ap (λ (n : ℕ). record { 0 = n }) (first_origin a.0 key ea ∙ sym (first_origin b.0 key eb))
+
+module _ (b : Boxed) where
+  origin : (n : ℕ) (key : Key) → declared table (record { 0 = n }) ≡ Some key → key.unit ≡ (counting b).name
+  origin zero key e = ap (λ (k : Key). k.unit) (sym (same_Some (record { unit = (counting b).name; number = 0 }) key e))
+  origin (suc n) key e = absurd cc
+
+  no_answer : (n : ℕ) → AreAnsweredAlike (members_in (members_of table.types) (record { 0 = n })).methods
+  no_answer zero name first last e e' = absurd cc
+  no_answer (suc n) name first last e e' = absurd cc
+
+  no_object : (n : ℕ) (parent : Option TypeId) (dynamic : Bool) (fields : List Field) (methods : List Method) → slice_get table.types n ≡ Some (type.ObjectOf parent dynamic fields methods) → ⊥
+  no_object zero parent dynamic fields methods e = cc
+  no_object (suc n) parent dynamic fields methods e = cc
+
+  declares : DeclaresItsTypes (counting b)
+  declares = record {
+    origins = λ ty key e. origin ty.0 key e;
+    answers = λ class. no_answer class.0;
+    methods = λ class parent dynamic fields methods place method e at. absurd (no_object class.0 parent dynamic fields methods e);
+  }
+
+  body : (number : ℕ) (routine : Routine) → slice_get (counting b).routines number ≡ Some routine
+      → IsOwnStatement (site_in (counting_program b) (counting b) number) (scope_in (counting b) number) (view_stmt routine.body)
+  body zero routine e =
+      subst (λ (r : Routine). IsOwnStatement (site_in (counting_program b) (counting b) 0) (scope_in (counting b) 0) (view_stmt r.body)) (same_Some (main_part b) routine e)
+      ((λ level. refl), ((λ level. refl), tt))
+  body (suc number) routine e = absurd cc
+
+  alone : IsAlone (counting_program b) (counting b)
+  alone =
+      let met : IsWellTyped (counting_program b) = can_be_met b in
+      let unit : IsSoundUnit (counting_program b) (counting b) = met.units (counting b) refl in
+      record {
+        single = record { units = refl; lawful = met.agreed.lawful (counting b) refl; apart = apart };
+        own = unit.own;
+        well_formed = unit.well_formed;
+        globals = unit.globals;
+        routines = unit.routines;
+        bodies = body;
+      }
+
+pub can_be_alone : CanBeAlone
+can_be_alone b = (alone b, declares b)

@@ -1,0 +1,97 @@
+-- A program of one unit is well-typed.
+use Rattle.std.proofs.Common.{◌≡◌, ℕ, Bool, true, false, List, [], Some, None, refl, sym, ap, subst, ◌∙◌}
+use Rattle.std.specs.Prelude.{Option, Ok, slice_get, if◌then◌else◌}
+use Rattle.std.specs.Option.{option_map}
+use Rattle.std.specs.Cmp.Lexicographic.{bytes_decides}
+use Rattle.std.proofs.lemmas.Option.{same_Some}
+use Rattle.type_layout.specs.declared.definitions.TypeId.{TypeId}
+use Rattle.type_layout.specs.declared.definitions.Method.{Method}
+use Rattle.type_layout.specs.declared.definitions.TypeDef.TheVariants as type
+use Rattle.type_layout.specs.Words.{same_bytes}
+use Rattle.type_layout.specs.Table.{Table}
+use Rattle.typed_tree.specs.declared.units.Routine.{Routine}
+use Rattle.typed_tree.specs.declared.units.Unit.{Unit as TypedUnit}
+use Rattle.typed_tree.specs.declared.units.Program.{Program}
+use Rattle.object_vmt.specs.Dispatch.{AnswersAlike}
+use Rattle.meaning.specs.Trees.{Key}
+use Rattle.meaning.specs.Found.{◌>>=◌, known}
+use Rattle.meaning.specs.Programs.{Sort, definition, sort_in, class_key, method_key, unit_in}
+use Rattle.meaning.specs.Activations.{callee_of}
+use Rattle.declared_types.specs.Declared.{declared, declared_header}
+use Rattle.declared_types.specs.Agreement.{IsUnit, IsKnown, AreAgreed}
+use Rattle.sound_stores.proofs.Seen.{header_same}
+use Rattle.single_units.proofs.Single.{single_agrees}
+use Rattle.typed_programs.specs.Outcomes.{world}
+use Rattle.typed_programs.specs.WellTyped.{IsMethod}
+use Rattle.declared_methods.specs.Laws.{HasLawfulMethods}
+use Rattle.declared_methods.proofs.Whole.{has_methods}
+use Rattle.declared_classes.specs.Laws.{HasDeclarers}
+use Rattle.declared_classes.proofs.Found.{has_classes}
+use Rattle.own_references.specs.Laws.{IsAlone}
+use Rattle.own_references.proofs.Statements.{alone_is_well_typed}
+use Rattle.sound_programs.proofs.Runs.{never_stop}
+use Rattle.single_programs.specs.Laws.{IsOwnMethod, DeclaresItsTypes, AloneNeverStops}
+
+module _ (program : Program) (unit : TypedUnit) (alone : IsAlone program unit) (own : DeclaresItsTypes unit) where
+  only : (other : TypedUnit) → IsUnit program other → other ≡ unit
+  only other is = by (same_bytes other.name unit.name) (subst (λ (units : List TypedUnit). unit_in units other.name ≡ Some other) alone.single.units is) where
+    by : (test : Bool) → (if test then Some unit else None) ≡ Some other → other ≡ unit
+    by true e = sym (same_Some unit other e)
+    by false e = absurd cc
+
+  listed : IsUnit program unit
+  listed =
+      subst (λ (units : List TypedUnit). unit_in units unit.name ≡ Some unit) (sym alone.single.units)
+      (ap (λ (b : Bool). if b then Some unit else None) ((bytes_decides unit.name unit.name).1 refl))
+
+  agreed : AreAgreed program
+  agreed = single_agrees program unit alone.single
+
+  -- a type of the program is one of the unit's table
+  own_sort : (sort : Sort) → IsKnown program sort → sort ≡ sort_in unit sort.ty
+  own_sort sort ks = ap (λ (t : Table). record { table = t; ty = sort.ty }) (ks.table ∙ ap (λ (u : TypedUnit). u.types) (only ks.unit ks.listed))
+
+  declarers : HasDeclarers program
+  declarers = record {
+    declarers = λ sort class ks object e.
+        let here : declared unit.types sort.ty ≡ Some class = subst (λ (s : Sort). class_key s ≡ Some class) (own_sort sort ks) e in
+        record { unit = unit; listed = listed; named = own.origins sort.ty class here; ty = sort.ty; is = here };
+  }
+
+  callee_found : (n : ℕ) (one : Routine) → slice_get unit.routines n ≡ Some one → callee_of program (record { unit = unit.name; number = n }) ≡ Ok (record { unit = unit; number = n; routine = one })
+  callee_found n one e =
+      ap (λ (u : Option TypedUnit). known u >>= λ unit. known (slice_get unit.routines n) >>= λ routine. Ok (record { unit = unit; number = n; routine = routine })) listed
+      ∙ ap (λ (r : Option Routine). known r >>= λ routine. Ok (record { unit = unit; number = n; routine = routine })) e
+
+  method_of : (class : TypeId) (method : Method) (key : Key) → IsOwnMethod unit class method → method_key unit.types method ≡ Some key → IsMethod program key (sort_in unit class) (declared_header unit.types method.header)
+  method_of class method key m e =
+      let n : ℕ = method.routine.number in
+      let here : Key = record { unit = unit.name; number = n } in
+      let same : here ≡ key = same_Some here key (sym (ap (option_map (λ name. record { unit = name; number = n })) m.named) ∙ e) in
+      subst (λ (k : Key). IsMethod program k (sort_in unit class) (declared_header unit.types method.header)) same
+      (record {
+        callee = record { unit = unit; number = n; routine = m.routine };
+        found = callee_found n m.routine m.is;
+        listed = listed;
+        same = header_same (world program []) agreed unit.types method.header m.routine.header m.same;
+        owner = class;
+        owned = m.owned;
+        line = record { steps = 0; ty = class; reached = refl; same = refl };
+      })
+
+  -- the method of a type whatever table has the type
+  abbrev AnyMethod : Sort → Method → Key → Type 0
+  AnyMethod class method key = method_key class.table method ≡ Some key → IsMethod program key class (declared_header class.table method.header)
+
+  lawful_methods : HasLawfulMethods program
+  lawful_methods = record {
+    answers = λ other is. subst (λ (u : TypedUnit). AnswersAlike u.types.types) (sym (only other is)) own.answers;
+    routines = λ class parent dynamic fields methods place method key ks is at e.
+        let one : IsOwnMethod unit class.ty method = own.methods class.ty parent dynamic fields methods place method (subst (λ (s : Sort). definition s ≡ Some (type.ObjectOf parent dynamic fields methods)) (own_sort class ks) is) at in
+        subst (λ (s : Sort). AnyMethod s method key) (sym (own_sort class ks)) (method_of class.ty method key one) e;
+  }
+
+pub alone_never_stops : AloneNeverStops
+alone_never_stops program unit alone own =
+    let is = agreed program unit alone own in
+    never_stop program (alone_is_well_typed program unit alone (has_classes program is (declarers program unit alone own)) (has_methods program is (lawful_methods program unit alone own)))

@@ -1,0 +1,41 @@
+-- What is never seen of a program of one unit.
+use Rattle.std.specs.Prelude.{◌≡◌, ℕ, Bool, List, Option, Some, slice_get}
+use Rattle.type_layout.specs.declared.definitions.TypeId.{TypeId}
+use Rattle.type_layout.specs.declared.definitions.Field.{Field}
+use Rattle.type_layout.specs.declared.definitions.Method.{Method}
+use Rattle.type_layout.specs.declared.definitions.TypeDef.TheVariants as type
+use Rattle.typed_tree.specs.declared.units.Routine.{Routine}
+use Rattle.typed_tree.specs.declared.units.Unit.{Unit as TypedUnit}
+use Rattle.typed_tree.specs.declared.units.Program.{Program}
+use Rattle.object_vmt.specs.Dispatch.{AnswersAlike}
+use Rattle.well_formed.specs.Fits.{AreSameHeaders}
+use Rattle.meaning.specs.Trees.{Key}
+use Rattle.meaning.specs.ShownCalls.{Boxed}
+use Rattle.declared_types.specs.Declared.{declared}
+use Rattle.typed_programs.specs.Example.{counting, counting_program}
+use Rattle.sound_starts.specs.Laws.{IsNeverStopped}
+use Rattle.own_references.specs.Laws.{IsAlone}
+
+-- a method that a type of the unit declares is one of its routines, for instances of the type
+pub record IsOwnMethod (unit : TypedUnit) (class : TypeId) (method : Method) : Type 0 where
+  pub named : slice_get unit.types.units method.routine.unit ≡ Some unit.name
+  pub routine : Routine
+  pub is : slice_get unit.routines method.routine.number ≡ Some routine
+  pub same : AreSameHeaders method.header routine.header
+  pub owned : routine.owner ≡ Some class
+
+pub record DeclaresItsTypes (unit : TypedUnit) : Type 0 where
+  -- each type was declared by the unit itself
+  pub origins : (ty : TypeId) (key : Key) → declared unit.types ty ≡ Some key → key.unit ≡ unit.name
+  -- a method that overrides another has its header
+  pub answers : AnswersAlike unit.types.types
+  pub methods : (class : TypeId) (parent : Option TypeId) (dynamic : Bool) (fields : List Field) (methods : List Method) (place : ℕ) (method : Method) → slice_get unit.types.types class.0 ≡ Some (type.ObjectOf parent dynamic fields methods)
+      → slice_get methods place ≡ Some method → IsOwnMethod unit class method
+
+-- On no input of bytes does a program of one well-formed unit, which refers only to itself, come to an ill-typed step.
+abbrev pub AloneNeverStops : Type 0
+AloneNeverStops = (program : Program) (unit : TypedUnit) → IsAlone program unit → DeclaresItsTypes unit → IsNeverStopped program
+
+-- What is asked of such a unit can be met: a program that adds 1 to its variable has one.
+abbrev pub CanBeAlone : Type 0
+CanBeAlone = (b : Boxed) → IsAlone (counting_program b) (counting b) × DeclaresItsTypes (counting b)

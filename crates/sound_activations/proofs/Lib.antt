@@ -1,0 +1,13 @@
+pub mod Levels
+pub mod Changed
+pub mod Callers
+pub mod Shared
+pub mod Routines
+pub mod Classes
+pub mod Results
+pub mod Activated
+pub mod Called
+pub mod Dispatched
+pub mod Through
+pub mod Overlays
+pub mod Whole

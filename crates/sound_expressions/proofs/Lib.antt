@@ -1,0 +1,10 @@
+pub mod Types
+pub mod Sorts
+pub mod Chains
+pub mod Values
+pub mod Places
+pub mod Operands
+pub mod Instances
+pub mod Calls
+pub mod Standards
+pub mod Expressions

@@ -1,0 +1,4 @@
+pub mod Readers
+pub mod FirstTrees
+pub mod FirstStore
+pub mod Started

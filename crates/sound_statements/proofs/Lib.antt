@@ -1,0 +1,6 @@
+pub mod Flows
+pub mod Inputs
+pub mod Writes
+pub mod Loops
+pub mod Frees
+pub mod Statements

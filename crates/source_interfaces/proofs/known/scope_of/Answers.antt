@@ -1,0 +1,11 @@
+use Rattle.std.proofs.Common.{ℕ, List, OnOk, ◌∙◌, sym, subst}
+use Rattle.unit_interface.specs.Resolve.{IsMissing}
+use Rattle.source_interfaces.specs.Scopes.{AreOnce}
+use Rattle.source_interfaces.proofs.known.scope_of.Goals as goal
+
+pub resolved-requires : goal.resolved-requires
+resolved-requires c = record { once = subst AreOnce (c.as_slice.ensures ∙ sym c.as_slice-in-Ok.ensures) c.in-Ok.ensures.once }
+
+pub returns-in-Ok-clause-there : goal.returns-in-Ok-clause-there
+returns-in-Ok-clause-there c =
+    subst (λ (names : List (List ℕ)). OnOk c.resolved.result ((used : List ℕ) → IsMissing c.args.have.now names used → ⊥)) (c.as_slice-in-Ok.ensures ∙ c.in_ok-names.ensures) c.resolved.ensures.there

@@ -1,0 +1,42 @@
+-- Which sources are programs and which are units.
+use Rattle.std.specs.Prelude.{◌≡◌, ℕ, Bool, true, false, not, ◌&&◌, cond, nat_eq, List, Some, unwrap_or, slice_get}
+use Rattle.std.specs.List.{list_any}
+use Rattle.type_layout.specs.declared.texts.Place.{Place}
+use Rattle.type_layout.specs.Words.{same_bytes}
+use Rattle.source_tree.specs.declared.source.Tree.{Tree}
+use Rattle.source_tree.specs.declared.source.Tree.TheVariants as t
+use Rattle.source_tree.specs.Sources.{used}
+use Rattle.source_gathering.specs.declared.sources.Source.{Source}
+use Rattle.typing_rules.specs.declared.faults.Fault.{Fault}
+use Rattle.typing_rules.specs.declared.faults.Rule.TheVariants as rules
+use Rattle.typing_rules.specs.Faults.{broken}
+
+abbrev pub is_program : Tree → Bool
+is_program (t.Program heading uses all body) = true
+is_program (t.Unit here name uses outer interface all body) = false
+
+-- where a source begins, behind the directives in front of it; at the front of its text where it has no token
+abbrev pub beginning : Source → Place
+beginning source = unwrap_or source.says.first (record { text = source.text; line = 1; column = 1 })
+
+-- a source uses a unit of this name
+abbrev pub uses_named : List ℕ → Source → Bool
+uses_named name source = list_any (λ unit. same_bytes name unit.name) (used source.tree)
+
+abbrev pub is_used : List Source → List ℕ → Bool
+is_used sources name = list_any (uses_named name) sources
+
+-- The source that comes first is a program and is used by none, and every other is a unit.
+abbrev pub is_of_kind : List Source → ℕ → Source → Bool
+is_of_kind sources place source = cond (nat_eq place 0) (is_program source.tree && not (is_used sources source.name)) (not (is_program source.tree))
+
+abbrev pub AreOfKinds : List Source → Type 0
+AreOfKinds sources = (place : ℕ) (source : Source) → slice_get sources place ≡ Some source → is_of_kind sources place source ≡ true
+
+-- a source of the wrong kind is told of where it begins
+pub record IsOfWrongKind (sources : List Source) (fault : Fault) : Type 0 where
+  pub place : ℕ
+  pub source : Source
+  pub stands : slice_get sources place ≡ Some source
+  pub wrong : is_of_kind sources place source ≡ false
+  pub told : fault ≡ broken (beginning source) rules.SourceName

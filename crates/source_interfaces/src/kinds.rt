@@ -1,0 +1,68 @@
+//! Which sources are programs and which are units.
+
+ghost use Rattle.std.specs.Prelude.{◌≡◌, OnOk, IfErr};
+ghost use Rattle.source_interfaces.specs.Kinds.{is_program, beginning, uses_named, is_used, is_of_kind, AreOfKinds, IsOfWrongKind};
+
+use source_gathering::Source;
+use source_tree::{Tree, uses_of};
+use type_layout::{Name, Place};
+use typing_rules::{Fault, Rule, broken};
+
+fn is_program(tree: &Tree) -> bool
+    ensures { result ≡ is_program tree.now }
+{
+    match tree {
+        Tree::Program { .. } => true,
+        Tree::Unit { .. } => false,
+    }
+}
+
+// Where a source begins, behind the directives in front of it.
+fn beginning(source: &Source) -> Place
+    ensures { result ≡ beginning source.now }
+{
+    match source.says.first {
+        Some(place) => place,
+        None => Place {
+            text: source.text,
+            line: 1,
+            column: 1,
+        },
+    }
+}
+
+fn uses_named(name: &Name, source: &Source) -> bool
+    ensures { result ≡ uses_named name.now source.now }
+{
+    uses_of(&source.tree).iter().any(|unit| *name == unit.name)
+}
+
+fn is_used(sources: &[Source], name: &Name) -> bool
+    ensures { result ≡ is_used sources.now name.now }
+{
+    sources.iter().any(|source| uses_named(name, source))
+}
+
+fn is_of_kind(sources: &[Source], place: usize, source: &Source) -> bool
+    ensures { result ≡ is_of_kind sources.now place source.now }
+{
+    if place == 0 {
+        is_program(&source.tree) && !is_used(sources, &source.name)
+    } else {
+        !is_program(&source.tree)
+    }
+}
+
+/// The first source is a program that none uses, and the others are units. A source of the wrong kind is at fault where it begins.
+pub fn check_kinds(sources: &[Source]) -> Result<(), Fault>
+    ensures kinds { OnOk result (AreOfKinds sources.now) }
+    ensures cause { IfErr result (IsOfWrongKind sources.now) }
+{
+    for place in 0..sources.len() {
+        let source = &sources[place];
+        if !is_of_kind(sources, place, source) {
+            return Err(broken(beginning(source), Rule::SourceName));
+        }
+    }
+    Ok(())
+}

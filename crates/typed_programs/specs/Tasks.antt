@@ -1,0 +1,41 @@
+-- Tasks of a typed program that do no ill-typed step.
+use Rattle.std.specs.Prelude.{ℕ, List}
+use Rattle.type_layout.specs.declared.definitions.TypeId.{TypeId}
+use Rattle.typed_tree.specs.declared.expressions.Variable.{Variable}
+use Rattle.typed_tree.specs.declared.units.Program.{Program}
+use Rattle.typed_tree.specs.Statements.{Statement}
+use Rattle.well_formed.specs.Fits.{IsSome, definition, stored_as}
+use Rattle.well_formed.specs.Scopes.{Scope, HasVariable}
+use Rattle.well_formed.specs.WellFormed.{IsStatement, scope_in}
+use Rattle.meaning.specs.Outcomes.{State}
+use Rattle.meaning.specs.Activations.{Activation}
+use Rattle.meaning.specs.Calls.{Task, Do, Turns, Runs}
+use Rattle.sound_stores.specs.Worlds.{Made}
+use Rattle.sound_places.specs.Frames.{IsActive, NamesGlobal}
+use Rattle.typed_programs.specs.Outcomes.{IsTypedState, world, Ends}
+use Rattle.typed_programs.specs.References.{Site}
+use Rattle.typed_programs.specs.Statements.{RefersStatement}
+
+-- what a routine's body may name inside `with`s
+abbrev pub scope_with : Site → List TypeId → Scope
+scope_with site withs = record (scope_in site.unit site.number) { withs = withs }
+
+pub record IsBody (site : Site) (withs : List TypeId) (statement : Statement) : Type 0 where
+  pub typed : IsStatement (scope_with site withs) statement
+  pub refers : RefersStatement site (scope_with site withs) statement typed
+
+-- the variable of a `for`
+pub record IsCounter (site : Site) (withs : List TypeId) (variable : Variable) (ty : TypeId) : Type 0 where
+  pub has : HasVariable (scope_with site withs) variable ty
+  pub names : NamesGlobal site.program site.unit variable ty
+  pub ordinal : IsSome (stored_as (definition (scope_with site withs).types ty))
+
+abbrev pub IsTask : Site → List TypeId → Task → Type 0
+IsTask site withs (Do statement) = IsBody site withs statement
+IsTask site withs (Turns variable last down body) = ((ty : TypeId) × IsCounter site withs variable ty) × IsBody site withs body
+
+-- what a run of a typed program asks of what tasks do with fewer turns
+abbrev pub AreSound : Program → Runs → Type 0
+AreSound program again = (made : List Made) (f : Activation) (number : ℕ) (withs : List TypeId) (task : Task) (s : State)
+    → IsActive (world program made) f number withs → IsTask (record { program = program; unit = f.unit; number = number }) withs task → IsTypedState (world program made) s
+    → Ends (world program made) (λ w flow. Unit {0}) (again task f s)

@@ -1,4 +1,0 @@
-pub mod Forms
-pub mod Paths
-pub mod Stores
-pub mod Laws

@@ -1,0 +1,14 @@
+//! The laws, the contract of a function that does nothing.
+
+ghost use Rattle.wider_scopes.specs.Laws.{ExpressionsStay, PlacesStay, StatementsStay};
+
+use well_formed::typed_laws;
+
+/// What is typed or well formed in a scope is so in a wider one: with types at the end, units, globals, routines and variables besides.
+pub fn wider_laws()
+    ensures expressions { ExpressionsStay }
+    ensures places { PlacesStay }
+    ensures statements { StatementsStay }
+{
+    typed_laws();
+}

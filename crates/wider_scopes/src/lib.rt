@@ -1,0 +1,6 @@
+//! What is well formed in a scope is so in each that has more.
+#![tactic(auto)]
+
+mod laws;
+
+pub use laws::wider_laws;

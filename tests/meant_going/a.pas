@@ -1,0 +1,1 @@
+begin while true do Write('a') end.

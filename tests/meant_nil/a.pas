@@ -1,0 +1,5 @@
+var p: ^Integer;
+begin
+  p := nil;
+  Dispose(p)
+end.

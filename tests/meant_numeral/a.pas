@@ -1,0 +1,4 @@
+var a, b: Integer;
+begin
+  Read(a, b)
+end.

@@ -1,0 +1,1 @@
+uses B, B; begin end.

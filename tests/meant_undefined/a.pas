@@ -1,0 +1,1 @@
+var i: Integer; begin Write('q'); Write(i) end.

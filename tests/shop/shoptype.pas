@@ -1,0 +1,12 @@
+{$F+}
+unit ShopType;
+
+interface
+
+type
+  Money = LongInt;        { in cents }
+  Code = string[8];
+
+implementation
+
+end.
