@@ -8,7 +8,7 @@ use thiserror::Error;
 /// Why bytes are no executable file.
 #[derive(Clone, Copy, Debug, PartialEq, Eq, Error)]
 pub enum ExeCause {
-    /// There are fewer than 28 bytes, or fewer than the header's pages say.
+    /// The bytes are too few for a header of 28 bytes, or for the pages that the header counts.
     #[error("the file is too short")]
     Short,
     /// The letters MZ don't stand in front.
@@ -28,7 +28,7 @@ pub enum ExeCause {
 /// Why an executable file was not read.
 #[derive(Clone, Copy, Debug, PartialEq, Eq, Error)]
 pub enum ExeError {
-    /// There are fewer than 28 bytes, or fewer than the header's pages say.
+    /// The bytes are too few for a header of 28 bytes, or for the pages that the header counts.
     #[error("the file is too short")]
     Short,
     /// The letters MZ don't stand in front.

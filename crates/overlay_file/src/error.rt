@@ -8,8 +8,8 @@ use thiserror::Error;
 /// Why an overlay file was not read.
 #[derive(Clone, Copy, Debug, PartialEq, Eq, Error)]
 pub enum OvrError {
-    /// The first part of the file that breaks a rule of the format begins at this byte. Where the bytes end before, it is
-    /// their number; where bytes follow the end, it is the place of the first of these.
+    /// The byte, from 0 on, at which the format is left: that at which the first wrong part begins, the number of the bytes
+    /// where they are too few, or the first one behind the last part where they are too many.
     #[error("the overlay file is damaged at byte {at}")]
     Damaged { at: u64 },
     /// There was not enough memory for the index.

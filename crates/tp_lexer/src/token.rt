@@ -83,7 +83,7 @@ pub enum Feature {
     NotYet,
 }
 
-/// Why a text has no tokens. A place is that of the first byte of the token, comment or directive that breaks a rule.
+/// Why a text has no tokens. A place is where the token, comment or directive begins that can't be one.
 #[derive(Debug, Drop)]
 pub enum LexError {
     NoMemory,

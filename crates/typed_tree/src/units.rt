@@ -63,9 +63,9 @@ pub type Items = Sequence<Item>;
 /// Units, in order.
 pub type Units = Sequence<Unit>;
 
-/// A unit or a program. `name` is the file's name in upper case. `names` lists the unit itself and then the units
-/// that its nodes refer to; the `unit` of a node is a place in it. `items` are those of the interface part, none in
-/// a program. `initial` is the number of the main or initialisation part, `uses` the units of the clauses, and
+/// A unit or a program. `name` is the file's name in upper case. A node names a unit by
+/// its place in `names`, where this unit stands first and behind it each one that a node wants. `items` is what the
+/// interface part declares, so a program has none. `initial` is the number of the main or initialisation part, `uses` the units of the clauses, and
 /// `overlaid` the units that a program overlays. `stack` and `heap` are in bytes.
 #[derive(Drop)]
 pub struct Unit {

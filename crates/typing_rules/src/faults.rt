@@ -25,7 +25,7 @@ pub enum Rule {
     StringSize,
     /// The first value of a typed constant fits its type.
     FirstValue,
-    /// An object type is declared in a type part outside routines, and its ancestor before it.
+    /// No object type is declared inside a routine or outside a type part, and each one stands behind its ancestor.
     ObjectPlace,
     /// A source has the kind and the name that its file is asked for.
     SourceName,
@@ -77,7 +77,7 @@ pub enum Rule {
     RoutineValue,
     /// The result of a function is ordinal, a pointer or a string.
     ResultType,
-    /// A constructor is not virtual, and New and Dispose have a pointer to an object where they name a routine of it.
+    /// A virtual constructor is none, and a call that New or Dispose is to make wants a pointer to an object.
     Allocating,
 }
 

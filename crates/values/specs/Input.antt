@@ -1,4 +1,4 @@
--- Reading. Input is the list of the bytes that no item and no ReadLn has taken yet. Byte 26 or the end of the list is Eof; nothing takes it, so Eof stays.
+-- Reading. The input is the list of the bytes behind all that was read. Eof is at byte 26 or where the list is empty; no read goes past it, so Eof stays.
 use Rattle.std.specs.Prelude.{ℕ, min, ◌==◌, Bool, true, cond, not, ◌||◌, ℤ, pos, List, [], ◌∷◌, take, drop, Option, Some}
 use Rattle.std.specs.List.{prefix_len}
 use Rattle.std.specs.Result.{result_ok}

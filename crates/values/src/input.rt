@@ -1,4 +1,4 @@
-//! Reading. Input is the bytes that no item and no ReadLn has taken yet; byte 26 or their end is Eof.
+//! Reading. The input is what is left of the bytes behind all that was read; Eof is at byte 26 or where none is left.
 
 ghost use Rattle.std.specs.Prelude.{◌≡◌, ◌≤◌, true, List, ℕ, length};
 ghost use Rattle.std.specs.List.{prefix_len};
