@@ -25,7 +25,12 @@ fn constant_type(types: &Types, ty: TypeId, number: i32) -> TypeId
 }
 
 /// The value of a named constant, as it stands in an expression.
-pub(crate) fn of_value(alloc: Global, types: &Types, ty: TypeId, value: &Value) -> Result<Constant, Refusal>
+pub(crate) fn of_value(
+    alloc: Global,
+    types: &Types,
+    ty: TypeId,
+    value: &Value,
+) -> Result<Constant, Refusal>
     ensures { Gives itself result (Ok (of_value types.now.types ty value.now)) }
 {
     Ok(match value {

@@ -42,10 +42,9 @@ module _ (s : Scope) (sound : IsSound s.types) where
       let n = pos (size_of s.types ty) in
       let wide = holding_wide s.types sound (only n) in
       let to = stored_as (definition s.types word) in
-      let from = stored_as (definition s.types (number_type n)) in
-      (
-          number_value s sound n (size_held (size_of s.types ty) (get_small (layouts_of s.types) ty.0 sound.fits)),
-          inl (some_of to host.Word (stored_word s.types sound), some_of from wide.0 wide.1.0),
+      let from = stored_as (definition s.types (number_type n)) in (
+        number_value s sound n (size_held (size_of s.types ty) (get_small (layouts_of s.types) ty.0 sound.fits)),
+        inl (some_of to host.Word (stored_word s.types sound), some_of from wide.0 wide.1.0),
       )
 
   node_by : (ty : TypeId) (at : tree.Place) → HasType s ty → HasPlace s at ty → (b : Bool) → IsTyped s (cond b (Std (Some word) 12 (ByPlace at NoArguments)) (sized s.types ty))
