@@ -1,5 +1,5 @@
 -- The scope of a source before it uses a unit is closed.
-use Rattle.std.proofs.Common.{ℕ, zero, suc, ◌+◌, ◌≤◌, pos, Bool, true, false, not, ◌&&◌, cond, List, [], ◌∷◌, ◌++◌, length, arith}
+use Rattle.std.proofs.Common.{ℕ, zero, suc, ◌+◌, ◌≤◌, pos, Bool, true, false, not, ◌&&◌, cond, List, [], ◌∷◌, ◌++◌, length, refl, arith}
 use Rattle.std.specs.Prelude.{slice_get, codes}
 use Rattle.type_layout.specs.Words.{is_name}
 use Rattle.scopes.specs.declared.entries.Entry.{Entry}
@@ -9,6 +9,7 @@ use Rattle.scopes.specs.Predeclared.{type_id, type_table, with_known, with_types
 use Rattle.unit_interface.specs.Exports.{with_type}
 use Rattle.closed_constants.specs.Bounds.{AreBelow, in_entry, in_names, IsClosedScope}
 use Rattle.closed_constants.proofs.Below.{below_both, below_first, below_last}
+use Rattle.closed_scopes.specs.Scopes.{IsCompleteScope}
 
 pushed : (n : ℕ) (symbols : SymbolList) (name : List ℕ) (one : Entry) → AreBelow n (in_names symbols) → AreBelow n (in_entry one) → AreBelow n (in_names (symbols ++ (name, one) ∷ []))
 pushed n [] name one h k = below_both n (in_entry one) [] k tt
@@ -68,7 +69,7 @@ types_below (suc (suc (suc (suc (suc (suc (suc (suc (suc zero))))))))) = (omega 
 types_below (suc (suc (suc (suc (suc (suc (suc (suc (suc (suc zero)))))))))) = (omega arith, tt)
 types_below (suc (suc (suc (suc (suc (suc (suc (suc (suc (suc (suc by))))))))))) = tt
 
-pub first_closed : (name : List ℕ) → IsClosedScope (first name)
+first_closed : (name : List ℕ) → IsClosedScope (first name)
 first_closed name = record {
   table = omega arith;
   system = omega arith;
@@ -77,3 +78,6 @@ first_closed name = record {
   used = tt;
   blocks = tt;
 }
+
+pub first_complete : (name : List ℕ) → IsCompleteScope (first name)
+first_complete name = record { paired = refl; closed = first_closed name }
