@@ -46,7 +46,7 @@ use Rattle.constant_expressions.specs.Functions.{functions, function_in, functio
 use Rattle.constant_expressions.specs.declared.constructors.Span.{Span}
 use Rattle.constant_expressions.specs.Constructors.{first_sort, typed_set, set_by, set_of}
 use Rattle.constant_expressions.specs.Sizes.{asks_size, size_constant, size_held, size_by, sized_entry, sized_meaning, sized_name, sized, size_called}
-use Rattle.constant_expressions.specs.Constants.{of_text, of_control, of_entry, of_meaning, of_name, marked, judged, first_meant, operands_judged, operand_judged}
+use Rattle.constant_expressions.specs.Constants.{of_text, of_control, of_entry, of_meaning, of_name, marked, judged, sole_meant, operands_judged, operand_judged}
 use Rattle.closed_constants.specs.Bounds.{AreBelow, in_entry, IsBoundOf}
 use Rattle.closed_constants.proofs.Below.{either_way}
 use Rattle.closed_constants.proofs.Names.{OfMeaning, of_found}
@@ -344,9 +344,9 @@ module _ (n : ℕ) where
       constant_below (tree.nil place) c e = absurd e
       constant_below (tree.set here all) c e = set_below bound.system g.types.types bound.table here.place e.part c e.made
       constant_below (tree.call here callee given) c e =
-          either_way (asks_size g callee) (size_called g here.place (sole_designator given) (first_meant g here.place given) (operands_judged g here.place [] given))
+          either_way (asks_size g callee) (size_called g here.place (sole_designator given) (sole_meant g here.place given) (operands_judged g here.place [] given))
           (parts (function_named g here.place callee) (operands_judged g here.place [] given) (λ f xs. called_with g.types.types here.place f xs)) c (IsBelow c)
-          (λ sized_one. size_called_below bound.system g here.place (sole_designator given) (first_meant g here.place given) (operands_judged g here.place [] given) c sized_one)
+          (λ sized_one. size_called_below bound.system g here.place (sole_designator given) (sole_meant g here.place given) (operands_judged g here.place [] given) c sized_one)
           (λ held. called_below bound.system g g.types.types here.place callee held.left held.right c held.left_holds (operands_below here.place [] given held.right tt held.right_holds) held.made) e
       constant_below (tree.signed mark a) c e = marked_below bound.system g.types.types mark e.part c (constant_below a e.part e.holds) e.made
       constant_below (tree.negated place a) c e = negated_below bound.system g.types.types place e.part c e.made

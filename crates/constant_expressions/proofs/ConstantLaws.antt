@@ -23,7 +23,7 @@ use Rattle.typing_rules.specs.declared.faults.Rule.TheVariants as rules
 use Rattle.typing_rules.specs.declared.sorts.SetBase.{SetBase}
 use Rattle.typing_rules.specs.declared.sorts.Sort.{Sort}
 use Rattle.typing_rules.specs.Faults.{broken, not_yet}
-use Rattle.typing_rules.specs.Judgements.{Judgement, refuses, makes, rule, either, parts}
+use Rattle.typing_rules.specs.Judgements.{Judgement, refuses, makes, rule, part, parts}
 use Rattle.typing_rules.specs.Selectors.{asking, selected}
 use Rattle.typing_rules.specs.Sorts.{sort_of_type, sort_of_constant}
 use Rattle.typing_rules.specs.Operators.{sign_value}
@@ -52,7 +52,7 @@ use Rattle.constant_expressions.specs.declared.constructors.Span.{Span}
 use Rattle.constant_expressions.specs.Constructors.{IsElement, is_element, IsSpan, is_span, AreSpans, are_spans, first_sort, base_bounds, typed_set, set_of_type, set_by, set_of}
 use Rattle.standard_rules.specs.Sizes.{has_class}
 use Rattle.constant_expressions.specs.Sizes.{asks_size, size_constant, size_held, size_by, instance, operand, is_method_of, selected_from, owner_entry, owner_meaning, owner_name, sized_entry, sized_meaning, sized_name, sized, size_called}
-use Rattle.constant_expressions.specs.Constants.{of_entry, of_meaning, of_name, marked, judged, meant, first_meant, spans_judged, span_judged, operands_judged, operand_judged}
+use Rattle.constant_expressions.specs.Constants.{of_entry, of_meaning, of_name, marked, judged, meant, sole_meant, spans_judged, span_judged, operands_judged, operand_judged}
 
 module _ (types : List TypeDef) (place : Place) where
   lawful_numbered : (s : Sort) (n : Option ℤ) → Lawful (numbered place s n)
@@ -317,9 +317,9 @@ mutual
   lawful g (nil place) = lawful_refuses _
   lawful g (set here elements) = lawful_part (spans_judged g [] elements) _ (lawful_spans g [] elements) (λ spans. lawful_set g.types.types here.place spans)
   lawful g (call here callee given) =
-      lawful_either (asks_size g callee) (size_called g here.place (sole_designator given) (first_meant g here.place given) (operands_judged g here.place [] given))
+      lawful_either (asks_size g callee) (size_called g here.place (sole_designator given) (sole_meant g here.place given) (operands_judged g here.place [] given))
       (parts (function_named g here.place callee) (operands_judged g here.place [] given) (λ f xs. called_with g.types.types here.place f xs))
-      (lawful_size g here.place (first_meant g here.place given) (lawful_first g here.place given) (sole_designator given) (operands_judged g here.place [] given) (lawful_operands g here.place [] given))
+      (lawful_size g here.place (sole_meant g here.place given) (lawful_sole g here.place given) (sole_designator given) (operands_judged g here.place [] given) (lawful_operands g here.place [] given))
       (lawful_parts (function_named g here.place callee) (operands_judged g here.place [] given) _ (lawful_function g here.place callee) (lawful_operands g here.place [] given) (λ f xs. lawful_called g.types.types here.place f xs))
   lawful g (signed mark a) = lawful_part (judged g a) _ (lawful g a) (λ x. lawful_marked g.types.types mark x)
   lawful g (negated place a) = lawful_part (judged g a) _ (lawful g a) (λ x. lawful_negated g.types.types place x)
@@ -345,10 +345,11 @@ mutual
       lawful_parts (meant g place a) (judged g i) _ (lawful_meant g place a) (lawful g i) (λ x c. lawful_indexed g.types.types here.place false x (operand c))
   lawful_meant g place (followed at a) = lawful_part (meant g place a) _ (lawful_meant g place a) (λ x. lawful_followed g.types.types at x)
 
-  lawful_first : (g : Environment) (place : Place) (all : Operands) → Lawful (first_meant g place all)
-  lawful_first g place no_operands = lawful_refuses _
-  lawful_first g place (and_operand (plain a) rest) = lawful_meant g place a
-  lawful_first g place (and_operand (wide a width) rest) = lawful_refuses _
+  lawful_sole : (g : Environment) (place : Place) (all : Operands) → Lawful (sole_meant g place all)
+  lawful_sole g place no_operands = lawful_refuses _
+  lawful_sole g place (and_operand (plain a) no_operands) = lawful_meant g place a
+  lawful_sole g place (and_operand (plain a) (and_operand b rest)) = lawful_refuses _
+  lawful_sole g place (and_operand (wide a width) rest) = lawful_refuses _
 
   lawful_spans : (g : Environment) (before : List Span) (all : Elements) → Lawful (spans_judged g before all)
   lawful_spans g before no_elements = lawful_makes _

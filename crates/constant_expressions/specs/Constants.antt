@@ -1,6 +1,5 @@
 -- When an expression is a constant, its value and type, and when a fault is in it.
 use Rattle.std.specs.Prelude.{ℕ, bit_xor, false, List, [], ◌∷◌, ◌++◌, Option, Some, None}
-use Rattle.type_layout.specs.declared.definitions.TypeId.{TypeId}
 use Rattle.type_layout.specs.declared.definitions.TypeDef.{TypeDef}
 use Rattle.type_layout.specs.declared.texts.Place.{Place}
 use Rattle.tp_lexer.specs.declared.token.Feature.{Feature}
@@ -19,7 +18,6 @@ use Rattle.expression_tree.specs.Trees.{Tree, Listed, Elements, single, span, no
 use Rattle.constant_expressions.specs.declared.constants.Constant.{Constant}
 use Rattle.constant_expressions.specs.Values as values
 use Rattle.constant_expressions.specs.Values.{integer, character, of_value}
-use Rattle.constant_expressions.specs.declared.functions.StandardFunction.{StandardFunction}
 use Rattle.constant_expressions.specs.Functions.{function_named, called_with}
 use Rattle.constant_expressions.specs.declared.constructors.Span.{Span}
 use Rattle.constant_expressions.specs.Constructors.{ordinal_of, span_of, set_of}
@@ -71,7 +69,7 @@ abbrev mutual
   judged g (nil place) = refuses (broken place rules.Constant)
   judged g (set here elements) = part (spans_judged g [] elements) (λ spans. set_of g.types.types here.place spans)
   judged g (call here callee given) =
-      either (asks_size g callee) (size_called g here.place (sole_designator given) (first_meant g here.place given) (operands_judged g here.place [] given))
+      either (asks_size g callee) (size_called g here.place (sole_designator given) (sole_meant g here.place given) (operands_judged g here.place [] given))
       (parts (function_named g here.place callee) (operands_judged g here.place [] given) (λ f xs. called_with g.types.types here.place f xs))
   judged g (signed mark a) = part (judged g a) (λ x. marked g.types.types mark x)
   judged g (negated place a) = part (judged g a) (λ x. values.negated g.types.types place x)
@@ -90,10 +88,10 @@ abbrev mutual
   meant g place (followed at a) = part (meant g place a) (λ x. selector.followed g.types.types at x)
   meant g place _ = refuses (broken place rules.Called)
 
-  -- what the first argument means
-  pub first_meant : Environment → Place → Operands → Judgement Expression
-  first_meant g place (and_operand (plain a) rest) = meant g place a
-  first_meant g place _ = refuses (broken place rules.Called)
+  -- what the only argument means
+  pub sole_meant : Environment → Place → Operands → Judgement Expression
+  sole_meant g place (and_operand (plain a) no_operands) = meant g place a
+  sole_meant g place _ = refuses (broken place rules.Called)
 
   -- what a set constructor lists, behind spans before it
   pub spans_judged : Environment → List Span → Elements → Judgement (List Span)

@@ -17,7 +17,7 @@ use Rattle.typing_rules.specs.declared.faults.Rule.TheVariants as rules
 use Rattle.typing_rules.specs.Faults.{broken, not_yet, undeclared}
 use Rattle.typing_rules.specs.Judgements.{Judgement, makes, refuses, either, part}
 use Rattle.typing_rules.specs.Selectors.{selected}
-use Rattle.typing_rules.specs.Sorts.{word}
+use Rattle.typing_rules.specs.Sorts as sorts
 use Rattle.standard_rules.specs.Sizes.{is_size, has_class}
 use Rattle.expression_tree.specs.Trees.{Tree, name}
 use Rattle.constant_expressions.specs.declared.constants.Constant.{Constant}
@@ -40,7 +40,7 @@ asks_size g _ = false
 -- ---- the size
 
 abbrev pub size_constant : List TypeDef → TypeId → Constant
-size_constant types ty = record { ty = word; value = value.Number (pos (size_of types ty)) }
+size_constant types ty = record { ty = sorts.word; value = value.Number (pos (size_of types ty)) }
 
 -- A variable has the size of its type. That of an instance which may say its class is found as the program runs, and is no constant.
 abbrev pub size_held : List TypeDef → Place → TypeId → Judgement Constant

@@ -6,7 +6,7 @@ ghost use Rattle.typed_tree.specs.Expressions.{view_expr};
 ghost use Rattle.expression_tree.specs.Trees.{set, call, begins, sole_designator, view_argument, view_arguments, view_element, view_elements, view_expression, view_simple, view_term, view_factor, view_designator};
 ghost use Rattle.constant_expressions.specs.Values.{itself};
 ghost use Rattle.constant_expressions.specs.Sizes.{size_called};
-ghost use Rattle.constant_expressions.specs.Constants.{marked, judged, meant, first_meant, operands_judged, operand_judged, spans_judged, span_judged};
+ghost use Rattle.constant_expressions.specs.Constants.{marked, judged, meant, sole_meant, operands_judged, operand_judged, spans_judged, span_judged};
 
 use crate::constants::{Constant, integer, of_control, of_text};
 use crate::constructors::{Span, ordinal_of, set_of};
@@ -156,7 +156,7 @@ fn size_called(
     place: Place,
     scope: &Scope,
 ) -> Result<Constant, Refusal>
-    ensures { Gives itself result (size_called scope.now place (sole_designator (view_arguments arguments.now)) (first_meant scope.now place (view_arguments arguments.now)) (operands_judged scope.now place [] (view_arguments arguments.now))).run }
+    ensures { Gives itself result (size_called scope.now place (sole_designator (view_arguments arguments.now)) (sole_meant scope.now place (view_arguments arguments.now)) (operands_judged scope.now place [] (view_arguments arguments.now))).run }
 {
     match sole_designator(arguments) {
         Some(Designator::Name(one)) => {
@@ -165,7 +165,7 @@ fn size_called(
         Some(
             Designator::Field { .. } | Designator::Index { .. } | Designator::Dereference { .. },
         ) => {
-            let meant = first_meant(alloc, arguments, place, scope)?;
+            let meant = sole_meant(alloc, arguments, place, scope)?;
             size_by(scope.types(), place, &meant)
         }
         None => {
@@ -175,18 +175,21 @@ fn size_called(
     }
 }
 
-// What the first argument of SizeOf means.
+// What the only argument of SizeOf means.
 #[cycle(parts)]
-fn first_meant(
+fn sole_meant(
     alloc: Global,
     arguments: &[Argument],
     place: Place,
     scope: &Scope,
 ) -> Result<Expr, Refusal>
-    ensures { Gives view_expr result (first_meant scope.now place (view_arguments arguments.now)).run }
+    ensures { Gives view_expr result (sole_meant scope.now place (view_arguments arguments.now)).run }
 {
     match arguments {
-        [Argument::Plain(one), ..] => meant_by_expression(alloc, one, place, scope),
+        [Argument::Plain(one), rest @ ..] => match rest {
+            [] => meant_by_expression(alloc, one, place, scope),
+            [_, ..] => Err(Refusal::Because(broken(place, Rule::Called))),
+        },
         [Argument::Wide(..), ..] | [] => Err(Refusal::Because(broken(place, Rule::Called))),
     }
 }

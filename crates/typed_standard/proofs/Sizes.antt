@@ -34,8 +34,8 @@ get_small (layout ∷ layouts) zero all = All-head IsSmall layout layouts all
 get_small (layout ∷ layouts) (suc k) all = get_small layouts k (All-tail IsSmall layout layouts all)
 
 module _ (s : Scope) (sound : IsSound s.types) where
-  size_held : (size : ℕ) → size ≤ 65520 → holds host.LongInt (pos size) (pos size) ≡ true
-  size_held size small = holding host.LongInt (pos size) (omega (arith, ints)) (omega (arith, ints, small))
+  size_within : (n : ℕ) → n ≤ 65520 → holds host.LongInt (pos n) (pos n) ≡ true
+  size_within n small = holding host.LongInt (pos n) (omega (arith, ints)) (omega (arith, ints, small))
 
   pub sized_typed : (ty : TypeId) → IsTyped s (sized s.types ty)
   sized_typed ty =
@@ -43,8 +43,8 @@ module _ (s : Scope) (sound : IsSound s.types) where
       let wide = holding_wide s.types sound (only n) in
       let to = stored_as (definition s.types word) in
       let from = stored_as (definition s.types (number_type n)) in (
-        number_value s sound n (size_held (size_of s.types ty) (get_small (layouts_of s.types) ty.0 sound.fits)),
-        inl (some_of to host.Word (stored_word s.types sound), some_of from wide.0 wide.1.0),
+        number_value s sound n (size_within (size_of s.types ty) (get_small (layouts_of s.types) ty.0 sound.fits)),
+        inl (some_of to host.Word (stored_word s.types sound), some_of from wide.0 wide.1),
       )
 
   node_by : (ty : TypeId) (at : tree.Place) → HasType s ty → HasPlace s at ty → (b : Bool) → IsTyped s (cond b (Std (Some word) 12 (ByPlace at NoArguments)) (sized s.types ty))
