@@ -162,21 +162,3 @@ module _ (table other : Table) (paired : length table.origins ≡ length table.t
       let rest = longer (suc number) k (omega arith) in
       let same : length (now (suc number + k)).types ≡ length (now (length other.types)).types = ap (λ (j : ℕ). length (now j).types) (let e : suc number + k ≡ length other.types = omega arith in e) in
       omega arith
-
-  pairs_on : (b : Bool) (one two : Table) → length one.origins ≡ length one.types → length two.origins ≡ length two.types → length (cond b one two).origins ≡ length (cond b one two).types
-  pairs_on true one two h k = h
-  pairs_on false one two h k = k
-
-  -- each type keeps its origin
-  pub pairs : (number : ℕ) → number ≤ length other.types → length (now number).origins ≡ length (now number).types
-  pairs zero low = paired
-  pairs (suc number) low =
-      let one = has other.types number (omega arith) in
-      let m = met number one.one one.at (omega arith) in
-      let before = pairs number (omega arith) in
-      let new = renumbered (ids_in table other) m.place one.one in
-      let origin : Origin = record { unit = place_of (now number).units m.unit; number = m.count } in
-      let added = with_type (now number) m.unit m.count new in
-      let P : Table → Type 0 = λ t. length t.origins ≡ length t.types in
-      subst P (sym m.is) (pairs_on (is_new (ids_in table other) (now number) number) added (now number)
-      (omega (arith, length-append (now number).types (new ∷ []), length-append (now number).origins (origin ∷ []))) before)

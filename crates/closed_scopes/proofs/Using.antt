@@ -18,8 +18,8 @@ use Rattle.closed_constants.specs.Bounds.{AreBelow, in_names, in_lists, IsClosed
 use Rattle.closed_constants.proofs.Below.{at_push, below_both, below_first, below_last}
 use Rattle.closed_constants.proofs.Names.{closed_below}
 use Rattle.closed_scopes.specs.Scopes.{IsCompleteScope, IsClosedInterface, IsClosedUse, AreClosedUses}
-use Rattle.closed_scopes.proofs.Merging.{with_first, has, met, longer, pairs, id_low}
-use Rattle.closed_scopes.proofs.Fitting.{AreTogether, together}
+use Rattle.closed_scopes.proofs.Merging.{with_first, has, met, longer, id_low}
+use Rattle.closed_scopes.proofs.Fitting.{AreTogether, ordered_behind, together}
 use Rattle.closed_scopes.proofs.Renumbering.{new_type, new_items}
 
 -- ---- types
@@ -150,8 +150,8 @@ overlay_closed g h =
 
 pub interface_complete : (g : Environment) (interface : Interface) → IsCompleteScope g → IsClosedInterface interface → types_fit g.types interface.types ≡ true → IsCompleteScope (with_interface g interface)
 interface_complete g interface h closed fits = record {
-  paired = pairs g.types interface.types h.paired closed.paired (length interface.types.types) (omega arith);
-  closed = interface_closed g interface h.paired h.closed closed (together g.types interface.types h.paired closed.paired fits);
+  ordered = ordered_behind g.types interface.types closed.paired fits h.ordered;
+  closed = interface_closed g interface h.ordered.paired h.closed closed (together g.types interface.types h.ordered.paired closed.paired fits);
 }
 
 found_complete : (g : Environment) (found : Option Interface) → IsCompleteScope g → ((interface : Interface) → found ≡ Some interface → IsClosedInterface interface) → found_fits g found ≡ true
@@ -163,7 +163,7 @@ pub use_complete : (have : List Interface) (g : Environment) (name : List ℕ) �
 use_complete have g name h closed fits = by (is_overlay name) refl fits
   where
     by : (b : Bool) → is_overlay name ≡ b → (b || found_fits g (interface_named have name)) ≡ true → IsCompleteScope (cond b (with_overlay g) (with_found g (interface_named have name)))
-    by true is e = record { paired = h.paired; closed = overlay_closed g h.closed }
+    by true is e = record { ordered = h.ordered; closed = overlay_closed g h.closed }
     by false is e = found_complete g (interface_named have name) h (closed is) e
 
 -- its table has no fewer types
@@ -172,7 +172,7 @@ found_longer : (g : Environment) (found : Option Interface) → IsCompleteScope 
 found_longer g None h closed fits = omega arith
 found_longer g (Some interface) h closed fits =
     let c = closed interface refl in
-    up_to_all g.types interface h.paired c (together g.types interface.types h.paired c.paired fits) 0 (omega arith)
+    up_to_all g.types interface h.ordered.paired c (together g.types interface.types h.ordered.paired c.paired fits) 0 (omega arith)
 
 pub use_longer : (have : List Interface) (g : Environment) (name : List ℕ) → IsCompleteScope g → IsClosedUse have name → use_fits have g name ≡ true
     → length g.types.types ≤ length (with_use have g name).types.types

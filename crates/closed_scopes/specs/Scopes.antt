@@ -9,10 +9,11 @@ use Rattle.unit_interface.specs.Merge.{with_interface}
 use Rattle.unit_interface.specs.Resolve.{is_overlay, interface_named, with_use, with_uses}
 use Rattle.unit_interface.specs.Fitting.{types_fit, use_fits, uses_fit}
 use Rattle.closed_constants.specs.Bounds.{AreBelow, IsClosedScope}
+use Rattle.closed_constants.specs.Ordered.{IsOrdered}
 
--- each type that the scope names is one of its table, and beside each type stands its origin
+-- the table is ordered, and each type that the scope names is one of it
 pub record IsCompleteScope (g : Environment) : Type 0 where
-  pub paired : length g.types.origins ≡ length g.types.types
+  pub ordered : IsOrdered g.types
   pub closed : IsClosedScope g
 
 -- the types of an interface, and its items, name types of its table alone; each type has its origin

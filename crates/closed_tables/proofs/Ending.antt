@@ -120,10 +120,10 @@ below_in n (first ∷ rest) number h e = by (nat_eq number first) refl e (λ f. 
 -- ---- closed units
 
 closed_of : (g : Environment) (items : List Item) → IsCompleteScope g → AreBelow (length g.types.types) (in_items items) → IsClosedUnit g.types items
-closed_of g items h k = record { paired = h.paired; items = k; types = h.closed.types }
+closed_of g items h k = record { ordered = h.ordered; items = k; types = h.closed.types }
 
 complete_on : (g h : Environment) → Stays Nothing g h → IsCompleteScope g → IsCompleteScope h
-complete_on g h s c = record { paired = s.pairs c.paired; closed = grown_closed g h s c.closed }
+complete_on g h s c = record { ordered = s.ordered c.ordered; closed = grown_closed g h s c.closed }
 
 ended_closed : (name : List ℕ) (front : _) (items : List Item) (body : Option CompoundStatement) (d : Drafted) (unit : Whole) → (ended name front items body d).holds unit
     → IsClosedUnit d.scope.types items → IsClosedUnit unit.types unit.items
@@ -147,7 +147,7 @@ outline_closed name says g (t.Unit here own uses outer interface all body) unit 
 pub interface_closed : (name : List ℕ) (says : Directives) (g : Environment) (tree : Tree) (interface : Interface) → IsCompleteScope g → IsShownAs name says g tree interface → IsClosedInterface interface
 interface_closed name says g tree interface h e =
     let c = outline_closed name says g tree e.unit h e.holds in
-    shown_closed (with_nothing_else e.unit) interface c.paired c.items c.types e.shows
+    shown_closed (with_nothing_else e.unit) interface c.ordered.paired c.items c.types e.shows
 
 pub unit_closed : (name : List ℕ) (says : Directives) (g : Environment) (have : List Interface) (tree : Tree) (unit : Whole) → IsCompleteScope g → ((used : List ℕ) → IsClosedUse have used)
     → (judged name says g have tree).holds unit → IsClosedUnit unit.types unit.items

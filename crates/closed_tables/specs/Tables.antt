@@ -10,13 +10,13 @@ use Rattle.unit_interface.specs.Exports.{in_items, with_type}
 use Rattle.tp_check_decl.specs.Units.{Whole}
 use Rattle.tp_check_decl.specs.Shown.{outlined, Shows, IsShownAs}
 use Rattle.tp_check_decl.specs.Checked.{judged}
-use Rattle.interface_laws.specs.Agreement.{IsPaired}
 use Rattle.closed_constants.specs.Bounds.{AreBelow}
+use Rattle.closed_constants.specs.Ordered.{IsOrdered}
 use Rattle.closed_scopes.specs.Scopes.{IsCompleteScope, IsClosedInterface, IsClosedUse}
 
--- the types of a unit, and its items, name types of its table alone; each type has its origin
+-- the table of a unit is ordered, and its types, and the unit's items, name types of it alone
 pub record IsClosedUnit (types : Table) (items : List Item) : Type 0 where
-  pub paired : length types.origins ≡ length types.types
+  pub ordered : IsOrdered types
   pub items : AreBelow (length types.types) (in_items items)
   pub types : (by : ℕ) → AreBelow (length types.types) (with_type by (slice_get types.types by))
 
@@ -34,7 +34,7 @@ pub record IsAlike (name : List ℕ) (says : Directives) (g : Environment) (tree
   pub holds : (outlined name says g tree).holds outline
   pub same : (interface : Interface) → Shows unit interface ↔ Shows outline interface
 
--- so it is for every unit of a source over a complete scope, whose types have their origins in units of its table
+-- so it is for every unit of a source over a complete scope
 abbrev pub ShowAlike : Type 0
-ShowAlike = (name : List ℕ) (says : Directives) (g : Environment) (have : List Interface) (tree : Tree) (unit : Whole) → IsPaired g.types → IsCompleteScope g → (judged name says g have tree).holds unit
+ShowAlike = (name : List ℕ) (says : Directives) (g : Environment) (have : List Interface) (tree : Tree) (unit : Whole) → IsCompleteScope g → (judged name says g have tree).holds unit
     → IsAlike name says g tree unit

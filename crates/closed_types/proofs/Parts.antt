@@ -22,11 +22,12 @@ use Rattle.type_denoters.specs.Denoters.{Ground, ground, promise_of, judged}
 use Rattle.type_parts.specs.Promised.{adds, alias_by, promised_id, promise, promises_from, promises}
 use Rattle.type_parts.specs.Parts.{whole, type_declared, next_routine, types_declared, type_part}
 use Rattle.closed_constants.specs.Bounds.{IsBoundOf}
+use Rattle.closed_constants.specs.Ordered.{IsOrdered}
 use Rattle.closed_constants.proofs.Names.{OfMeaning, of_found}
 use Rattle.closed_types.specs.Promises.{MeansType}
 use Rattle.closed_types.proofs.Means.{IsApart, follows_name}
 use Rattle.closed_types.proofs.Entering.{bound_with_name}
-use Rattle.closed_types.proofs.Reading.{IsPaired, is_entered}
+use Rattle.closed_types.proofs.Reading.{is_entered}
 use Rattle.closed_types.proofs.Promising.{ArePromised, none_promised, promised_with, unpromised}
 use Rattle.closed_types.proofs.Objects.{whole_types}
 
@@ -101,7 +102,7 @@ apart_at ty false e = tt
 -- what a declaration leaves of a scope
 pub record IsDeclared (on : Ground) (g : Environment) (one : TypeDeclaration) (h : Environment) : Type 0 where
   pub long : length h.types.types ≡ length g.types.types + adds (view_denoter one.denoter)
-  pub pairs : IsPaired g → IsPaired h
+  pub ordered : IsOrdered g.types → IsOrdered h.types
   pub follows : (name : List ℕ) (ty : TypeId) → same_bytes name one.name.name ≡ false → MeansType (find h name) ty → MeansType (find g name) ty
   pub ty : TypeId
   pub means : MeansSome g (view_denoter one.denoter) ty
@@ -115,7 +116,7 @@ declared on next g one h e =
     let same : length h.types.types ≡ length made.scope.types.types = ap (λ (x : Environment). length x.types.types) entered.is in
     record {
       long = same ∙ types.reads.long;
-      pairs = λ p. (let P : Environment → Type 0 = λ x. IsPaired x in subst P (sym entered.is) (types.reads.pairs p));
+      ordered = λ o. (let P : Environment → Type 0 = λ x. IsOrdered x.types in subst P (sym entered.is) (types.reads.ordered o));
       follows = λ name ty apart m.
           let Q : Environment → Type 0 = λ x. MeansType (find x name) ty in
           (types.reads.follows name).means ty ((follows_name made.scope one.name.name name (entry.Ty made.ty) (apart_at made.ty (same_bytes name one.name.name) apart)).means ty (subst Q entered.is m));
@@ -135,9 +136,9 @@ module _ (on : Ground) where
       let more = types_longer (next_routine next one.denoter) e.part rest h e.made in
       omega arith
 
-  types_pair : (next : Option ℕ) (g : Environment) (all : List TypeDeclaration) (h : Environment) → (types_declared on next g all).holds h → IsPaired g → IsPaired h
-  types_pair next g [] h e p = let P : Environment → Type 0 = λ x. IsPaired x in subst P (sym e) p
-  types_pair next g (one ∷ rest) h e p = types_pair (next_routine next one.denoter) e.part rest h e.made ((declared on next g one e.part e.holds).pairs p)
+  types_ordered : (next : Option ℕ) (g : Environment) (all : List TypeDeclaration) (h : Environment) → (types_declared on next g all).holds h → IsOrdered g.types → IsOrdered h.types
+  types_ordered next g [] h e o = let P : Environment → Type 0 = λ x. IsOrdered x.types in subst P (sym e) o
+  types_ordered next g (one ∷ rest) h e o = types_ordered (next_routine next one.denoter) e.part rest h e.made ((declared on next g one e.part e.holds).ordered o)
 
   types_bound : (n : ℕ) (next : Option ℕ) (g : Environment) (all : List TypeDeclaration) (h : Environment) → (types_declared on next g all).holds h → IsBoundOf n g → length h.types.types ≤ n
       → ArePromised on.names n → IsBoundOf n h
@@ -167,9 +168,9 @@ pub part_longer : (unit : List ℕ) (next : Option ℕ) (g : Environment) (all :
 unfolding type_part
 part_longer unit next g all h e = types_longer (ground unit (promises g all)) next g all h e
 
-pub part_pairs : (unit : List ℕ) (next : Option ℕ) (g : Environment) (all : List TypeDeclaration) (h : Environment) → (type_part unit next g all).holds h → IsPaired g → IsPaired h
+pub part_ordered : (unit : List ℕ) (next : Option ℕ) (g : Environment) (all : List TypeDeclaration) (h : Environment) → (type_part unit next g all).holds h → IsOrdered g.types → IsOrdered h.types
 unfolding type_part
-part_pairs unit next g all h e p = types_pair (ground unit (promises g all)) next g all h e p
+part_ordered unit next g all h e o = types_ordered (ground unit (promises g all)) next g all h e o
 
 pub part_bound : (n : ℕ) (unit : List ℕ) (next : Option ℕ) (g : Environment) (all : List TypeDeclaration) (h : Environment) → (type_part unit next g all).holds h → IsBoundOf n g
     → length h.types.types ≤ n → IsBoundOf n h

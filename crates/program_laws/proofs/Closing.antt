@@ -19,7 +19,6 @@ use Rattle.unit_interface.specs.Uses.{place_of, listed, places_of, interface_edg
 use Rattle.unit_interface.specs.Resolve.{is_overlay, interface_named}
 use Rattle.unit_interface.specs.Fitting.{uses_fit}
 use Rattle.source_order.specs.Orders.{names_of, all_uses}
-use Rattle.unit_interface.proofs.KeyLaws.{is_keyed}
 use Rattle.typing_rules.proofs.JudgementLaws.{exact}
 use Rattle.tp_check_decl.specs.Units.{Whole, view_unit}
 use Rattle.tp_check_decl.specs.Shown.{IsShownAs, Shows, outlined}
@@ -202,8 +201,7 @@ module _ (sources : List Source) (new : AreNew [] sources) (have : List Interfac
     shown_by_unit law s unit one h i found =
         let of = of_source one.0 s i (stands sources s one) found in
         let g = outer_scope have s in
-        let keyed = is_keyed have s.name (names_of (outer_units s)) in
-        let alike = law s.name s.says g have s.tree (view_unit unit) (record { paired = keyed.paired; known = keyed.known }) (complete_over s h.fits) h.typed in
+        let alike = law s.name s.says g have s.tree (view_unit unit) (complete_over s h.fits) h.typed in
         let outlines = exact (outlined s.name s.says g) (lawful_outlined s.name s.says g) in
         let same : of.shows.unit ≡ alike.outline = outlines.one s.tree of.shows.unit alike.outline of.shows.holds alike.holds in
         (alike.same i).1 (subst (λ (w : Whole). Shows w i) same of.shows.shows)

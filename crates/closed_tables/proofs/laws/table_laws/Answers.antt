@@ -5,8 +5,8 @@ pub returns-clause-closed : goal.returns-clause-closed
 returns-clause-closed c = record { outline = outline_closed; interface = interface_closed; unit = unit_closed }
 
 pub returns-clause-alike : goal.returns-clause-alike
-returns-clause-alike c = λ name says g have tree unit paired complete holds.
-    let a = c.agreement_laws.ensures.agree name says g have tree unit paired holds in
+returns-clause-alike c = λ name says g have tree unit complete holds.
+    let a = c.agreement_laws.ensures.agree name says g have tree unit (record { paired = complete.ordered.paired; known = complete.ordered.known }) holds in
     record {
       outline = a.outline;
       holds = a.holds;
