@@ -15,10 +15,10 @@ use Rattle.closed_constants.specs.Ordered.{IsOrdered}
 use Rattle.closed_scopes.specs.Scopes.{IsCompleteScope, IsClosedInterface, IsClosedUse}
 
 -- the table of a unit is ordered, and its types, and the unit's items, name types of it alone
-pub record IsClosedUnit (types : Table) (items : List Item) : Type 0 where
-  pub ordered : IsOrdered types
-  pub items : AreBelow (length types.types) (in_items items)
-  pub types : (by : ℕ) → AreBelow (length types.types) (with_type by (slice_get types.types by))
+pub record IsClosedUnit (table : Table) (listed : List Item) : Type 0 where
+  pub ordered : IsOrdered table
+  pub items : AreBelow (length table.types) (in_items listed)
+  pub types : (by : ℕ) → AreBelow (length table.types) (with_type by (slice_get table.types by))
 
 -- Over a complete scope, the unit of an interface part is closed, and what it shows; and so is a whole unit, where the interfaces
 -- are that its implementation part uses.
