@@ -38,6 +38,7 @@ use Rattle.routines.specs.Methods.{method_announced, awaiting}
 use Rattle.typed_nodes.specs.Tables.{IsInTable, IsResultIn, IsHeaderIn, NamesWithin}
 use Rattle.typed_methods.specs.Declared.{IsMethod, HasMethods}
 use Rattle.wider_scopes.specs.Wider.{IsSame}
+use Rattle.closed_constants.specs.Ordered.{IsOrdered}
 use Rattle.closed_constants.specs.Bounds.{AreBelow}
 use Rattle.known_names.specs.Known.{open_in, AreNested, IsVariableIn, IsEntry, EachIn, IsPlaced, AreKnown}
 use Rattle.known_names.specs.Growing.{Extends}
@@ -95,7 +96,7 @@ module _ (unit : List ℕ) (site : Site) (s : Stage) (frames : List Frame) (at :
   read = at.read
 
   module _ (gives : Gives site.home (progress_of s) q) (rows : HasRows (progress_of s) q) (awaits : Awaits unit (length s.draft.routines) s.draft.scope q.scope news) (room : HasRoom after)
-      (few : length q.locals < 2 ^ 31) where
+      (few : length q.locals < 2 ^ 31) (ordered : IsOrdered q.scope.types) where
     -- ---- the scope grows
 
     abbrev back : List TypeDef
@@ -360,7 +361,7 @@ module _ (unit : List ℕ) (site : Site) (s : Stage) (frames : List Frame) (at :
     -- ---- the whole
 
     tabled : IsTabled q.scope.types
-    tabled = record { followed = followed; owned = owned }
+    tabled = record { ordered = ordered; followed = followed; owned = owned }
       where
         followed : (number : ℕ) (low high : ℤ) → slice_get q.scope.types.types number ≡ Some (type.Ordinal host.Enumeration low high) → number + 1 < length q.scope.types.types
         followed number low high e = (subst (λ (d : Option TypeDef). AreBelow (length q.scope.types.types) (with_type number d)) e (rows.closed.types number)).0

@@ -20,6 +20,7 @@ use Rattle.routines.specs.Drafts.{Numbered, Drafted, Stage, stage, progress_of, 
 use Rattle.routines.specs.Methods.{of_part, of_declarations}
 use Rattle.routines.specs.Blocks.{part_judged}
 use Rattle.closed_constants.specs.Bounds.{IsClosedScope}
+use Rattle.closed_routines.proofs.Declaring.{declared_stays}
 use Rattle.checked_routines.specs.Reading.{scope_of, IsBottom, with_inner}
 use Rattle.checked_routines.specs.Rooms.{HasRoom}
 use Rattle.checked_routines.specs.Laws.{StaysRead, PartsKeep}
@@ -76,5 +77,6 @@ part_keeps values unit site s t one frames at literals small room h =
     let awaits = part_awaited unit site.home (length s.draft.routines) p q one some closed h.holds in
     let count = part_locals unit site s t one h in
     let few : length q.locals < 2 ^ 31 = subst (λ (l : List TypeId). length l < 2 ^ 31) locals_are (omega (arith, count, small)) in
-    let whole : StaysRead s (stage after q.locals) frames = (joined unit site s frames at q news gives rows awaits fits few, grows unit site s frames at q news gives rows awaits fits few) in
+    let ordered = (declared_stays unit site.home (next_for site.home (next_number s.draft)) p one q h.holds).ordered at.read.table.ordered in
+    let whole : StaysRead s (stage after q.locals) frames = (joined unit site s frames at q news gives rows awaits fits few ordered, grows unit site s frames at q news gives rows awaits fits few ordered) in
     subst (λ (x : Stage). StaysRead s x frames) (sym h.made) whole

@@ -29,6 +29,7 @@ use Rattle.routines.specs.Drafts.{Done, Numbered, Drafted, Stage}
 use Rattle.typed_nodes.specs.Tables.{IsInTable, IsHeaderIn, IsSound}
 use Rattle.known_names.specs.Known.{EachIn, open_in, first_in, AreNested, AreKnown, scope_over}
 use Rattle.known_names.specs.Growing.{Extends}
+use Rattle.closed_constants.specs.Ordered.{IsOrdered}
 use Rattle.declared_values.specs.Values.{HasValues}
 
 -- ---- routines
@@ -135,8 +136,10 @@ pub record IsBottom (blocks : List OpenBlock) (count : ℕ) : Type 0 where
 
 -- ---- tables
 
--- Behind the ordinal type of an enumeration stands a further type, and the unit of each method is one of the table's.
+-- Each type stands behind its parts and has its origin, behind the ordinal type of an enumeration stands a further type, and the unit of
+-- each method is one of the table's.
 pub record IsTabled (table : Table) : Type 0 where
+  pub ordered : IsOrdered table
   pub followed : (number : ℕ) (low high : ℤ) → slice_get table.types number ≡ Some (type.Ordinal host.Enumeration low high) → number + 1 < length table.types
   pub owned : (class : TypeId) (place : ℕ) (method : Method) → slice_get (methods_of (definition table.types class)) place ≡ Some method → method.routine.unit < length table.units
 

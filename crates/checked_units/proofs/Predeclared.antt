@@ -26,6 +26,7 @@ use Rattle.known_names.specs.Known.{IsEntry, EachOf}
 use Rattle.declared_values.specs.Values.{IsConstantIn}
 use Rattle.tp_check_decl.specs.Programs.{empty_draft}
 use Rattle.checked_routines.specs.Reading.{scope_of}
+use Rattle.closed_scopes.proofs.Beginning.{first_complete}
 use Rattle.checked_units.specs.Begun.{IsBegun}
 
 -- ---- names
@@ -214,6 +215,7 @@ first_begun name =
         blocks = tt;
       };
       table = record {
+        ordered = (first_complete name).ordered;
         followed = λ number low high e. absurd (simple_at type_list number (type.Ordinal host.Enumeration low high) all_simple e);
         owned = λ class place method e. absurd (no_method class place method e);
       };
