@@ -12,6 +12,7 @@ use Rattle.left_out_names.specs.Names.{feature_of}
 use Rattle.syntax_tree.specs.declared.expression.PlacedSign.{PlacedSign}
 use Rattle.typed_tree.specs.declared.expressions.Value.{Value}
 use Rattle.typed_tree.specs.declared.expressions.Value.TheVariants as value
+use Rattle.typed_tree.specs.Expressions.{Expression, Load}
 use Rattle.typed_tree.specs.declared.expressions.UnaryOp.{UnaryOp}
 use Rattle.typed_tree.specs.declared.expressions.BinaryOp.{BinaryOp}
 use Rattle.scopes.specs.declared.entries.Entry.{Entry}
@@ -40,12 +41,12 @@ use Rattle.expression_tree.specs.Trees as tree
 use Rattle.expression_tree.specs.Trees.{Tree, Operand, Operands, of_sign, sole_designator}
 use Rattle.constant_expressions.specs.declared.constants.Constant.{Constant}
 use Rattle.constant_expressions.specs.Values as values
-use Rattle.constant_expressions.specs.Values.{number_of, bytes_of, taken, computed, compares, base_in, of_sort, numbered, combined_values, combined_by}
+use Rattle.constant_expressions.specs.Values.{of_value, number_of, bytes_of, taken, computed, compares, base_in, of_sort, numbered, combined_values, combined_by}
 use Rattle.constant_expressions.specs.Functions.{functions, function_in, function_of, short_type, bounded, stepped, applied, chosen, function_entry, function_meant, function_at, function_named, called_with}
 use Rattle.constant_expressions.specs.declared.constructors.Span.{Span}
 use Rattle.constant_expressions.specs.Constructors.{first_sort, typed_set, set_by, set_of}
-use Rattle.constant_expressions.specs.Sizes.{asks_size, size_constant, sized_entry, sized_meaning, sized_name, sized, size_called}
-use Rattle.constant_expressions.specs.Constants.{of_text, of_control, of_value, of_entry, of_meaning, of_name, marked, judged, operands_judged, operand_judged}
+use Rattle.constant_expressions.specs.Sizes.{asks_size, size_constant, size_held, size_by, sized_entry, sized_meaning, sized_name, sized, size_called}
+use Rattle.constant_expressions.specs.Constants.{of_text, of_control, of_entry, of_meaning, of_name, marked, judged, sole_meant, operands_judged, operand_judged}
 use Rattle.closed_constants.specs.Bounds.{AreBelow, in_entry, IsBoundOf}
 use Rattle.closed_constants.proofs.Below.{either_way}
 use Rattle.closed_constants.proofs.Names.{OfMeaning, of_found}
@@ -262,33 +263,40 @@ module _ (n : ℕ) where
     size_below : (types : List TypeDef) (ty : TypeId) (c : Constant) → c ≡ size_constant types ty → IsBelow c
     size_below types ty c e = same_constant c (size_constant types ty) e (omega arith)
 
+    size_held_below : (types : List TypeDef) (place : Place) (ty : TypeId) (c : Constant) → (size_held types place ty).holds c → IsBelow c
+    size_held_below types place ty c e =
+        either_way (has_class types ty) (refuses (broken place rules.Constant)) (makes (size_constant types ty)) c (IsBelow c)
+        (λ none. absurd none) (λ same. size_below types ty c same) e
+
+    size_by_below : (types : List TypeDef) (place : Place) (one : Expression) (c : Constant) → (size_by types place one).holds c → IsBelow c
+    size_by_below types place (Load ty at) c e = size_held_below types place ty c e
+    size_by_below types place one c e = absurd e
+
     sized_entry_below : (types : List TypeDef) (place : Place) (one : Entry) (c : Constant) → (sized_entry types place one).holds c → IsBelow c
     sized_entry_below types place (entry.Const ty v) c e = absurd e
     sized_entry_below types place (entry.Ty ty) c e = size_below types ty c e
-    sized_entry_below types place (entry.Var unit level number ty) c e =
-        either_way (has_class types ty) (refuses (broken place rules.Constant)) (makes (size_constant types ty)) c (IsBelow c)
-        (λ none. absurd none) (λ same. size_below types ty c same) e
+    sized_entry_below types place (entry.Var unit level number ty) c e = size_held_below types place ty c e
     sized_entry_below types place (entry.Code routine level header far) c e = absurd e
     sized_entry_below types place (entry.Std number) c e = absurd e
 
-    sized_meaning_below : (types : List TypeDef) (place at : Place) (feature : Option Feature) (one : Option Meaning) (c : Constant)
-        → (sized_meaning types place at feature one).holds c → IsBelow c
-    sized_meaning_below types place at feature None c e = absurd e
-    sized_meaning_below types place at feature (Some (named number one)) c e = sized_entry_below types place one c e
-    sized_meaning_below types place at feature (Some (member number one)) c e = absurd e
+    sized_meaning_below : (types : List TypeDef) (place at : Place) (word : List ℕ) (feature : Option Feature) (one : Option Meaning) (c : Constant)
+        → (sized_meaning types place at word feature one).holds c → IsBelow c
+    sized_meaning_below types place at word feature None c e = absurd e
+    sized_meaning_below types place at word feature (Some (named number one)) c e = sized_entry_below types place one c e
+    sized_meaning_below types place at word feature (Some (member number one)) c e = size_by_below types place e.part c e.made
 
     sized_name_below : (g : Environment) (place at : Place) (word : List ℕ) (c : Constant) → (sized_name g place at word).holds c → IsBelow c
     unfolding sized_name
-    sized_name_below g place at word c e = sized_meaning_below g.types.types place at (feature_of word) (find g word) c e
+    sized_name_below g place at word c e = sized_meaning_below g.types.types place at word (feature_of word) (find g word) c e
 
-    sized_below : (g : Environment) (place : Place) (one : Tree) (c : Constant) → (sized g place one).holds c → IsBelow c
-    sized_below g place (tree.name here word) c e = sized_name_below g place here.place word c e
-    sized_below g place one c e = absurd e
+    sized_below : (g : Environment) (place : Place) (one : Tree) (meant : Judgement Expression) (c : Constant) → (sized g place one meant).holds c → IsBelow c
+    sized_below g place (tree.name here word) meant c e = sized_name_below g place here.place word c e
+    sized_below g place one meant c e = size_by_below g.types.types place e.part c e.made
 
-    size_called_below : (g : Environment) (place : Place) (one : Option Tree) (given : Judgement (List Constant)) (c : Constant)
-        → (size_called g place one given).holds c → IsBelow c
-    size_called_below g place (Some one) given c e = sized_below g place one c e
-    size_called_below g place None given c e = absurd e.made
+    size_called_below : (g : Environment) (place : Place) (one : Option Tree) (meant : Judgement Expression) (given : Judgement (List Constant)) (c : Constant)
+        → (size_called g place one meant given).holds c → IsBelow c
+    size_called_below g place (Some one) meant given c e = sized_below g place one meant c e
+    size_called_below g place None meant given c e = absurd e.made
 
     -- ---- set constructors
 
@@ -336,9 +344,9 @@ module _ (n : ℕ) where
       constant_below (tree.nil place) c e = absurd e
       constant_below (tree.set here all) c e = set_below bound.system g.types.types bound.table here.place e.part c e.made
       constant_below (tree.call here callee given) c e =
-          either_way (asks_size g callee) (size_called g here.place (sole_designator given) (operands_judged g here.place [] given))
+          either_way (asks_size g callee) (size_called g here.place (sole_designator given) (sole_meant g here.place given) (operands_judged g here.place [] given))
           (parts (function_named g here.place callee) (operands_judged g here.place [] given) (λ f xs. called_with g.types.types here.place f xs)) c (IsBelow c)
-          (λ sized_one. size_called_below bound.system g here.place (sole_designator given) (operands_judged g here.place [] given) c sized_one)
+          (λ sized_one. size_called_below bound.system g here.place (sole_designator given) (sole_meant g here.place given) (operands_judged g here.place [] given) c sized_one)
           (λ held. called_below bound.system g g.types.types here.place callee held.left held.right c held.left_holds (operands_below here.place [] given held.right tt held.right_holds) held.made) e
       constant_below (tree.signed mark a) c e = marked_below bound.system g.types.types mark e.part c (constant_below a e.part e.holds) e.made
       constant_below (tree.negated place a) c e = negated_below bound.system g.types.types place e.part c e.made

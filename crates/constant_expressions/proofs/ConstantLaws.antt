@@ -1,5 +1,5 @@
 -- Constants are judged lawfully.
-use Rattle.std.proofs.Common.{◌≡◌, ℕ, ℤ, pos, ◌+ℤ◌, ◌-ℤ◌, ◌≤ℤ◌, int_le, Bool, true, List, [], ◌∷◌, ◌++◌, Option, Some, None, Decides, refl, arith}
+use Rattle.std.proofs.Common.{◌≡◌, ℕ, ℤ, pos, ◌+ℤ◌, ◌-ℤ◌, ◌≤ℤ◌, int_le, Bool, true, false, List, [], ◌∷◌, ◌++◌, Option, Some, None, Decides, refl, arith}
 use Rattle.std.proofs.lemmas.Int.{ints}
 use Rattle.std.proofs.lemmas.Bool.Decides.{Decides-and}
 use Rattle.type_layout.specs.declared.definitions.TypeId.{TypeId}
@@ -10,6 +10,7 @@ use Rattle.type_layout.specs.Layouts.{bounds_at}
 use Rattle.type_layout.specs.Storage.{holds}
 use Rattle.typed_tree.specs.declared.expressions.Value.{Value}
 use Rattle.typed_tree.specs.declared.expressions.Value.TheVariants as value
+use Rattle.typed_tree.specs.Expressions.{Expression, Const, RoutineValue, Load, Unary, Binary, Convert, Range, SetOf, Call, CallVirtual, CallThrough, Std, Make}
 use Rattle.syntax_tree.specs.declared.expression.PlacedSign.{PlacedSign}
 use Rattle.typed_tree.specs.declared.expressions.UnaryOp.{UnaryOp}
 use Rattle.typed_tree.specs.declared.expressions.BinaryOp.{BinaryOp}
@@ -21,15 +22,16 @@ use Rattle.left_out_names.specs.Names.{feature_of}
 use Rattle.typing_rules.specs.declared.faults.Rule.TheVariants as rules
 use Rattle.typing_rules.specs.declared.sorts.SetBase.{SetBase}
 use Rattle.typing_rules.specs.declared.sorts.Sort.{Sort}
-use Rattle.typing_rules.specs.Faults.{broken}
-use Rattle.typing_rules.specs.Judgements.{Judgement, refuses, makes, rule, either, parts}
-use Rattle.typing_rules.specs.Selectors.{asking}
+use Rattle.typing_rules.specs.Faults.{broken, not_yet}
+use Rattle.typing_rules.specs.Judgements.{Judgement, refuses, makes, rule, part, parts}
+use Rattle.typing_rules.specs.Selectors.{asking, selected}
 use Rattle.typing_rules.specs.Sorts.{sort_of_type, sort_of_constant}
 use Rattle.typing_rules.specs.Operators.{sign_value}
 use Rattle.typing_rules.specs.Plans.{operation_of, Asks, AsksNot, IsInteger, is_integer, is_text, allows, allows_not, rule_of}
 use Rattle.set_rules.specs.Bases.{set_over}
 use Rattle.typing_rules.specs.Laws.{Lawful}
 use Rattle.typing_rules.proofs.JudgementLaws.{lawful_makes, lawful_refuses, lawful_rule, lawful_either, lawful_part, lawful_parts}
+use Rattle.typing_rules.proofs.SelectorLaws.{lawful_selected, lawful_indexed, lawful_followed}
 use Rattle.typing_rules.proofs.PlanLaws.{no, tells_integer, tells_allowed, tells_not, tells_one_host}
 use Rattle.standard_rules.specs.declared.signatures.Signature.{Signature}
 use Rattle.standard_rules.specs.Signatures.{signature_of}
@@ -49,8 +51,8 @@ use Rattle.constant_expressions.specs.declared.constructors.Ordinal.{Ordinal}
 use Rattle.constant_expressions.specs.declared.constructors.Span.{Span}
 use Rattle.constant_expressions.specs.Constructors.{IsElement, is_element, IsSpan, is_span, AreSpans, are_spans, first_sort, base_bounds, typed_set, set_of_type, set_by, set_of}
 use Rattle.standard_rules.specs.Sizes.{has_class}
-use Rattle.constant_expressions.specs.Sizes.{asks_size, size_constant, sized_entry, sized_meaning, sized_name, sized, size_called}
-use Rattle.constant_expressions.specs.Constants.{of_entry, of_meaning, of_name, marked, judged, spans_judged, span_judged, operands_judged, operand_judged}
+use Rattle.constant_expressions.specs.Sizes.{asks_size, size_constant, size_held, size_by, instance, operand, is_method_of, selected_from, owner_entry, owner_meaning, owner_name, sized_entry, sized_meaning, sized_name, sized, size_called}
+use Rattle.constant_expressions.specs.Constants.{of_entry, of_meaning, of_name, marked, judged, meant, sole_meant, spans_judged, span_judged, operands_judged, operand_judged}
 
 module _ (types : List TypeDef) (place : Place) where
   lawful_numbered : (s : Sort) (n : Option ℤ) → Lawful (numbered place s n)
@@ -190,41 +192,84 @@ lawful_called types place f (x ∷ y ∷ rest) = lawful_refuses _
 
 -- ---- SizeOf
 
+lawful_size_held : (types : List TypeDef) (place : Place) (ty : TypeId) → Lawful (size_held types place ty)
+lawful_size_held types place ty =
+    lawful_either (has_class types ty) (refuses (broken place rules.Constant)) (makes (size_constant types ty)) (lawful_refuses _) (lawful_makes _)
+
+lawful_size_by : (types : List TypeDef) (place : Place) (e : Expression) → Lawful (size_by types place e)
+lawful_size_by types place (Load ty at) = lawful_size_held types place ty
+lawful_size_by types place (Const ty v) = lawful_refuses _
+lawful_size_by types place (RoutineValue ty routine) = lawful_refuses _
+lawful_size_by types place (Unary ty op a) = lawful_refuses _
+lawful_size_by types place (Binary ty op a b early) = lawful_refuses _
+lawful_size_by types place (Convert ty a) = lawful_refuses _
+lawful_size_by types place (Range ty a low high) = lawful_refuses _
+lawful_size_by types place (SetOf ty listed) = lawful_refuses _
+lawful_size_by types place (Call ty routine own args) = lawful_refuses _
+lawful_size_by types place (CallVirtual ty own n checked args) = lawful_refuses _
+lawful_size_by types place (CallThrough ty through args) = lawful_refuses _
+lawful_size_by types place (Std ty n args) = lawful_refuses _
+lawful_size_by types place (Make ty routine args) = lawful_refuses _
+
+lawful_selected_from : (types : List TypeDef) (place here : Place) (e : Expression) (word : List ℕ) → Lawful (selected_from types place here e word)
+lawful_selected_from types place here e word =
+    lawful_either (is_method_of types e word) (refuses (not_yet place)) (selected types here e word) (lawful_refuses _) (lawful_selected types here e word)
+
+lawful_owner_entry : (types : List TypeDef) (place at : Place) (one : Entry) → Lawful (owner_entry types place at one)
+lawful_owner_entry types place at (entry.Const ty v) = lawful_makes _
+lawful_owner_entry types place at (entry.Var unit level n ty) = lawful_makes _
+lawful_owner_entry types place at (entry.Ty ty) = lawful_refuses _
+lawful_owner_entry types place at (entry.Code routine level header far) = lawful_refuses _
+lawful_owner_entry types place at (entry.Std n) = lawful_refuses _
+
+lawful_owner_meaning : (types : List TypeDef) (place at : Place) (word : List ℕ) (feature : Option Feature) (one : Option Meaning) → Lawful (owner_meaning types place at word feature one)
+lawful_owner_meaning types place at word feature None = lawful_refuses _
+lawful_owner_meaning types place at word feature (Some (named n one)) = lawful_owner_entry types place at one
+lawful_owner_meaning types place at word feature (Some (member n one)) = lawful_selected_from types place at (instance one.class) word
+
+lawful_owner : (g : Environment) (place at : Place) (word : List ℕ) → Lawful (owner_name g place at word)
+unfolding owner_name
+lawful_owner g place at word = lawful_owner_meaning g.types.types place at word (feature_of word) (find g word)
+
 lawful_sized_entry : (types : List TypeDef) (place : Place) (one : Entry) → Lawful (sized_entry types place one)
 lawful_sized_entry types place (entry.Const ty v) = lawful_refuses _
 lawful_sized_entry types place (entry.Ty ty) = lawful_makes _
-lawful_sized_entry types place (entry.Var unit level n ty) =
-    lawful_either (has_class types ty) (refuses (broken place rules.Constant)) (makes (size_constant types ty)) (lawful_refuses _) (lawful_makes _)
+lawful_sized_entry types place (entry.Var unit level n ty) = lawful_size_held types place ty
 lawful_sized_entry types place (entry.Code routine level header far) = lawful_refuses _
 lawful_sized_entry types place (entry.Std n) = lawful_refuses _
 
-lawful_sized_meaning : (types : List TypeDef) (place at : Place) (feature : Option Feature) (one : Option Meaning) → Lawful (sized_meaning types place at feature one)
-lawful_sized_meaning types place at feature None = lawful_refuses _
-lawful_sized_meaning types place at feature (Some (named n one)) = lawful_sized_entry types place one
-lawful_sized_meaning types place at feature (Some (member n one)) = lawful_refuses _
+lawful_sized_meaning : (types : List TypeDef) (place at : Place) (word : List ℕ) (feature : Option Feature) (one : Option Meaning) → Lawful (sized_meaning types place at word feature one)
+lawful_sized_meaning types place at word feature None = lawful_refuses _
+lawful_sized_meaning types place at word feature (Some (named n one)) = lawful_sized_entry types place one
+lawful_sized_meaning types place at word feature (Some (member n one)) =
+    lawful_part (selected_from types place at (instance one.class) word) (λ e. size_by types place e) (lawful_selected_from types place at (instance one.class) word) (λ e. lawful_size_by types place e)
 
 lawful_sized_name : (g : Environment) (place at : Place) (word : List ℕ) → Lawful (sized_name g place at word)
 unfolding sized_name
-lawful_sized_name g place at word = lawful_sized_meaning g.types.types place at (feature_of word) (find g word)
+lawful_sized_name g place at word = lawful_sized_meaning g.types.types place at word (feature_of word) (find g word)
 
-lawful_sized : (g : Environment) (place : Place) (one : Tree) → Lawful (sized g place one)
-lawful_sized g place (name here word) = lawful_sized_name g place here.place word
-lawful_sized g place (number at n) = lawful_refuses _
-lawful_sized g place (text at bytes) = lawful_refuses _
-lawful_sized g place (control at letter) = lawful_refuses _
-lawful_sized g place (nil at) = lawful_refuses _
-lawful_sized g place (set at listed) = lawful_refuses _
-lawful_sized g place (call at callee given) = lawful_refuses _
-lawful_sized g place (signed mark a) = lawful_refuses _
-lawful_sized g place (negated at a) = lawful_refuses _
-lawful_sized g place (combined at op a b) = lawful_refuses _
-lawful_sized g place (field at a one) = lawful_refuses _
-lawful_sized g place (index at a i) = lawful_refuses _
-lawful_sized g place (followed at a) = lawful_refuses _
+module _ (g : Environment) (place : Place) (means : Judgement Expression) (l : Lawful means) where
+  lawful_meant_size : Lawful (part means (λ e. size_by g.types.types place e))
+  lawful_meant_size = lawful_part means (λ e. size_by g.types.types place e) l (λ e. lawful_size_by g.types.types place e)
 
-lawful_size : (g : Environment) (place : Place) (one : Option Tree) (given : Judgement (List Constant)) → Lawful given → Lawful (size_called g place one given)
-lawful_size g place (Some one) given l = lawful_sized g place one
-lawful_size g place None given l = lawful_part given (λ all. refuses (broken place rules.Called)) l (λ all. lawful_refuses _)
+  lawful_sized : (one : Tree) → Lawful (sized g place one means)
+  lawful_sized (name here word) = lawful_sized_name g place here.place word
+  lawful_sized (number at n) = lawful_meant_size
+  lawful_sized (text at bytes) = lawful_meant_size
+  lawful_sized (control at letter) = lawful_meant_size
+  lawful_sized (nil at) = lawful_meant_size
+  lawful_sized (set at listed) = lawful_meant_size
+  lawful_sized (call at callee given) = lawful_meant_size
+  lawful_sized (signed mark a) = lawful_meant_size
+  lawful_sized (negated at a) = lawful_meant_size
+  lawful_sized (combined at op a b) = lawful_meant_size
+  lawful_sized (field at a one) = lawful_meant_size
+  lawful_sized (index at a i) = lawful_meant_size
+  lawful_sized (followed at a) = lawful_meant_size
+
+  lawful_size : (one : Option Tree) (given : Judgement (List Constant)) → Lawful given → Lawful (size_called g place one means given)
+  lawful_size (Some one) given k = lawful_sized one
+  lawful_size None given k = lawful_part given (λ all. refuses (broken place rules.Called)) k (λ all. lawful_refuses _)
 
 -- ---- set constructors
 
@@ -272,9 +317,9 @@ mutual
   lawful g (nil place) = lawful_refuses _
   lawful g (set here elements) = lawful_part (spans_judged g [] elements) _ (lawful_spans g [] elements) (λ spans. lawful_set g.types.types here.place spans)
   lawful g (call here callee given) =
-      lawful_either (asks_size g callee) (size_called g here.place (sole_designator given) (operands_judged g here.place [] given))
+      lawful_either (asks_size g callee) (size_called g here.place (sole_designator given) (sole_meant g here.place given) (operands_judged g here.place [] given))
       (parts (function_named g here.place callee) (operands_judged g here.place [] given) (λ f xs. called_with g.types.types here.place f xs))
-      (lawful_size g here.place (sole_designator given) (operands_judged g here.place [] given) (lawful_operands g here.place [] given))
+      (lawful_size g here.place (sole_meant g here.place given) (lawful_sole g here.place given) (sole_designator given) (operands_judged g here.place [] given) (lawful_operands g here.place [] given))
       (lawful_parts (function_named g here.place callee) (operands_judged g here.place [] given) _ (lawful_function g here.place callee) (lawful_operands g here.place [] given) (λ f xs. lawful_called g.types.types here.place f xs))
   lawful g (signed mark a) = lawful_part (judged g a) _ (lawful g a) (λ x. lawful_marked g.types.types mark x)
   lawful g (negated place a) = lawful_part (judged g a) _ (lawful g a) (λ x. lawful_negated g.types.types place x)
@@ -283,6 +328,28 @@ mutual
   lawful g (field here a one) = lawful_part (judged g a) _ (lawful g a) (λ x. lawful_refuses _)
   lawful g (index here a i) = lawful_parts (judged g a) (judged g i) _ (lawful g a) (lawful g i) (λ x y. lawful_refuses _)
   lawful g (followed place a) = lawful_part (judged g a) _ (lawful g a) (λ x. lawful_refuses _)
+
+  lawful_meant : (g : Environment) (place : Place) (tree : Tree) → Lawful (meant g place tree)
+  lawful_meant g place (number at n) = lawful_refuses _
+  lawful_meant g place (text at bytes) = lawful_refuses _
+  lawful_meant g place (control at letter) = lawful_refuses _
+  lawful_meant g place (nil at) = lawful_refuses _
+  lawful_meant g place (set at listed) = lawful_refuses _
+  lawful_meant g place (call at callee given) = lawful_refuses _
+  lawful_meant g place (signed mark a) = lawful_refuses _
+  lawful_meant g place (negated at a) = lawful_refuses _
+  lawful_meant g place (combined at op a b) = lawful_refuses _
+  lawful_meant g place (name here word) = lawful_owner g place here.place word
+  lawful_meant g place (field here a word) = lawful_part (meant g place a) _ (lawful_meant g place a) (λ x. lawful_selected_from g.types.types place here.place x word)
+  lawful_meant g place (index here a i) =
+      lawful_parts (meant g place a) (judged g i) _ (lawful_meant g place a) (lawful g i) (λ x c. lawful_indexed g.types.types here.place false x (operand c))
+  lawful_meant g place (followed at a) = lawful_part (meant g place a) _ (lawful_meant g place a) (λ x. lawful_followed g.types.types at x)
+
+  lawful_sole : (g : Environment) (place : Place) (all : Operands) → Lawful (sole_meant g place all)
+  lawful_sole g place no_operands = lawful_refuses _
+  lawful_sole g place (and_operand (plain a) no_operands) = lawful_meant g place a
+  lawful_sole g place (and_operand (plain a) (and_operand b rest)) = lawful_refuses _
+  lawful_sole g place (and_operand (wide a width) rest) = lawful_refuses _
 
   lawful_spans : (g : Environment) (before : List Span) (all : Elements) → Lawful (spans_judged g before all)
   lawful_spans g before no_elements = lawful_makes _

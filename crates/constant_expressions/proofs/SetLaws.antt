@@ -1,7 +1,6 @@
 -- Which elements a constant set has.
-use Rattle.std.proofs.Common.{◌≡◌, ℕ, ◌&&◌, List, ap, ◌∙◌, arith, leb}
+use Rattle.std.proofs.Common.{◌≡◌, ℕ, ◌&&◌, ap, ◌∙◌, arith, leb}
 use Rattle.std.proofs.lemmas.Bool.{le-leb}
-use Rattle.type_layout.specs.declared.definitions.TypeId.{TypeId}
 use Rattle.values.specs.Sets.{contains}
 use Rattle.values.proofs.SetLemmas.{element_laws}
 use Rattle.constant_expressions.specs.Values.{every_byte}

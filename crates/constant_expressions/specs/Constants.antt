@@ -1,13 +1,11 @@
 -- When an expression is a constant, its value and type, and when a fault is in it.
-use Rattle.std.specs.Prelude.{ℕ, bit_xor, List, [], ◌∷◌, ◌++◌, Option, Some, None}
-use Rattle.type_layout.specs.declared.definitions.TypeId.{TypeId}
+use Rattle.std.specs.Prelude.{ℕ, bit_xor, false, List, [], ◌∷◌, ◌++◌, Option, Some, None}
 use Rattle.type_layout.specs.declared.definitions.TypeDef.{TypeDef}
 use Rattle.type_layout.specs.declared.texts.Place.{Place}
 use Rattle.tp_lexer.specs.declared.token.Feature.{Feature}
 use Rattle.left_out_names.specs.Names.{feature_of}
 use Rattle.syntax_tree.specs.declared.expression.PlacedSign.{PlacedSign}
-use Rattle.typed_tree.specs.declared.expressions.Value.{Value}
-use Rattle.typed_tree.specs.declared.expressions.Value.TheVariants as value
+use Rattle.typed_tree.specs.Expressions.{Expression}
 use Rattle.scopes.specs.declared.entries.Entry.{Entry}
 use Rattle.scopes.specs.declared.entries.Entry.TheVariants as entry
 use Rattle.scopes.specs.Environment.{Environment, Meaning, named, member, find}
@@ -15,17 +13,15 @@ use Rattle.typing_rules.specs.declared.faults.Fault.{Fault}
 use Rattle.typing_rules.specs.declared.faults.Rule.TheVariants as rules
 use Rattle.typing_rules.specs.Faults.{broken, undeclared}
 use Rattle.typing_rules.specs.Judgements.{Judgement, makes, refuses, either, part, parts}
-use Rattle.typing_rules.specs.Sorts.{sort_of_type}
-use Rattle.typing_rules.specs.Wanted.{constant_type}
+use Rattle.typing_rules.specs.Selectors as selector
 use Rattle.expression_tree.specs.Trees.{Tree, Listed, Elements, single, span, no_elements, and_element, Operand, Operands, plain, wide, no_operands, and_operand, number, text, control, nil, set, call, signed, negated, combined, name, field, index, followed, of_sign, sole_designator}
 use Rattle.constant_expressions.specs.declared.constants.Constant.{Constant}
 use Rattle.constant_expressions.specs.Values as values
-use Rattle.constant_expressions.specs.Values.{integer, character}
-use Rattle.constant_expressions.specs.declared.functions.StandardFunction.{StandardFunction}
+use Rattle.constant_expressions.specs.Values.{integer, character, of_value}
 use Rattle.constant_expressions.specs.Functions.{function_named, called_with}
 use Rattle.constant_expressions.specs.declared.constructors.Span.{Span}
 use Rattle.constant_expressions.specs.Constructors.{ordinal_of, span_of, set_of}
-use Rattle.constant_expressions.specs.Sizes.{asks_size, size_called}
+use Rattle.constant_expressions.specs.Sizes.{asks_size, operand, selected_from, owner_name, size_called}
 
 -- ---- literals
 
@@ -40,11 +36,6 @@ of_control (letter ∷ []) = character (bit_xor letter 64)
 of_control bytes = values.text bytes
 
 -- ---- names
-
--- a named constant: an integer has the first type that holds it
-abbrev pub of_value : List TypeDef → TypeId → Value → Constant
-of_value types ty (value.Number n) = record { ty = constant_type ty n (sort_of_type types ty); value = value.Number n }
-of_value types ty v = record { ty = ty; value = v }
 
 -- a type stands nowhere in a constant, and a variable or a routine is none
 abbrev pub of_entry : List TypeDef → Place → Entry → Judgement Constant
@@ -78,7 +69,7 @@ abbrev mutual
   judged g (nil place) = refuses (broken place rules.Constant)
   judged g (set here elements) = part (spans_judged g [] elements) (λ spans. set_of g.types.types here.place spans)
   judged g (call here callee given) =
-      either (asks_size g callee) (size_called g here.place (sole_designator given) (operands_judged g here.place [] given))
+      either (asks_size g callee) (size_called g here.place (sole_designator given) (sole_meant g here.place given) (operands_judged g here.place [] given))
       (parts (function_named g here.place callee) (operands_judged g here.place [] given) (λ f xs. called_with g.types.types here.place f xs))
   judged g (signed mark a) = part (judged g a) (λ x. marked g.types.types mark x)
   judged g (negated place a) = part (judged g a) (λ x. values.negated g.types.types place x)
@@ -87,6 +78,20 @@ abbrev mutual
   judged g (field here a one) = part (judged g a) (λ x. refuses (broken here.place rules.Selected))
   judged g (index here a i) = parts (judged g a) (judged g i) (λ x y. refuses (broken here.place rules.Indexed))
   judged g (followed place a) = part (judged g a) (λ x. refuses (broken place rules.Dereferenced))
+
+  -- What a designator means in the parentheses of SizeOf, in a call at a place: a variable, whatever is in it, or a constant. An index
+  -- is a constant.
+  pub meant : Environment → Place → Tree → Judgement Expression
+  meant g place (name here word) = owner_name g place here.place word
+  meant g place (field here a word) = part (meant g place a) (λ x. selected_from g.types.types place here.place x word)
+  meant g place (index here a i) = parts (meant g place a) (judged g i) (λ x c. selector.indexed g.types.types here.place false x (operand c))
+  meant g place (followed at a) = part (meant g place a) (λ x. selector.followed g.types.types at x)
+  meant g place _ = refuses (broken place rules.Called)
+
+  -- what the only argument means
+  pub sole_meant : Environment → Place → Operands → Judgement Expression
+  sole_meant g place (and_operand (plain a) no_operands) = meant g place a
+  sole_meant g place _ = refuses (broken place rules.Called)
 
   -- what a set constructor lists, behind spans before it
   pub spans_judged : Environment → List Span → Elements → Judgement (List Span)

@@ -27,6 +27,7 @@ use Rattle.typing_rules.specs.Judgements.{Judgement, makes, refuses, rule, eithe
 use Rattle.typing_rules.specs.Selectors.{asking}
 use Rattle.typing_rules.specs.Sorts.{boolean, char, string, number_type, sort_of_type, sort_of_constant}
 use Rattle.typing_rules.specs.Operators.{sign_value}
+use Rattle.typing_rules.specs.Wanted.{constant_type}
 use Rattle.typing_rules.specs.Plans.{operation_of, Asks, AsksNot, IsInteger, is_integer, is_text, allows, allows_not, rule_of, set_type}
 use Rattle.constant_expressions.specs.declared.constants.Constant.{Constant}
 
@@ -46,6 +47,11 @@ character byte = record { ty = char; value = value.Number (pos byte) }
 
 abbrev pub text : List ℕ → Constant
 text bytes = record { ty = string; value = value.Chars bytes }
+
+-- a named constant: an integer has the first type that holds it
+abbrev pub of_value : List TypeDef → TypeId → Value → Constant
+of_value types ty (value.Number n) = record { ty = constant_type ty n (sort_of_type types ty); value = value.Number n }
+of_value types ty v = record { ty = ty; value = v }
 
 -- all from 0 to 255 in their order
 unfoldable pub every_byte : List ℕ

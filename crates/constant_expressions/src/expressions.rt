@@ -2,17 +2,18 @@
 
 ghost use Rattle.std.specs.Prelude.{◌≡◌, []};
 ghost use Rattle.typing_rules.specs.Judgements.{Gives};
+ghost use Rattle.typed_tree.specs.Expressions.{view_expr};
 ghost use Rattle.expression_tree.specs.Trees.{set, call, begins, sole_designator, view_argument, view_arguments, view_element, view_elements, view_expression, view_simple, view_term, view_factor, view_designator};
 ghost use Rattle.constant_expressions.specs.Values.{itself};
 ghost use Rattle.constant_expressions.specs.Sizes.{size_called};
-ghost use Rattle.constant_expressions.specs.Constants.{marked, judged, operands_judged, operand_judged, spans_judged, span_judged};
+ghost use Rattle.constant_expressions.specs.Constants.{marked, judged, meant, sole_meant, operands_judged, operand_judged, spans_judged, span_judged};
 
 use crate::constants::{Constant, integer, of_control, of_text};
 use crate::constructors::{Span, ordinal_of, set_of};
 use crate::functions::{called_with, function_named};
 use crate::names::of_name;
 use crate::operations::{combined, negated, signed};
-use crate::sizes::{asks_size, sized};
+use crate::sizes::{asks_size, operand, owner_name, selected_from, size_by, sized_name};
 use expression_tree::{begins, of_adder, of_multiplier, of_relator, of_sign, sole_designator};
 use pascal_grammar::Position;
 use scopes::Scope;
@@ -21,7 +22,8 @@ use syntax_tree::{
     Argument, Designator, Element, Expression, Factor, PlacedSign, SimpleExpression, Term,
 };
 use type_layout::{Place, Types};
-use typing_rules::{Refusal, Rule, broken};
+use typed_tree::Expr;
+use typing_rules::{Refusal, Rule, broken, followed, indexed};
 
 fn marked(types: &Types, sign: Option<PlacedSign>, operand: Constant) -> Result<Constant, Refusal>
     ensures { Gives itself result (marked types.now.types sign operand).run }
@@ -154,13 +156,143 @@ fn size_called(
     place: Place,
     scope: &Scope,
 ) -> Result<Constant, Refusal>
-    ensures { Gives itself result (size_called scope.now place (sole_designator (view_arguments arguments.now)) (operands_judged scope.now place [] (view_arguments arguments.now))).run }
+    ensures { Gives itself result (size_called scope.now place (sole_designator (view_arguments arguments.now)) (sole_meant scope.now place (view_arguments arguments.now)) (operands_judged scope.now place [] (view_arguments arguments.now))).run }
 {
     match sole_designator(arguments) {
-        Some(operand) => sized(scope, place, operand),
+        Some(Designator::Name(one)) => {
+            sized_name(alloc, scope, place, one.position.place, &one.name)
+        }
+        Some(
+            Designator::Field { .. } | Designator::Index { .. } | Designator::Dereference { .. },
+        ) => {
+            let meant = sole_meant(alloc, arguments, place, scope)?;
+            size_by(scope.types(), place, &meant)
+        }
         None => {
             let _operands = operands_of(alloc, arguments, place, scope)?;
             Err(Refusal::Because(broken(place, Rule::Called)))
+        }
+    }
+}
+
+// What the only argument of SizeOf means.
+#[cycle(parts)]
+fn sole_meant(
+    alloc: Global,
+    arguments: &[Argument],
+    place: Place,
+    scope: &Scope,
+) -> Result<Expr, Refusal>
+    ensures { Gives view_expr result (sole_meant scope.now place (view_arguments arguments.now)).run }
+{
+    match arguments {
+        [Argument::Plain(one), rest @ ..] => match rest {
+            [] => meant_by_expression(alloc, one, place, scope),
+            [_, ..] => Err(Refusal::Because(broken(place, Rule::Called))),
+        },
+        [Argument::Wide(..), ..] | [] => Err(Refusal::Because(broken(place, Rule::Called))),
+    }
+}
+
+#[cycle(parts)]
+fn meant_by_expression(
+    alloc: Global,
+    tree: &Expression,
+    place: Place,
+    scope: &Scope,
+) -> Result<Expr, Refusal>
+    ensures { Gives view_expr result (meant scope.now place (view_expression tree.now)).run }
+{
+    match tree {
+        Expression::Simple(one) => meant_by_simple(alloc, one, place, scope),
+        Expression::Relation { .. } => Err(Refusal::Because(broken(place, Rule::Called))),
+    }
+}
+
+#[cycle(parts)]
+fn meant_by_simple(
+    alloc: Global,
+    tree: &SimpleExpression,
+    place: Place,
+    scope: &Scope,
+) -> Result<Expr, Refusal>
+    ensures { Gives view_expr result (meant scope.now place (view_simple tree.now)).run }
+{
+    match tree {
+        SimpleExpression::Term(one) => meant_by_term(alloc, one, place, scope),
+        SimpleExpression::Signed(..) | SimpleExpression::Sum { .. } => {
+            Err(Refusal::Because(broken(place, Rule::Called)))
+        }
+    }
+}
+
+#[cycle(parts)]
+fn meant_by_term(alloc: Global, tree: &Term, place: Place, scope: &Scope) -> Result<Expr, Refusal>
+    ensures { Gives view_expr result (meant scope.now place (view_term tree.now)).run }
+{
+    match tree {
+        Term::Factor(one) => meant_by_factor(alloc, one, place, scope),
+        Term::Product { .. } => Err(Refusal::Because(broken(place, Rule::Called))),
+    }
+}
+
+#[cycle(parts)]
+fn meant_by_factor(
+    alloc: Global,
+    tree: &Factor,
+    place: Place,
+    scope: &Scope,
+) -> Result<Expr, Refusal>
+    ensures { Gives view_expr result (meant scope.now place (view_factor tree.now)).run }
+{
+    match tree {
+        Factor::Designator(one) => meant(alloc, one, place, scope),
+        Factor::Group { inner, .. } => meant_by_expression(alloc, inner, place, scope),
+        Factor::Number { .. }
+        | Factor::Text { .. }
+        | Factor::Control { .. }
+        | Factor::Nil { .. }
+        | Factor::Set { .. }
+        | Factor::Negation { .. }
+        | Factor::Call { .. } => Err(Refusal::Because(broken(place, Rule::Called))),
+    }
+}
+
+// What a designator means in the parentheses of SizeOf.
+#[cycle(parts)]
+fn meant(alloc: Global, tree: &Designator, place: Place, scope: &Scope) -> Result<Expr, Refusal>
+    ensures { Gives view_expr result (meant scope.now place (view_designator tree.now)).run }
+{
+    match tree {
+        Designator::Name(one) => owner_name(alloc, scope, place, one.position.place, &one.name),
+        Designator::Field {
+            owner,
+            position,
+            field,
+        } => {
+            let owner = meant(alloc, owner, place, scope)?;
+            selected_from(
+                alloc,
+                scope.types(),
+                place,
+                position.place,
+                owner,
+                &field.name,
+            )
+        }
+        Designator::Index {
+            owner,
+            position,
+            index,
+            ..
+        } => {
+            let owner = meant(alloc, owner, place, scope)?;
+            let index = operand(of_expression(alloc, index, scope)?);
+            indexed(alloc, scope.types(), position.place, false, owner, index)
+        }
+        Designator::Dereference { owner, position } => {
+            let owner = meant(alloc, owner, place, scope)?;
+            followed(alloc, scope.types(), position.place, owner)
         }
     }
 }

@@ -4,8 +4,8 @@ ghost use Rattle.std.specs.Prelude.{◌≡◌, Ok};
 ghost use Rattle.typing_rules.specs.Judgements.{Gives};
 ghost use Rattle.typing_rules.specs.Sorts.{sort_of_type};
 ghost use Rattle.typing_rules.specs.Wanted.{constant_type};
-ghost use Rattle.constant_expressions.specs.Values.{itself};
-ghost use Rattle.constant_expressions.specs.Constants.{of_value, of_entry, of_name};
+ghost use Rattle.constant_expressions.specs.Values.{itself, of_value};
+ghost use Rattle.constant_expressions.specs.Constants.{of_entry, of_name};
 
 use crate::constants::Constant;
 use left_out_names::feature_of;
@@ -24,7 +24,13 @@ fn constant_type(types: &Types, ty: TypeId, number: i32) -> TypeId
     }
 }
 
-fn of_value(alloc: Global, types: &Types, ty: TypeId, value: &Value) -> Result<Constant, Refusal>
+/// The value of a named constant, as it stands in an expression.
+pub(crate) fn of_value(
+    alloc: Global,
+    types: &Types,
+    ty: TypeId,
+    value: &Value,
+) -> Result<Constant, Refusal>
     ensures { Gives itself result (Ok (of_value types.now.types ty value.now)) }
 {
     Ok(match value {

@@ -1,19 +1,22 @@
 //! SizeOf in constants.
 
-ghost use Rattle.std.specs.Prelude.{◌≡◌};
+ghost use Rattle.std.specs.Prelude.{◌≡◌, Ok};
 ghost use Rattle.expression_tree.specs.Trees.{view_designator};
+ghost use Rattle.typed_tree.specs.Expressions.{view_expr};
 ghost use Rattle.typing_rules.specs.Judgements.{Gives};
 ghost use Rattle.constant_expressions.specs.Values.{itself};
-ghost use Rattle.constant_expressions.specs.Sizes.{means_size, asks_size, size_constant, sized_entry, sized_name, sized};
+ghost use Rattle.constant_expressions.specs.Sizes.{means_size, asks_size, size_constant, size_held, size_by, instance, operand, is_method_of, selected_from, owner_entry, owner_name, sized_entry, sized_name};
 
 use crate::constants::Constant;
+use crate::names::of_value;
 use left_out_names::feature_of;
-use scopes::{Entry, Found, Scope, WORD};
+use scopes::{Entry, Found, Scope, WORD, member_of};
 use standard_rules::{bytes_of_type, has_class, is_size};
+use std::alloc::Global;
 use syntax_tree::Designator;
 use type_layout::{Name, Place, TypeId, Types};
-use typed_tree::Value;
-use typing_rules::{Refusal, Rule, broken, not_yet, undeclared};
+use typed_tree::{Expr, PlaceExpr, Value, Variable};
+use typing_rules::{Refusal, Rule, broken, loaded, not_yet, selected, undeclared};
 
 #[tactic(auto, unfolding(crate::specs::Sizes::means_size))]
 fn means_size(scope: &Scope, name: &Name) -> bool
@@ -51,40 +54,147 @@ fn size_constant(types: &Types, ty: TypeId) -> Constant
     }
 }
 
+// SizeOf of a variable of a type.
+fn size_held(types: &Types, place: Place, ty: TypeId) -> Result<Constant, Refusal>
+    ensures { Gives itself result (size_held types.now.types place ty).run }
+{
+    if has_class(types, ty) {
+        Err(Refusal::Because(broken(place, Rule::Constant)))
+    } else {
+        Ok(size_constant(types, ty))
+    }
+}
+
+/// SizeOf of what a designator means, in a call at a place.
+pub(crate) fn size_by(types: &Types, place: Place, operand: &Expr) -> Result<Constant, Refusal>
+    ensures { Gives itself result (size_by types.now.types place (view_expr operand.now)).run }
+{
+    match operand {
+        Expr::Load { ty, .. } => size_held(types, place, *ty),
+        _ => Err(Refusal::Because(broken(place, Rule::Called))),
+    }
+}
+
+// A variable of a type, wherever it lies.
+fn instance(alloc: Global, ty: TypeId) -> Result<Expr, Refusal>
+    ensures { Gives view_expr result (Ok (instance ty)) }
+{
+    let somewhere = Variable {
+        unit: 0,
+        level: 0,
+        number: 0,
+    };
+    loaded(alloc, ty, PlaceExpr::Var(somewhere))
+}
+
+/// A constant as an operand.
+pub(crate) fn operand(constant: Constant) -> Expr
+    ensures { view_expr result ≡ operand constant }
+{
+    Expr::Const {
+        ty: constant.ty,
+        value: constant.value,
+    }
+}
+
+fn is_method_of(types: &Types, owner: &Expr, name: &Name) -> bool
+    ensures { result ≡ is_method_of types.now.types (view_expr owner.now) name.now }
+{
+    match owner {
+        Expr::Load { ty, .. } => match member_of(types, Some(*ty), name) {
+            Some(one) => one.method,
+            None => false,
+        },
+        _ => false,
+    }
+}
+
+/// A field that is selected at a place, in the parentheses of a call at another.
+pub(crate) fn selected_from(
+    alloc: Global,
+    types: &Types,
+    place: Place,
+    here: Place,
+    owner: Expr,
+    name: &Name,
+) -> Result<Expr, Refusal>
+    ensures { Gives view_expr result (selected_from types.now.types place here (view_expr owner) name.now).run }
+{
+    if is_method_of(types, &owner, name) {
+        Err(Refusal::Because(not_yet(place)))
+    } else {
+        selected(alloc, types, here, owner, name)
+    }
+}
+
+fn owner_entry(
+    alloc: Global,
+    types: &Types,
+    place: Place,
+    at: Place,
+    entry: &Entry,
+) -> Result<Expr, Refusal>
+    ensures { Gives view_expr result (owner_entry types.now.types place at entry.now).run }
+{
+    match entry {
+        Entry::Const { ty, value } => Ok(operand(of_value(alloc, types, *ty, value)?)),
+        Entry::Var { ty, .. } => instance(alloc, *ty),
+        Entry::Ty { .. } => Err(Refusal::Because(broken(at, Rule::Stands))),
+        Entry::Code { .. } | Entry::Std { .. } => Err(Refusal::Because(not_yet(place))),
+    }
+}
+
+/// What a name before a selector means, in the parentheses of a call at a place.
+#[tactic(auto, unfolding(crate::specs::Sizes::owner_name))]
+pub(crate) fn owner_name(
+    alloc: Global,
+    scope: &Scope,
+    place: Place,
+    at: Place,
+    name: &Name,
+) -> Result<Expr, Refusal>
+    ensures { Gives view_expr result (owner_name scope.now place at name.now).run }
+{
+    match scope.find(name) {
+        None => Err(Refusal::Because(undeclared(at, feature_of(name)))),
+        Some(Found::Named { entry, .. }) => owner_entry(alloc, scope.types(), place, at, entry),
+        Some(Found::Member { class, .. }) => {
+            let owner = instance(alloc, class)?;
+            selected_from(alloc, scope.types(), place, at, owner, name)
+        }
+    }
+}
+
 fn sized_entry(types: &Types, place: Place, entry: &Entry) -> Result<Constant, Refusal>
     ensures { Gives itself result (sized_entry types.now.types place entry.now).run }
 {
     match entry {
         Entry::Ty { ty } => Ok(size_constant(types, *ty)),
-        Entry::Var { ty, .. } if has_class(types, *ty) => {
-            Err(Refusal::Because(broken(place, Rule::Constant)))
-        }
-        Entry::Var { ty, .. } => Ok(size_constant(types, *ty)),
+        Entry::Var { ty, .. } => size_held(types, place, *ty),
         Entry::Const { .. } | Entry::Code { .. } | Entry::Std { .. } => {
             Err(Refusal::Because(broken(place, Rule::Called)))
         }
     }
 }
 
+/// The size of the type or variable that a name means, in a call of SizeOf at a place.
 #[tactic(auto, unfolding(crate::specs::Sizes::sized_name))]
-fn sized_name(scope: &Scope, place: Place, at: Place, name: &Name) -> Result<Constant, Refusal>
+pub(crate) fn sized_name(
+    alloc: Global,
+    scope: &Scope,
+    place: Place,
+    at: Place,
+    name: &Name,
+) -> Result<Constant, Refusal>
     ensures { Gives itself result (sized_name scope.now place at name.now).run }
 {
     match scope.find(name) {
         None => Err(Refusal::Because(undeclared(at, feature_of(name)))),
         Some(Found::Named { entry, .. }) => sized_entry(scope.types(), place, entry),
-        Some(Found::Member { .. }) => Err(Refusal::Because(not_yet(place))),
-    }
-}
-
-/// The size of the type or variable that a designator means, in a call of SizeOf at a place.
-pub(crate) fn sized(scope: &Scope, place: Place, operand: &Designator) -> Result<Constant, Refusal>
-    ensures { Gives itself result (sized scope.now place (view_designator operand.now)).run }
-{
-    match operand {
-        Designator::Name(one) => sized_name(scope, place, one.position.place, &one.name),
-        Designator::Field { .. } | Designator::Index { .. } | Designator::Dereference { .. } => {
-            Err(Refusal::Because(not_yet(place)))
+        Some(Found::Member { class, .. }) => {
+            let owner = instance(alloc, class)?;
+            let field = selected_from(alloc, scope.types(), place, at, owner, name)?;
+            size_by(scope.types(), place, &field)
         }
     }
 }

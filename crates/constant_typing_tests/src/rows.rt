@@ -1,7 +1,7 @@
 //! The values of small constant expressions, and what they are refused for, worked out by hand.
 
 use crate::told::Told::{Length, Listed, Number, Refused};
-use crate::told::{Row, first_wrong};
+use crate::told::{Row, first_wrong, first_wrong_in_with};
 
 // Integers are computed on 32 bits and wrap there; the result has the first type that holds it.
 const INTEGERS: &[Row] = &[
@@ -152,9 +152,39 @@ const SIZES: &[Row] = &[
     ("SizeOf(1:2)", Refused(19, 1)),
     ("SizeOf(q)", Refused(1, 8)),
     ("SizeOf(Text)", Refused(0, 8)),
-    ("SizeOf(r.x)", Refused(0, 1)),
-    ("SizeOf(p^)", Refused(0, 1)),
     ("SizeOf(-i)", Refused(3, 9)),
+];
+
+// A variable that is selected from another has the size of its type, whatever is in it. An index is a constant.
+const SELECTED_SIZES: &[Row] = &[
+    ("SizeOf(r.x)", Number(3, 2)),
+    ("SizeOf(((r.y)))", Number(3, 1)),
+    ("SizeOf(a[2])", Number(3, 1)),
+    ("SizeOf(u[0])", Number(3, 1)),
+    ("SizeOf(p^)", Number(3, 2)),
+    ("SizeOf(pb^)", Number(3, 4)),
+    ("SizeOf(pb^.y)", Number(3, 2)),
+    ("SizeOf(ov.n) * 3", Number(2, 6)),
+    ("SizeOf(a[SizeOf(r.x)])", Number(3, 1)),
+    ("SizeOf(r.z)", Refused(17, 9)),
+    ("SizeOf(i.x)", Refused(17, 9)),
+    ("SizeOf(k.x)", Refused(17, 9)),
+    ("SizeOf(a['a'])", Refused(16, 9)),
+    ("SizeOf(long[1])", Refused(16, 12)),
+    ("SizeOf(i^)", Refused(18, 9)),
+    ("SizeOf(a[i])", Refused(3, 10)),
+    ("SizeOf(q.x)", Refused(1, 8)),
+    ("SizeOf(a[q])", Refused(1, 10)),
+    ("SizeOf(colour.x)", Refused(20, 8)),
+    ("SizeOf(fi^)", Refused(0, 1)),
+];
+
+// Inside a `with` over a record.
+const MEMBERS: &[Row] = &[
+    ("SizeOf(x)", Number(3, 2)),
+    ("SizeOf(y)", Number(3, 1)),
+    ("x", Refused(3, 1)),
+    ("SizeOf(x.y)", Refused(17, 9)),
 ];
 
 // A constant set lists its elements in their order, each once; the empty set goes with sets of any host.
@@ -233,6 +263,16 @@ fn steps_stay_within_types(rt: HostRuntime) {
 #[test]
 fn sizes_of_types_and_variables_are_constants(rt: HostRuntime) {
     assert!(rt; first_wrong(rt.alloc(), SIZES) == Ok(None));
+}
+
+#[test]
+fn sizes_of_selected_variables_are_constants(rt: HostRuntime) {
+    assert!(rt; first_wrong(rt.alloc(), SELECTED_SIZES) == Ok(None));
+}
+
+#[test]
+fn sizes_of_fields_that_a_with_shows(rt: HostRuntime) {
+    assert!(rt; first_wrong_in_with(rt.alloc(), MEMBERS) == Ok(None));
 }
 
 #[test]

@@ -2,7 +2,7 @@
 //! exits.
 
 use constant_expressions::{Constant, check_constant};
-use scopes::Scope;
+use scopes::{BlockKind, Scope};
 use std::alloc::{AllocError, Global};
 use syntax_tree::SimpleExpression;
 use type_layout::TypeId;
@@ -63,13 +63,31 @@ fn is_so(alloc: Global, scope: &Scope, row: &Row) -> Result<bool, AllocError> {
     Ok(checked(alloc, &tree, scope) == row.1)
 }
 
-/// The first expression that gives something else than stands there.
-pub(crate) fn first_wrong(alloc: Global, rows: &[Row]) -> Result<Option<&'static str>, AllocError> {
-    let scope = sample(alloc)?;
+fn first_wrong_in(
+    alloc: Global,
+    scope: &Scope,
+    rows: &[Row],
+) -> Result<Option<&'static str>, AllocError> {
     for row in rows {
-        if !is_so(alloc, &scope, row)? {
+        if !is_so(alloc, scope, row)? {
             return Ok(Some(row.0));
         }
     }
     Ok(None)
+}
+
+/// The first expression that gives something else than stands there.
+pub(crate) fn first_wrong(alloc: Global, rows: &[Row]) -> Result<Option<&'static str>, AllocError> {
+    let scope = sample(alloc)?;
+    first_wrong_in(alloc, &scope, rows)
+}
+
+/// The same inside a `with` over the record of the sample.
+pub(crate) fn first_wrong_in_with(
+    alloc: Global,
+    rows: &[Row],
+) -> Result<Option<&'static str>, AllocError> {
+    let mut scope = sample(alloc)?;
+    scope.begin(BlockKind::With { ty: TypeId(12) })?;
+    first_wrong_in(alloc, &scope, rows)
 }

@@ -1,6 +1,6 @@
 //! The nodes of conversions and calls, and what they are refused for, worked out by hand.
 
-use crate::told::Told::{Node, Number, Refused};
+use crate::told::Told::{Node, Refused, Word};
 use crate::told::{NONE, Row, first_wrong};
 
 const CONVERSIONS: &[Row] = &[
@@ -72,15 +72,19 @@ const STANDARD: &[Row] = &[
     ("inc(i)", Refused(20, 1)),
 ];
 
-// A constant; of an instance that says its class a call, which asks for that.
+// A number as a Word, which is no constant; of an instance that says its class a call, which asks for that.
 const SIZES: &[Row] = &[
-    ("sizeof(longint)", Number(3, 4)),
-    ("sizeof(colour)", Number(3, 1)),
-    ("sizeof(classed)", Number(3, 4)),
-    ("sizeof(u)", Number(3, 256)),
-    ("sizeof(r.y)", Number(3, 1)),
-    ("sizeof(p^)", Number(3, 2)),
-    ("sizeof((sb))", Number(3, 32)),
+    ("sizeof(longint)", Word(4)),
+    ("sizeof(colour)", Word(1)),
+    ("sizeof(classed)", Word(4)),
+    ("sizeof(u)", Word(256)),
+    ("sizeof(r.y)", Word(1)),
+    ("sizeof(p^)", Word(2)),
+    ("sizeof((sb))", Word(32)),
+    ("sizeof(byte)", Node((b'c', 3), (b'k', 2), NONE)),
+    ("sizeof(byte) - 10", Node((b'o', 3), (b'c', 3), (b'k', 3))),
+    ("sizeof(byte) + i", Node((b'o', 4), (b'c', 4), (b'c', 4))),
+    ("-sizeof(byte)", Node((b'o', 3), (b'c', 3), NONE)),
     ("sizeof(ov)", Node((b's', 3), (b'v', 0), NONE)),
     ("sizeof(k)", Refused(19, 1)),
     ("sizeof(i + 1)", Refused(19, 1)),

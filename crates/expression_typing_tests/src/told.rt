@@ -1,7 +1,7 @@
 //! What expressions give. Each step has a function of its own, since the proof of a function grows with what it holds at each of
 //! its exits.
 
-use scopes::Scope;
+use scopes::{Scope, WORD};
 use std::alloc::{AllocError, Global};
 use syntax_tree::Expression;
 use tp_check_expr::check_expr;
@@ -17,13 +17,14 @@ pub(crate) type Part = (u8, u32);
 /// No part.
 pub(crate) const NONE: Part = (b'-', 0);
 
-/// What an expression gives: its node with two parts of it, a constant number, the level of a variable, whether an index is
-/// tested, whether an operator may leave out its right side; or the rule that fails, 0 for what is left out or not built, and the
-/// column.
+/// What an expression gives: its node with two parts of it, a constant number, a number that is converted to Word, the level of a
+/// variable, whether an index is tested, whether an operator may leave out its right side; or the rule that fails, 0 for what is
+/// left out or not built, and the column.
 #[derive(Clone, Copy, Debug, PartialEq, Eq)]
 pub(crate) enum Told {
     Node(Part, Part, Part),
     Number(u32, i32),
+    Word(i32),
     Level(u32),
     Tested(bool),
     Early(bool),
@@ -106,6 +107,16 @@ fn number(expr: &Expr) -> Told {
     }
 }
 
+fn as_word(expr: &Expr) -> Told {
+    match expr {
+        Expr::Convert { ty, operand } if *ty == WORD => match number(operand) {
+            Told::Number(_, number) => Told::Word(number),
+            _ => Told::Memory,
+        },
+        _ => Told::Memory,
+    }
+}
+
 // The level of a variable, or whether an index is tested.
 fn place(at: &PlaceExpr) -> Told {
     match at {
@@ -133,6 +144,7 @@ fn early(expr: &Expr) -> Told {
 fn like(row: Told, expr: &Expr) -> Told {
     match row {
         Told::Number(..) => number(expr),
+        Told::Word(_) => as_word(expr),
         Told::Level(_) | Told::Tested(_) => reached(expr),
         Told::Early(_) => early(expr),
         Told::Node(..) | Told::Refused(..) | Told::Memory => node(expr),

@@ -1,5 +1,5 @@
 -- A unit shows what its interface part shows.
-use Rattle.std.proofs.Common.{◌≡◌, ◌∙◌, ℕ, ◌<◌, ◌≤◌, true, false, List, [], ◌∷◌, ◌++◌, map, Option, Some, None, length, refl, sym, ap, subst, arith}
+use Rattle.std.proofs.Common.{◌≡◌, ◌∙◌, ℕ, ◌<◌, ◌≤◌, true, false, List, [], ◌∷◌, ◌++◌, map, drop, Option, Some, None, length, refl, sym, ap, subst, arith}
 use Rattle.std.specs.Prelude.{◌↔◌}
 use Rattle.syntax_tree.specs.declared.statement.CompoundStatement.{CompoundStatement}
 use Rattle.source_tree.specs.declared.source.InterfaceDeclaration.{InterfaceDeclaration}
@@ -15,6 +15,7 @@ use Rattle.scopes.specs.Growth.{IsGrown}
 use Rattle.scopes.specs.Environment.{Environment}
 use Rattle.unit_interface.specs.declared.interfaces.Interface.{Interface}
 use Rattle.unit_interface.specs.Exports.{is_in, known, new_ids, kept, renumbered_item}
+use Rattle.unit_interface.specs.Resolve.{with_uses}
 use Rattle.unit_interface.proofs.ShownLaws.{one_interface}
 use Rattle.routines.specs.Trees.{Works, view_declarations}
 use Rattle.routines.specs.Drafts.{Drafted, knowing, Stage, stage}
@@ -22,12 +23,14 @@ use Rattle.routines.specs.Blocks.{all_judged}
 use Rattle.tp_check_decl.specs.Units.{Finished, Whole, whole}
 use Rattle.tp_check_decl.specs.Endings.{ended}
 use Rattle.tp_check_decl.specs.Programs.{unit_site, empty_draft, declarations_judged}
-use Rattle.tp_check_decl.specs.Interfaces.{items_of, seeing, all_declared, declared, interface_judged}
+use Rattle.tp_check_decl.specs.Interfaces.{items_of, all_declared, declared, interface_judged}
 use Rattle.tp_check_decl.specs.Shown.{with_nothing_else, Shows}
 use Rattle.tp_check_decl.specs.Checked.{judged}
-use Rattle.interface_laws.specs.Agreement.{IsClosed, IsShownBy}
-use Rattle.interface_laws.proofs.Growing.{IsPaired, Grows, GrowsTo, unchanged, next}
+use Rattle.tp_check_decl.proofs.UsedLaws.{used_is}
+use Rattle.interface_laws.specs.Agreement.{IsClosed, IsShownBy, further_units}
+use Rattle.interface_laws.proofs.Growing.{IsPaired, Grows, then, GrowsTo, unchanged, next}
 use Rattle.interface_laws.proofs.RoutinesGrow.{part_of_grows, heading_grows, all_grow, same_stage, same_draft}
+use Rattle.interface_laws.proofs.UsesGrow.{used_grows, uses_names}
 use Rattle.interface_laws.proofs.Shorter.{known_below, known_past, is_none, longer, is_reached_less, is_reached_more, reached_stays, same_types, same_shown}
 
 -- ---- two units of one name with the same items, where the table of the one was grown from that of the other
@@ -105,14 +108,14 @@ ends name front items (Some body) g outer d unit h = record { routines = h.left 
 
 -- a unit that ends behind an outline shows what the outline shows
 shown_by : (name : List ℕ) (front : _) (items : List Item) (body : Option CompoundStatement) (g : Environment) (outer : List Global) (d : Drafted) (unit : Whole)
-    → GrowsTo g d.scope → IsPaired g.types → (ended name front items body d).holds unit → IsClosed g.types.types items
+    → Grows g.types d.scope.types → IsPaired g.types → (ended name front items body d).holds unit → IsClosed g.types.types items
     → (interface : Interface) → Shows unit interface ↔ Shows (whole name front g items outer [] None) interface
 shown_by name front items body g outer d unit grows grown h closed interface =
     let short = whole name front g items outer [] None in
     let e = ends name front items body g outer d unit h in
     let P : Whole → Type 0 = λ one. Shows one interface in (
-      (λ s. in_short short d.scope.types d.scope.units d.globals e.routines e.initial grows.table grown closed interface (subst P e.is s)),
-      (λ s. subst P (sym e.is) (in_long short d.scope.types d.scope.units d.globals e.routines e.initial grows.table grown closed interface s)),
+      (λ s. in_short short d.scope.types d.scope.units d.globals e.routines e.initial grows grown closed interface (subst P e.is s)),
+      (λ s. subst P (sym e.is) (in_long short d.scope.types d.scope.units d.globals e.routines e.initial grows grown closed interface s)),
     )
 
 -- ---- interface parts
@@ -126,12 +129,11 @@ declared_grow unit s [] made e = same_stage s.draft.scope made s e (unchanged s.
 declared_grow unit s (one ∷ rest) made e =
     next s.draft.scope e.part.draft.scope made.draft.scope (declared_grows unit s one e.part e.holds) (declared_grow unit e.part rest made e.made)
 
-interface_grows : (name : List ℕ) (g : Environment) (uses : ℕ) (all : List InterfaceDeclaration) (d : Drafted) → (interface_judged name g uses all).holds d → GrowsTo g d.scope
+interface_grows : (name : List ℕ) (g : Environment) (all : List InterfaceDeclaration) (d : Drafted) → (interface_judged name g all).holds d → GrowsTo g d.scope
 unfolding interface_judged
-interface_grows name g uses all d e =
-    let start = (empty_draft (seeing uses g)).scope in
-    same_draft g d e.part.draft e.made
-    (next g start e.part.draft.scope (unchanged g start refl refl) (declared_grow name (stage (empty_draft (seeing uses g)) []) all e.part e.holds))
+interface_grows name g all d e =
+    let start = (empty_draft g).scope in
+    same_draft g d e.part.draft e.made (next g start e.part.draft.scope (unchanged g start refl refl) (declared_grow name (stage (empty_draft g) []) all e.part e.holds))
 
 read_grows : (name : List ℕ) (g : Environment) (all : Works) (d : Drafted) → (declarations_judged name g all).holds d → GrowsTo g d.scope
 unfolding declarations_judged
@@ -139,51 +141,53 @@ read_grows name g all d e =
     let start = (empty_draft g).scope in
     same_draft g d e.part.draft e.made (next g start e.part.draft.scope (unchanged g start refl refl) (all_grow name unit_site (stage (empty_draft g) []) all e.part e.holds))
 
--- what the implementation part declares behind an interface part
-behind_grows : (name : List ℕ) (uses : ℕ) (d : Drafted) (all : Works) (s : Stage) → (all_judged name unit_site (stage (knowing d (seeing uses d.scope)) []) all).holds s → GrowsTo d.scope s.draft.scope
-behind_grows name uses d all s e =
-    let start = seeing uses d.scope in
-    next d.scope start s.draft.scope (unchanged d.scope start refl refl) (all_grow name unit_site (stage (knowing d start) []) all s e)
-
 paired_of : (table : Table) → IsGrown table → IsPaired table
 paired_of table h = record { paired = h.paired; known = h.known }
 
-pub agree : (name : List ℕ) (says : Directives) (g : Environment) (tree : Tree) (unit : Whole) → IsGrown g.types → (judged name says g tree).holds unit → IsShownBy name says g tree unit
-agree name says g (t.Program heading uses all body) unit grown h =
+pub agree : (name : List ℕ) (says : Directives) (g : Environment) (have : List Interface) (tree : Tree) (unit : Whole) → IsGrown g.types → (judged name says g have tree).holds unit
+    → IsShownBy name says g tree unit
+agree name says g have (t.Program heading uses all body) unit grown h =
     let f = h.made in
     let d = f.made in
     record {
       outline = whole name f.part g [] [] [] None;
       holds = record { part = f.part; holds = f.holds; made = refl };
-      same = shown_by name f.part [] (Some body) g [] d.part unit (read_grows name g (view_declarations all.items) d.part d.holds) (paired_of g.types grown) d.made;
+      same = shown_by name f.part [] (Some body) g [] d.part unit (read_grows name g (view_declarations all.items) d.part d.holds).table (paired_of g.types grown) d.made;
     }
-agree name says g (t.Unit here own uses outer interface all body) unit grown h =
+agree name says g have (t.Unit here own uses outer interface all body) unit grown h =
     let i = h.made in
     let d = i.part in
-    let s = i.made in
-    let first = interface_grows name g (narrow outer) interface.items d i.holds in
+    let u = i.made in
+    let s = u.made in
+    let first = interface_grows name g interface.items d i.holds in
+    let last = all_grow name unit_site (stage (knowing d u.part) []) (view_declarations all.items) s.part s.holds in
+    let grows = then d.scope.types u.part.types s.part.draft.scope.types (used_grows have d.scope (drop outer uses.items) u.part u.holds) last.table in
     record {
       outline = whole name h.part d.scope (items_of d.scope) d.globals [] None;
       holds = record { part = h.part; holds = h.holds; made = record { part = d; holds = i.holds; made = refl } };
-      same = shown_by name h.part (items_of d.scope) body d.scope d.globals s.part.draft unit
-          (behind_grows name (narrow (length uses.items)) d (view_declarations all.items) s.part s.holds) (first.table.pairs (paired_of g.types grown)) s.made;
+      same = shown_by name h.part (items_of d.scope) body d.scope d.globals s.part.draft unit grows (first.table.pairs (paired_of g.types grown)) s.made;
     }
 
--- the names of a unit are those of the scope
-named_by : (name : List ℕ) (front : _) (items : List Item) (body : Option CompoundStatement) (g : Environment) (d : Drafted) (unit : Whole)
-    → GrowsTo g d.scope → (ended name front items body d).holds unit → unit.names ≡ g.units
-named_by name front items body g d unit grows h =
-    let e = ends name front items body g [] d unit h in
-    ap (λ (w : Whole). w.names) e.is ∙ grows.names
+-- the names of a unit are those of the scope at its end
+named_by : (name : List ℕ) (front : _) (items : List Item) (body : Option CompoundStatement) (d : Drafted) (unit : Whole) → (ended name front items body d).holds unit → unit.names ≡ d.scope.units
+named_by name front items body d unit h =
+    let e = ends name front items body d.scope [] d unit h in
+    ap (λ (w : Whole). w.names) e.is
 
-pub keep_names : (name : List ℕ) (says : Directives) (g : Environment) (tree : Tree) (unit : Whole) → (judged name says g tree).holds unit → unit.names ≡ g.units
-keep_names name says g (t.Program heading uses all body) unit h =
+pub keep_names : (name : List ℕ) (says : Directives) (g : Environment) (have : List Interface) (tree : Tree) (unit : Whole) → (judged name says g have tree).holds unit
+    → unit.names ≡ (with_uses have g (further_units tree)).units
+keep_names name says g have (t.Program heading uses all body) unit h =
     let d = h.made.made in
-    named_by name h.made.part [] (Some body) g d.part unit (read_grows name g (view_declarations all.items) d.part d.holds) d.made
-keep_names name says g (t.Unit here own uses outer interface all body) unit h =
+    named_by name h.made.part [] (Some body) d.part unit d.made ∙ (read_grows name g (view_declarations all.items) d.part d.holds).names
+keep_names name says g have (t.Unit here own uses outer interface all body) unit h =
     let i = h.made in
     let d = i.part in
-    let s = i.made in
-    let first = interface_grows name g (narrow outer) interface.items d i.holds in
-    let last = behind_grows name (narrow (length uses.items)) d (view_declarations all.items) s.part s.holds in
-    named_by name h.part (items_of d.scope) body g s.part.draft unit (next g d.scope s.part.draft.scope first last) s.made
+    let u = i.made in
+    let s = u.made in
+    let first = interface_grows name g interface.items d i.holds in
+    let last = all_grow name unit_site (stage (knowing d u.part) []) (view_declarations all.items) s.part s.holds in
+    let names = further_units (t.Unit here own uses outer interface all body) in
+    named_by name h.part (items_of d.scope) body s.part.draft unit s.made
+    ∙ last.names
+    ∙ ap (λ (k : Environment). k.units) (used_is have d.scope (drop outer uses.items) u.part u.holds)
+    ∙ uses_names have d.scope g names first.names

@@ -3,4 +3,5 @@ mod TypesGrow
 mod RoutinesGrow
 mod Renumbered
 mod Shorter
+mod UsesGrow
 mod AgreementLaws

@@ -1,13 +1,15 @@
 -- A unit shows what its interface part shows.
-use Rattle.std.specs.Prelude.{◌≡◌, ◌↔◌, ◌<◌, ℕ, true, List, length, slice_get}
+use Rattle.std.specs.Prelude.{◌≡◌, ◌↔◌, ◌<◌, ℕ, true, List, [], drop, map, length, slice_get}
 use Rattle.type_layout.specs.declared.definitions.TypeDef.{TypeDef}
 use Rattle.source_tree.specs.declared.source.Tree.{Tree}
+use Rattle.source_tree.specs.declared.source.Tree.TheVariants as t
 use Rattle.source_directives.specs.declared.collected.Directives.{Directives}
 use Rattle.typed_tree.specs.declared.units.Item.{Item}
 use Rattle.scopes.specs.Growth.{IsGrown}
 use Rattle.scopes.specs.Environment.{Environment}
 use Rattle.unit_interface.specs.declared.interfaces.Interface.{Interface}
 use Rattle.unit_interface.specs.Exports.{in_items, with_type, is_in}
+use Rattle.unit_interface.specs.Resolve.{with_uses}
 use Rattle.tp_check_decl.specs.Units.{Whole}
 use Rattle.tp_check_decl.specs.Shown.{outlined, Shows}
 use Rattle.tp_check_decl.specs.Checked.{judged}
@@ -26,9 +28,15 @@ pub record IsShownBy (name : List ℕ) (says : Directives) (g : Environment) (tr
 
 -- so it is for every unit of a source
 abbrev pub Agree : Type 0
-Agree = (name : List ℕ) (says : Directives) (g : Environment) (tree : Tree) (unit : Whole) → IsGrown g.types → (judged name says g tree).holds unit
+Agree = (name : List ℕ) (says : Directives) (g : Environment) (have : List Interface) (tree : Tree) (unit : Whole) → IsGrown g.types → (judged name says g have tree).holds unit
     → IsShownBy name says g tree unit
 
--- the names of a unit are those of the scope that it was checked over
+-- the units that the implementation part of a source uses
+abbrev pub further_units : Tree → List (List ℕ)
+further_units (t.Program heading uses all body) = []
+further_units (t.Unit here own uses outer interface all body) = map (λ one. one.name) (drop outer uses.items)
+
+-- The names of a unit are those of the scope that it was checked over, and behind them those that its further used units bring along.
 abbrev pub KeepNames : Type 0
-KeepNames = (name : List ℕ) (says : Directives) (g : Environment) (tree : Tree) (unit : Whole) → (judged name says g tree).holds unit → unit.names ≡ g.units
+KeepNames = (name : List ℕ) (says : Directives) (g : Environment) (have : List Interface) (tree : Tree) (unit : Whole) → (judged name says g have tree).holds unit
+    → unit.names ≡ (with_uses have g (further_units tree)).units

@@ -3,7 +3,7 @@
 ghost use Rattle.interface_laws.specs.Agreement.{Agree, KeepNames};
 
 /// Where a source has a typed unit, what it shows is what its interface part alone shows, as long as the types behind that name
-/// types of their table alone. The names of the unit are those of the scope.
+/// types of their table alone. The names of the unit are those of the scope, with those that its further used units bring along.
 pub fn agreement_laws()
     ensures agree { Agree }
     ensures names { KeepNames }

@@ -5,12 +5,12 @@ use Rattle.type_layout.specs.declared.definitions.TypeDef.{TypeDef}
 use Rattle.type_layout.specs.declared.texts.Place.{Place}
 use Rattle.type_layout.specs.Layouts.{layout_at, size_of}
 use Rattle.typed_tree.specs.declared.expressions.Value.TheVariants.{Number}
-use Rattle.typed_tree.specs.Expressions.{Expression, Const, Load, Std}
+use Rattle.typed_tree.specs.Expressions.{Expression, Const, Load, Convert, Std}
 use Rattle.typed_tree.specs.Expressions as tree
 use Rattle.typing_rules.specs.declared.faults.Rule.TheVariants as rules
 use Rattle.typing_rules.specs.Faults.{broken}
 use Rattle.typing_rules.specs.Judgements.{Judgement, makes, refuses}
-use Rattle.typing_rules.specs.Sorts.{word}
+use Rattle.typing_rules.specs.Sorts.{word, number_type}
 use Rattle.call_rules.specs.Given.{place_of, arguments_of}
 
 -- the number of SizeOf among the standard routines
@@ -25,9 +25,10 @@ is_there (Some at) = true
 abbrev pub has_class : List TypeDef → TypeId → Bool
 has_class types ty = is_there (layout_at types ty).class_field
 
--- the bytes of a type's values, as a constant
+-- The bytes of a type's values: the number, converted to Word as a value cast does it. So it counts as a Word and not by its value,
+-- as it is no constant.
 abbrev pub sized : List TypeDef → TypeId → Expression
-sized types ty = Const word (Number (pos (size_of types ty)))
+sized types ty = Convert word (Const (number_type (pos (size_of types ty))) (Number (pos (size_of types ty))))
 
 -- What a variable's size is asked by: that of its type, whatever is in it; but an instance that says its class has the size of
 -- that, which is found as the program runs.

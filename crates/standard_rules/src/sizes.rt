@@ -12,7 +12,7 @@ use scopes::WORD;
 use std::alloc::Global;
 use type_layout::{Place, TypeId, Types, class_field_of, size_of};
 use typed_tree::{Arg, Expr, PlaceExpr, Value};
-use typing_rules::{Refusal, Rule, broken};
+use typing_rules::{Refusal, Rule, broken, number_type};
 
 const SIZE_OF: u32 = 12;
 
@@ -45,14 +45,19 @@ pub fn has_class(types: &Types, ty: TypeId) -> bool
     }
 }
 
-/// SizeOf of a type.
-pub fn sized(types: &Types, ty: TypeId) -> Expr
-    ensures { view_expr result ≡ sized types.now.types ty }
+/// SizeOf of a type: its number, converted to Word.
+pub fn sized(alloc: Global, types: &Types, ty: TypeId) -> Result<Expr, Refusal>
+    ensures { Gives view_expr result (Ok (sized types.now.types ty)) }
 {
-    Expr::Const {
+    let bytes = i32::from(bytes_of_type(types, ty));
+    let number = Expr::Const {
+        ty: number_type(bytes),
+        value: Value::Number(bytes),
+    };
+    Ok(Expr::Convert {
         ty: WORD,
-        value: Value::Number(i32::from(bytes_of_type(types, ty))),
-    }
+        operand: Box::new(alloc, number)?,
+    })
 }
 
 // SizeOf of an instance that says its class.
@@ -75,7 +80,7 @@ fn size_node(alloc: Global, types: &Types, ty: TypeId, at: PlaceExpr) -> Result<
     if has_class(types, ty) {
         size_asked(alloc, at)
     } else {
-        Ok(sized(types, ty))
+        sized(alloc, types, ty)
     }
 }
 

@@ -121,7 +121,7 @@ const BLOCKS: &[Row] = &[
     ("begin i := sizeof(nope:2) end.", "UnknownName 1 1:19"),
     ("begin i := sizeof(i, i) end.", "BadCall 19 1:12"),
     ("begin uv := new(up, init(1)) end.", "TypeMismatch 21 1:7"),
-    ("begin i := sizeof(oq) end.", "{0.0.0 := k2=4;}"),
+    ("begin i := sizeof(oq) end.", "{0.0.0 := c2 c3 k2=4;}"),
 ];
 
 #[test]

@@ -1,5 +1,5 @@
 -- Sources are judged lawfully.
-use Rattle.std.proofs.Common.{◌≡◌, ℕ, ◌≤◌, nat_le, true, false, not, List, [], ◌∷◌, ◌++◌, length, Option, Some, None, slice_get}
+use Rattle.std.proofs.Common.{◌≡◌, ℕ, ◌≤◌, nat_le, true, false, not, List, [], ◌∷◌, ◌++◌, Option, Some, None, drop}
 use Rattle.std.proofs.lemmas.Bool.{leb-true, le-leb}
 use Rattle.type_layout.specs.declared.definitions.TypeDef.{TypeDef}
 use Rattle.type_layout.specs.declared.texts.Place.{Place}
@@ -12,10 +12,12 @@ use Rattle.source_tree.specs.declared.source.InterfaceDeclaration.TheVariants as
 use Rattle.source_tree.specs.declared.source.Tree.{Tree}
 use Rattle.source_tree.specs.declared.source.Tree.TheVariants as t
 use Rattle.typed_tree.specs.declared.units.Item.{Item}
-use Rattle.scopes.specs.Members.{narrow}
 use Rattle.scopes.specs.Environment.{Environment}
+use Rattle.unit_interface.specs.declared.interfaces.Interface.{Interface}
+use Rattle.unit_interface.specs.Resolve.{with_use}
+use Rattle.unit_interface.specs.Fitting.{use_fits}
 use Rattle.typing_rules.specs.declared.faults.Rule.TheVariants as rules
-use Rattle.typing_rules.specs.Faults.{broken, not_yet, too_large}
+use Rattle.typing_rules.specs.Faults.{broken, too_large}
 use Rattle.typing_rules.specs.Judgements.{Judgement, makes, part}
 use Rattle.typing_rules.specs.Selectors.{asking}
 use Rattle.typing_rules.specs.Laws.{Lawful}
@@ -34,7 +36,7 @@ use Rattle.tp_check_decl.specs.Limits.{own_bytes, within_limit}
 use Rattle.tp_check_decl.specs.Fronts.{is_taken, is_new_use, uses_onto, may_overlay, is_overlaid_use, with_new, overlaid_onto, front, front_judged}
 use Rattle.tp_check_decl.specs.Endings.{finished_by, all_finished, main_judged, with_main, ended}
 use Rattle.tp_check_decl.specs.Programs.{unit_site, empty_draft, is_free, named_freely, declarations_judged, program_judged}
-use Rattle.tp_check_decl.specs.Interfaces.{items_of, seeing, declared, all_declared, interface_judged, is_name_of, named_so, is_origin, use_place, without_own, unit_front, implemented, unit_judged}
+use Rattle.tp_check_decl.specs.Interfaces.{items_of, declared, all_declared, interface_judged, is_name_of, named_so, unit_front, further_used, all_used, implemented, unit_judged}
 use Rattle.tp_check_decl.specs.Shown.{outline, nothing_shown, outlined}
 use Rattle.tp_check_decl.specs.Checked.{judged}
 
@@ -130,50 +132,55 @@ lawful_all_declared unit s [] = lawful_makes s
 lawful_all_declared unit s (one ∷ rest) =
     lawful_part (declared unit s one) (λ t. all_declared unit t rest) (lawful_declared unit s one) (λ t. lawful_all_declared unit t rest)
 
-lawful_interface : (name : List ℕ) (g : Environment) (uses : ℕ) (all : List InterfaceDeclaration) → Lawful (interface_judged name g uses all)
+lawful_interface : (name : List ℕ) (g : Environment) (all : List InterfaceDeclaration) → Lawful (interface_judged name g all)
 unfolding interface_judged
-lawful_interface name g uses all =
-    lawful_part (all_declared name (stage (empty_draft (seeing uses g)) []) all) (λ s. makes s.draft) (lawful_all_declared name (stage (empty_draft (seeing uses g)) []) all)
-    (λ s. lawful_makes s.draft)
+lawful_interface name g all =
+    lawful_part (all_declared name (stage (empty_draft g) []) all) (λ s. makes s.draft) (lawful_all_declared name (stage (empty_draft g) []) all) (λ s. lawful_makes s.draft)
 
 lawful_named : (file : List ℕ) (own : Identifier) → Lawful (named_so file own)
 lawful_named file own = lawful_rule (broken own.position.place rules.SourceName) (is_name_of file own.name) (is_name_of file own.name ≡ true) tt (λ e. e, λ e. e)
 
-lawful_implemented : (name : List ℕ) (front : Front) (uses : ℕ) (all : Works) (body : Option CompoundStatement) (d : Drafted) → Lawful (implemented name front uses all body d)
-lawful_implemented name front uses all body d =
-    lawful_part (all_judged name unit_site (stage (knowing d (seeing uses d.scope)) []) all) (λ s. ended name front (items_of d.scope) body s.draft)
-    (lawful_all name unit_site (stage (knowing d (seeing uses d.scope)) []) all) (λ s. lawful_ended name front (items_of d.scope) body s.draft)
-
-lawful_without_own : (name : List ℕ) (place : Place) (g : Environment) → Lawful (without_own name place g)
-lawful_without_own name place g = lawful_rule (not_yet place) (not (is_origin name g)) (is_origin name g ≡ false) tt (tells_not (is_origin name g))
-
-lawful_unit_front : (name : List ℕ) (says : Directives) (g : Environment) (own : Identifier) (uses : List Identifier) (outer : ℕ) → Lawful (unit_front name says g own uses outer)
+lawful_unit_front : (name : List ℕ) (says : Directives) (own : Identifier) (uses : List Identifier) → Lawful (unit_front name says own uses)
 unfolding unit_front
-lawful_unit_front name says g own uses outer =
-    let place = use_place own (slice_get uses outer) in
-    lawful_asking (named_so name own) (asking (without_own name place g) (front_judged says uses)) (lawful_named name own)
-    (lawful_asking (without_own name place g) (front_judged says uses) (lawful_without_own name place g) (lawful_front says uses))
+lawful_unit_front name says own uses = lawful_asking (named_so name own) (front_judged says uses) (lawful_named name own) (lawful_front says uses)
 
-lawful_unit : (name : List ℕ) (says : Directives) (g : Environment) (own : Identifier) (uses : List Identifier) (outer : ℕ) (interface : List InterfaceDeclaration) (all : Works) (body : Option CompoundStatement)
-    → Lawful (unit_judged name says g own uses outer interface all body)
-lawful_unit name says g own uses outer interface all body =
-    lawful_part (unit_front name says g own uses outer) (λ front. part (interface_judged name g (narrow outer) interface) (λ d. implemented name front (narrow (length uses)) all body d))
-    (lawful_unit_front name says g own uses outer)
-    (λ front. lawful_part (interface_judged name g (narrow outer) interface) (λ d. implemented name front (narrow (length uses)) all body d) (lawful_interface name g (narrow outer) interface)
-    (λ d. lawful_implemented name front (narrow (length uses)) all body d))
+lawful_further : (have : List Interface) (g : Environment) (one : Identifier) → Lawful (further_used have g one)
+lawful_further have g one =
+    lawful_rule (broken one.position.place rules.UnitNamed) (use_fits have g one.name) (use_fits have g one.name ≡ true) (with_use have g one.name) (λ e. e, λ e. e)
 
-pub lawful : (name : List ℕ) (says : Directives) (g : Environment) (tree : Tree) → Lawful (judged name says g tree)
-lawful name says g (t.Program heading uses all body) = lawful_program name says g uses.items (view_declarations all.items) body
-lawful name says g (t.Unit here own uses outer interface all body) = lawful_unit name says g own uses.items outer interface.items (view_declarations all.items) body
+lawful_all_used : (have : List Interface) (g : Environment) (uses : List Identifier) → Lawful (all_used have g uses)
+lawful_all_used have g [] = lawful_makes g
+lawful_all_used have g (one ∷ rest) = lawful_part (further_used have g one) (λ h. all_used have h rest) (lawful_further have g one) (λ h. lawful_all_used have h rest)
+
+lawful_implemented : (name : List ℕ) (front : Front) (items : List Item) (all : Works) (body : Option CompoundStatement) (d : Drafted) → Lawful (implemented name front items all body d)
+lawful_implemented name front items all body d =
+    lawful_part (all_judged name unit_site (stage d []) all) (λ s. ended name front items body s.draft) (lawful_all name unit_site (stage d []) all)
+    (λ s. lawful_ended name front items body s.draft)
+
+lawful_unit : (name : List ℕ) (says : Directives) (g : Environment) (have : List Interface) (own : Identifier) (uses : List Identifier) (outer : ℕ) (interface : List InterfaceDeclaration) (all : Works)
+    (body : Option CompoundStatement) → Lawful (unit_judged name says g have own uses outer interface all body)
+lawful_unit name says g have own uses outer interface all body =
+    let further = drop outer uses in
+    lawful_part (unit_front name says own uses)
+    (λ front. part (interface_judged name g interface) (λ d. part (all_used have d.scope further) (λ h. implemented name front (items_of d.scope) all body (knowing d h))))
+    (lawful_unit_front name says own uses)
+    (λ front. lawful_part (interface_judged name g interface) (λ d. part (all_used have d.scope further) (λ h. implemented name front (items_of d.scope) all body (knowing d h)))
+    (lawful_interface name g interface)
+    (λ d. lawful_part (all_used have d.scope further) (λ h. implemented name front (items_of d.scope) all body (knowing d h)) (lawful_all_used have d.scope further)
+    (λ h. lawful_implemented name front (items_of d.scope) all body (knowing d h))))
+
+pub lawful : (name : List ℕ) (says : Directives) (g : Environment) (have : List Interface) (tree : Tree) → Lawful (judged name says g have tree)
+lawful name says g have (t.Program heading uses all body) = lawful_program name says g uses.items (view_declarations all.items) body
+lawful name says g have (t.Unit here own uses outer interface all body) = lawful_unit name says g have own uses.items outer interface.items (view_declarations all.items) body
 
 -- ---- what sources show
 
-lawful_outline : (name : List ℕ) (says : Directives) (g : Environment) (own : Identifier) (uses : List Identifier) (outer : ℕ) (interface : List InterfaceDeclaration)
-    → Lawful (outline name says g own uses outer interface)
-lawful_outline name says g own uses outer interface =
-    lawful_part (unit_front name says g own uses outer) (λ front. part (interface_judged name g (narrow outer) interface) (λ d. makes (whole name front d.scope (items_of d.scope) d.globals [] None)))
-    (lawful_unit_front name says g own uses outer)
-    (λ front. lawful_part (interface_judged name g (narrow outer) interface) (λ d. makes (whole name front d.scope (items_of d.scope) d.globals [] None)) (lawful_interface name g (narrow outer) interface)
+lawful_outline : (name : List ℕ) (says : Directives) (g : Environment) (own : Identifier) (uses : List Identifier) (interface : List InterfaceDeclaration)
+    → Lawful (outline name says g own uses interface)
+lawful_outline name says g own uses interface =
+    lawful_part (unit_front name says own uses) (λ front. part (interface_judged name g interface) (λ d. makes (whole name front d.scope (items_of d.scope) d.globals [] None)))
+    (lawful_unit_front name says own uses)
+    (λ front. lawful_part (interface_judged name g interface) (λ d. makes (whole name front d.scope (items_of d.scope) d.globals [] None)) (lawful_interface name g interface)
     (λ d. lawful_makes (whole name front d.scope (items_of d.scope) d.globals [] None)))
 
 lawful_nothing : (name : List ℕ) (says : Directives) (g : Environment) (uses : List Identifier) → Lawful (nothing_shown name says g uses)
@@ -182,4 +189,4 @@ lawful_nothing name says g uses =
 
 pub lawful_outlined : (name : List ℕ) (says : Directives) (g : Environment) (tree : Tree) → Lawful (outlined name says g tree)
 lawful_outlined name says g (t.Program heading uses all body) = lawful_nothing name says g uses.items
-lawful_outlined name says g (t.Unit here own uses outer interface all body) = lawful_outline name says g own uses.items outer interface.items
+lawful_outlined name says g (t.Unit here own uses outer interface all body) = lawful_outline name says g own uses.items interface.items

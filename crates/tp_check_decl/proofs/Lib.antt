@@ -4,3 +4,4 @@ mod ItemSteps
 mod Showing
 mod NameLaws
 mod UnitLaws
+pub mod UsedLaws

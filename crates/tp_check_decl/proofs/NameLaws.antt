@@ -30,19 +30,22 @@ module _ (name : List ℕ) where
   named_ended front items None d unit h = name_of unit _ h.made
   named_ended front items (Some body) d unit h = name_of unit _ h.made
 
-  named_judged : (says : Directives) (g : Environment) (tree : Tree) (unit : Whole) → (judged name says g tree).holds unit → unit.name ≡ name
-  named_judged says g (t.Program heading uses all body) unit h = named_ended h.made.part [] (Some body) h.made.made.part unit h.made.made.made
-  named_judged says g (t.Unit here own uses outer interface all body) unit h = named_ended h.part (items_of h.made.part.scope) body h.made.made.part.draft unit h.made.made.made
+  named_judged : (says : Directives) (g : Environment) (have : List Interface) (tree : Tree) (unit : Whole) → (judged name says g have tree).holds unit → unit.name ≡ name
+  named_judged says g have (t.Program heading uses all body) unit h = named_ended h.made.part [] (Some body) h.made.made.part unit h.made.made.made
+  named_judged says g have (t.Unit here own uses outer interface all body) unit h =
+      let last = h.made.made.made in
+      named_ended h.part (items_of h.made.part.scope) body last.part.draft unit last.made
 
   pub named_outline : (says : Directives) (g : Environment) (tree : Tree) (unit : Whole) → (outlined name says g tree).holds unit → unit.name ≡ name
   named_outline says g (t.Program heading uses all body) unit h = name_of unit _ h.made
   named_outline says g (t.Unit here own uses outer interface all body) unit h = name_of unit _ h.made.made
 
   -- a unit that is answered has the name
-  pub named_answer : (says : Directives) (g : Environment) (tree : Tree) (answer : Result typed.Unit Refusal) → Gives view_unit answer (judged name says g tree).run
+  pub named_answer : (says : Directives) (g : Environment) (have : List Interface) (tree : Tree) (answer : Result typed.Unit Refusal) → Gives view_unit answer (judged name says g have tree).run
       → IfOk (answer_of answer) (λ (unit : typed.Unit). unit.name ≡ name)
-  named_answer says g tree (Ok unit) gives = named_judged says g tree (view_unit unit) (typed_answer view_unit (judged name says g tree) (lawful name says g tree) (Ok unit) gives)
-  named_answer says g tree (Err e) gives = tt
+  named_answer says g have tree (Ok unit) gives =
+      named_judged says g have tree (view_unit unit) (typed_answer view_unit (judged name says g have tree) (lawful name says g have tree) (Ok unit) gives)
+  named_answer says g have tree (Err e) gives = tt
 
 -- an interface has the name of its unit
 pub shown_name : (unit : typed.Unit) (interface : Interface) → IsInterfaceOf unit interface → interface.name ≡ unit.name

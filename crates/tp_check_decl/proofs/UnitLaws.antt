@@ -17,6 +17,7 @@ use Rattle.scopes.specs.Members.{narrow}
 use Rattle.scopes.specs.Environment.{Environment}
 use Rattle.well_formed.specs.WellFormed.{IsInitial, HasInitial}
 use Rattle.typing_rules.specs.declared.faults.Refusal.{Refusal}
+use Rattle.unit_interface.specs.declared.interfaces.Interface.{Interface}
 use Rattle.typing_rules.specs.Faults.{answer_of}
 use Rattle.typing_rules.specs.Judgements.{Gives}
 use Rattle.typing_rules.proofs.JudgementLaws.{typed_answer}
@@ -132,9 +133,11 @@ ended_sound name front items (Some body) d unit h =
       main = λ few. subst P (sym (number_fits all main few)) (main, at_end all main, main_is name d.scope body main h.right_holds);
     })
 
-judged_sound : (name : List ℕ) (says : Directives) (g : Environment) (tree : Tree) (unit : Whole) → (judged name says g tree).holds unit → IsSound unit
-judged_sound name says g (t.Program heading uses all body) unit h = ended_sound name h.made.part [] (Some body) h.made.made.part unit h.made.made.made
-judged_sound name says g (t.Unit here own uses outer interface all body) unit h = ended_sound name h.part (items_of h.made.part.scope) body h.made.made.part.draft unit h.made.made.made
+judged_sound : (name : List ℕ) (says : Directives) (g : Environment) (have : List Interface) (tree : Tree) (unit : Whole) → (judged name says g have tree).holds unit → IsSound unit
+judged_sound name says g have (t.Program heading uses all body) unit h = ended_sound name h.made.part [] (Some body) h.made.made.part unit h.made.made.made
+judged_sound name says g have (t.Unit here own uses outer interface all body) unit h =
+    let last = h.made.made.made in
+    ended_sound name h.part (items_of h.made.part.scope) body last.part.draft unit last.made
 
 -- ---- what is answered
 
@@ -144,18 +147,18 @@ has_initial all (Some number) h =
     let v = viewed all number h.0 h.1 in
     (v.routine, v.at, is_initial v.routine (subst (λ (one : Finished). IsMain one) (sym v.is) h.2))
 
-module _ (name : List ℕ) (says : Directives) (g : Environment) (tree : Tree) where
-  sound_answer : (unit : typed.Unit) → (judged name says g tree).run ≡ Ok (view_unit unit) → IsSound (view_unit unit)
-  sound_answer unit gives = judged_sound name says g tree (view_unit unit) (typed_answer view_unit (judged name says g tree) (lawful name says g tree) (Ok unit) gives)
+module _ (name : List ℕ) (says : Directives) (g : Environment) (have : List Interface) (tree : Tree) where
+  sound_answer : (unit : typed.Unit) → (judged name says g have tree).run ≡ Ok (view_unit unit) → IsSound (view_unit unit)
+  sound_answer unit gives = judged_sound name says g have tree (view_unit unit) (typed_answer view_unit (judged name says g have tree) (lawful name says g have tree) (Ok unit) gives)
 
-  pub initial_answer : (answer : Result typed.Unit Refusal) → Gives view_unit answer (judged name says g tree).run
+  pub initial_answer : (answer : Result typed.Unit Refusal) → Gives view_unit answer (judged name says g have tree).run
       → IfOk (answer_of answer) (λ (unit : typed.Unit). length unit.routines < 2 ^ 32 → HasInitial unit.routines unit.initial)
   initial_answer (Ok unit) gives = λ few.
       let many : length (map view_routine unit.routines) < 2 ^ 32 = omega (arith, length-map unit.routines view_routine, few) in
       has_initial unit.routines unit.initial ((sound_answer unit gives).main many)
   initial_answer (Err e) gives = tt
 
-  pub small_answer : (answer : Result typed.Unit Refusal) → Gives view_unit answer (judged name says g tree).run
+  pub small_answer : (answer : Result typed.Unit Refusal) → Gives view_unit answer (judged name says g have tree).run
       → IfOk (answer_of answer) (λ (unit : typed.Unit). All (KeepsLimit unit.types.types) unit.routines)
   small_answer (Ok unit) gives = all_kept unit.types.types unit.routines (sound_answer unit gives).keep
   small_answer (Err e) gives = tt

@@ -1,6 +1,5 @@
 -- Interface parts, and units.
-use Rattle.std.specs.Prelude.{◌≡◌, ℕ, Bool, true, false, not, ◌&&◌, ◌||◌, List, [], ◌∷◌, ◌++◌, Option, Some, None, length, slice_get}
-use Rattle.type_layout.specs.declared.texts.Place.{Place}
+use Rattle.std.specs.Prelude.{◌≡◌, ℕ, Bool, true, not, ◌&&◌, ◌||◌, List, [], ◌∷◌, ◌++◌, Option, Some, None, drop}
 use Rattle.type_layout.specs.Words.{same_bytes}
 use Rattle.syntax_tree.specs.declared.identifier.Identifier.{Identifier}
 use Rattle.syntax_tree.specs.declared.statement.CompoundStatement.{CompoundStatement}
@@ -12,10 +11,12 @@ use Rattle.typed_tree.specs.declared.units.Item.TheVariants as item
 use Rattle.scopes.specs.declared.entries.Entry.{Entry}
 use Rattle.scopes.specs.declared.entries.Entry.TheVariants as entry
 use Rattle.scopes.specs.Symbols.{SymbolList}
-use Rattle.scopes.specs.Members.{narrow}
 use Rattle.scopes.specs.Environment.{Environment, own_symbols}
+use Rattle.unit_interface.specs.declared.interfaces.Interface.{Interface}
+use Rattle.unit_interface.specs.Resolve.{with_use}
+use Rattle.unit_interface.specs.Fitting.{use_fits}
 use Rattle.typing_rules.specs.declared.faults.Rule.TheVariants as rules
-use Rattle.typing_rules.specs.Faults.{broken, not_yet}
+use Rattle.typing_rules.specs.Faults.{broken}
 use Rattle.typing_rules.specs.Judgements.{Judgement, makes, rule, part}
 use Rattle.typing_rules.specs.Selectors.{asking}
 use Rattle.routines.specs.Trees.{Works}
@@ -24,7 +25,7 @@ use Rattle.routines.specs.Headings.{heading}
 use Rattle.routines.specs.Blocks.{part_judged, all_judged}
 use Rattle.tp_check_decl.specs.declared.fronts.Front.{Front}
 use Rattle.tp_check_decl.specs.Units.{Whole}
-use Rattle.tp_check_decl.specs.Fronts.{is_system, is_overlay, is_listed, front_judged}
+use Rattle.tp_check_decl.specs.Fronts.{is_system, is_overlay, front_judged}
 use Rattle.tp_check_decl.specs.Endings.{ended}
 use Rattle.tp_check_decl.specs.Programs.{unit_site, empty_draft}
 
@@ -52,10 +53,6 @@ items_of g = items_by (own_symbols g)
 
 -- ---- interface parts
 
--- where the first used units alone are seen
-abbrev pub seeing : ℕ → Environment → Environment
-seeing uses g = record g { seen = uses }
-
 -- Routines of an interface part are far.
 abbrev pub declared : List ℕ → Stage → InterfaceDeclaration → Judgement Stage
 declared unit s (i.Part one) = part_judged unit unit_site s one
@@ -65,9 +62,9 @@ abbrev pub all_declared : List ℕ → Stage → List InterfaceDeclaration → J
 all_declared unit s [] = makes s
 all_declared unit s (one ∷ rest) = part (declared unit s one) (λ t. all_declared unit t rest)
 
--- A unit behind its interface part, in which the used units of its own clause are seen.
-unfoldable pub interface_judged : List ℕ → Environment → ℕ → List InterfaceDeclaration → Judgement Drafted
-interface_judged name g uses all = part (all_declared name (stage (empty_draft (seeing uses g)) []) all) (λ s. makes s.draft)
+-- A unit behind its interface part.
+unfoldable pub interface_judged : List ℕ → Environment → List InterfaceDeclaration → Judgement Drafted
+interface_judged name g all = part (all_declared name (stage (empty_draft g) []) all) (λ s. makes s.draft)
 
 -- ---- what stands in front of a unit
 
@@ -78,33 +75,31 @@ is_name_of file name = same_bytes name file && not (is_system name || is_overlay
 abbrev pub named_so : List ℕ → Identifier → Judgement (Unit {0})
 named_so file own = rule (broken own.position.place rules.SourceName) (is_name_of file own.name) (is_name_of file own.name ≡ true) tt
 
--- whether the table has types of this unit
-abbrev pub is_origin : List ℕ → Environment → Bool
-is_origin name g = is_listed g.types.units name
+-- a unit's name, its used units, and what its directives say
+unfoldable pub unit_front : List ℕ → Directives → Identifier → List Identifier → Judgement Front
+unit_front name says own uses = asking (named_so name own) (front_judged says uses)
 
--- where the implementation part begins to name used units, if it does
-abbrev pub use_place : Identifier → Option Identifier → Place
-use_place own None = own.position.place
-use_place own (Some used) = used.position.place
+-- ---- the units that the implementation part uses
 
--- No used unit shows types of the unit itself. Where one does, which the implementation part uses, it is not built yet that they
--- are the types that the unit declares.
-abbrev pub without_own : List ℕ → Place → Environment → Judgement (Unit {0})
-without_own name place g = rule (not_yet place) (not (is_origin name g)) (is_origin name g ≡ false) tt
+-- A further used unit comes into the scope behind the interface part, where the types that it shows fit those that are there. A type
+-- of the unit itself that comes back is the one that the unit has declared, by its number.
+abbrev pub further_used : List Interface → Environment → Identifier → Judgement Environment
+further_used have g one =
+    rule (broken one.position.place rules.UnitNamed) (use_fits have g one.name) (use_fits have g one.name ≡ true) (with_use have g one.name)
 
--- a unit's name, its used units, the first of which its interface part names, and what its directives say
-unfoldable pub unit_front : List ℕ → Directives → Environment → Identifier → List Identifier → ℕ → Judgement Front
-unit_front name says g own uses outer =
-    asking (named_so name own) (asking (without_own name (use_place own (slice_get uses outer)) g) (front_judged says uses))
+abbrev pub all_used : List Interface → Environment → List Identifier → Judgement Environment
+all_used have g [] = makes g
+all_used have g (one ∷ rest) = part (further_used have g one) (λ h. all_used have h rest)
 
 -- ---- units
 
 -- The implementation part is in the block of the interface part, and sees all used units.
-abbrev pub implemented : List ℕ → Front → ℕ → Works → Option CompoundStatement → Drafted → Judgement Whole
-implemented name front uses all body d =
-    part (all_judged name unit_site (stage (knowing d (seeing uses d.scope)) []) all) (λ s. ended name front (items_of d.scope) body s.draft)
+abbrev pub implemented : List ℕ → Front → List Item → Works → Option CompoundStatement → Drafted → Judgement Whole
+implemented name front items all body d = part (all_judged name unit_site (stage d []) all) (λ s. ended name front items body s.draft)
 
-abbrev pub unit_judged : List ℕ → Directives → Environment → Identifier → List Identifier → ℕ → List InterfaceDeclaration → Works → Option CompoundStatement → Judgement Whole
-unit_judged name says g own uses outer interface all body =
-    part (unit_front name says g own uses outer) (λ front.
-    part (interface_judged name g (narrow outer) interface) (λ d. implemented name front (narrow (length uses)) all body d))
+-- a unit over what is known by the first of its used units, which its interface part names, and by these interfaces of the others
+abbrev pub unit_judged : List ℕ → Directives → Environment → List Interface → Identifier → List Identifier → ℕ → List InterfaceDeclaration → Works → Option CompoundStatement → Judgement Whole
+unit_judged name says g have own uses outer interface all body =
+    part (unit_front name says own uses) (λ front.
+    part (interface_judged name g interface) (λ d.
+    part (all_used have d.scope (drop outer uses)) (λ h. implemented name front (items_of d.scope) all body (knowing d h))))

@@ -6,7 +6,6 @@ use Rattle.source_tree.specs.declared.source.Tree.{Tree}
 use Rattle.source_tree.specs.declared.source.Tree.TheVariants as t
 use Rattle.source_directives.specs.declared.collected.Directives.{Directives}
 use Rattle.typed_tree.specs.declared.units.Unit as typed
-use Rattle.scopes.specs.Members.{narrow}
 use Rattle.scopes.specs.Environment.{Environment}
 use Rattle.unit_interface.specs.declared.interfaces.Interface.{Interface}
 use Rattle.unit_interface.specs.Exports.{IsInterfaceOf}
@@ -17,10 +16,10 @@ use Rattle.tp_check_decl.specs.Fronts.{front_judged}
 use Rattle.tp_check_decl.specs.Interfaces.{items_of, interface_judged, unit_front}
 
 -- the unit of an interface part, without what the implementation part declares
-abbrev pub outline : List ℕ → Directives → Environment → Identifier → List Identifier → ℕ → List InterfaceDeclaration → Judgement Whole
-outline name says g own uses outer interface =
-    part (unit_front name says g own uses outer) (λ front.
-    part (interface_judged name g (narrow outer) interface) (λ d. makes (whole name front d.scope (items_of d.scope) d.globals [] None)))
+abbrev pub outline : List ℕ → Directives → Environment → Identifier → List Identifier → List InterfaceDeclaration → Judgement Whole
+outline name says g own uses interface =
+    part (unit_front name says own uses) (λ front.
+    part (interface_judged name g interface) (λ d. makes (whole name front d.scope (items_of d.scope) d.globals [] None)))
 
 -- A program shows nothing.
 abbrev pub nothing_shown : List ℕ → Directives → Environment → List Identifier → Judgement Whole
@@ -28,7 +27,7 @@ nothing_shown name says g uses = part (front_judged says uses) (λ front. makes 
 
 abbrev pub outlined : List ℕ → Directives → Environment → Tree → Judgement Whole
 outlined name says g (t.Program heading uses all body) = nothing_shown name says g uses.items
-outlined name says g (t.Unit here own uses outer interface all body) = outline name says g own uses.items outer interface.items
+outlined name says g (t.Unit here own uses outer interface all body) = outline name says g own uses.items interface.items
 
 -- a unit with these names, types and items, which alone are shown
 abbrev pub with_nothing_else : Whole → typed.Unit

@@ -18,6 +18,7 @@ use std::alloc::Global;
 use type_layout::Name;
 use typed_tree::Unit;
 use typing_rules::{CheckError, Refusal, error_for};
+use unit_interface::Interface;
 
 fn judged(
     alloc: Global,
@@ -25,8 +26,9 @@ fn judged(
     tree: &Tree,
     says: &Directives,
     scope: &Scope,
+    have: &[Interface],
 ) -> Result<Unit, Refusal>
-    ensures { Gives view_unit result (judged name.now says.now scope.now tree.now).run }
+    ensures { Gives view_unit result (judged name.now says.now scope.now have.now tree.now).run }
 {
     match tree {
         Tree::Program {
@@ -58,6 +60,7 @@ fn judged(
             declarations.as_slice(),
             body.as_ref(),
             scope,
+            have,
         ),
     }
 }
@@ -72,19 +75,22 @@ fn answered(found: Result<Unit, Refusal>) -> Result<Unit, CheckError>
     }
 }
 
-/// The typed unit of a source with its directives, over the scope that its file's name was resolved to. An error names a rule that
-/// fails, or what is left out or too large, and the place.
+/// The typed unit of a source with its directives, over the scope of the units that its interface part uses, for which its file's name
+/// was resolved; a program's are all that it uses. What the units show that the implementation part uses, as told by the first of
+/// these interfaces with their names, comes into the scope behind the interface part. An error names a rule that fails, or what is
+/// left out or too large, and the place; a unit whose types don't fit those that are there is told at its name.
 pub fn check(
     alloc: Global,
     name: &Name,
     tree: &Tree,
     says: &Directives,
     scope: &Scope,
+    have: &[Interface],
 ) -> Result<Unit, CheckError>
     // Every rule holds in the source, and this is its unit.
-    ensures typed { IfOk result (λ unit. IsTypedAs name.now says.now scope.now tree.now (view_unit unit)) }
+    ensures typed { IfOk result (λ unit. IsTypedAs name.now says.now scope.now have.now tree.now (view_unit unit)) }
     // A source with a unit is given it, but for want of memory.
-    ensures complete { (unit : Whole) → IsTypedAs name.now says.now scope.now tree.now unit → IsAnswered view_unit unit result }
+    ensures complete { (unit : Whole) → IsTypedAs name.now says.now scope.now have.now tree.now unit → IsAnswered view_unit unit result }
     // The unit has the name of its file.
     ensures named { IfOk result (λ unit. unit.name ≡ name.now) }
     // Its main or initialisation part, if there is one, is a far procedure among its routines.
@@ -92,9 +98,9 @@ pub fn check(
     // Each of its routines takes at most 65,000 bytes of the stack for itself.
     ensures small { IfOk result (λ unit. All (KeepsLimit unit.types.types) unit.routines) }
     // What is told of fails there.
-    ensures fails { IfErr result (λ error. Tells (FailsAt name.now says.now scope.now tree.now) error) }
+    ensures fails { IfErr result (λ error. Tells (FailsAt name.now says.now scope.now have.now tree.now) error) }
 {
-    answered(judged(alloc, name, tree, says, scope))
+    answered(judged(alloc, name, tree, says, scope, have))
 }
 
 /// A source has a typed unit exactly where no rule fails in it, and then one alone.

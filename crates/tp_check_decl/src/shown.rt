@@ -9,7 +9,7 @@ ghost use Rattle.tp_check_decl.specs.Shown.{outline, nothing_shown, outlined, Is
 
 use crate::endings::whole;
 use crate::fronts::front_judged;
-use crate::interfaces::{interface_judged, number_of, unit_front};
+use crate::interfaces::{interface_judged, unit_front};
 use crate::items::items_of;
 use routines::Draft;
 use scopes::Scope;
@@ -29,15 +29,13 @@ fn outline(
     says: &Directives,
     own: &Identifier,
     uses: &[Identifier],
-    interface_uses: usize,
     interface: &[InterfaceDeclaration],
     scope: &Scope,
 ) -> Result<Unit, Refusal>
-    ensures { Gives view_unit result (outline name.now says.now scope.now own.now uses.now interface_uses interface.now).run }
+    ensures { Gives view_unit result (outline name.now says.now scope.now own.now uses.now interface.now).run }
 {
-    let front = unit_front(alloc, name, says, own, uses, interface_uses, scope)?;
-    let outer = number_of(interface_uses);
-    let (scope, draft) = interface_judged(alloc, interface, scope, name, outer)?;
+    let front = unit_front(alloc, name, says, own, uses)?;
+    let (scope, draft) = interface_judged(alloc, interface, scope, name)?;
     let items = items_of(alloc, &scope)?;
     let Draft { globals, .. } = draft;
     let routines = Routines::new(alloc);
@@ -76,19 +74,17 @@ fn outlined(
         Tree::Unit {
             name: own,
             uses,
-            interface_uses,
             interface,
             ..
         } => {
             let uses = uses.as_slice();
-            let all = interface.as_slice();
-            outline(alloc, name, says, own, uses, *interface_uses, all, scope)
+            outline(alloc, name, says, own, uses, interface.as_slice(), scope)
         }
     }
 }
 
-/// What a source shows to those that use it, by its interface part alone: the interface that its unit has. An error names a rule
-/// that fails there, or what is left out or too large, and the place.
+/// What a source shows to those that use it, by its interface part alone, over the scope of the units that this part uses: the
+/// interface that its unit has. An error names a rule that fails there, or what is left out or too large, and the place.
 pub fn check_interface(
     alloc: Global,
     name: &Name,

@@ -276,7 +276,7 @@ fn size_asked(
     ensures { Gives view_expr result (size_of_one scope.now place (view_expression tree.now)).run }
 {
     match type_at(scope, tree) {
-        Some(named) => Ok(sized(scope.types(), named.ty)),
+        Some(named) => sized(alloc, scope.types(), named.ty),
         None => {
             let one = expression_as(alloc, tree, Purpose::Variable, scope)?;
             variable_sized(alloc, scope.types(), place, one)

@@ -1,7 +1,6 @@
 -- SizeOf is typed.
-use Rattle.std.proofs.Common.{ℕ, zero, suc, ◌≤◌, All, Bool, true, false, cond, List, [], ◌∷◌, get_or, Some, sym, subst, arith}
+use Rattle.std.proofs.Common.{◌≡◌, ℕ, zero, suc, ◌≤◌, All, Bool, true, false, cond, List, [], ◌∷◌, get_or, Some, inl, sym, subst, arith}
 use Rattle.std.proofs.Math.IntN.{pos}
-use Rattle.std.specs.Prelude.{◌≤ℤ◌}
 use Rattle.std.proofs.lemmas.Int.{ints}
 use Rattle.std.proofs.lemmas.List.Elements.{All-head, All-tail}
 use Rattle.type_layout.specs.declared.definitions.TypeId.{TypeId}
@@ -9,17 +8,20 @@ use Rattle.type_layout.specs.declared.definitions.Host.TheVariants as host
 use Rattle.type_layout.specs.declared.texts.Place.{Place}
 use Rattle.type_layout.specs.declared.layout.Layout.{Layout}
 use Rattle.type_layout.specs.Layouts.{plain, layouts_of, size_of}
+use Rattle.type_layout.specs.Storage.{holds}
 use Rattle.typed_tree.specs.Expressions as tree
 use Rattle.typed_tree.specs.Expressions.{Expression, Load, Std, NoArguments, ByPlace}
-use Rattle.well_formed.specs.Fits.{definition}
+use Rattle.well_formed.specs.Fits.{definition, stored_as}
 use Rattle.well_formed.specs.Scopes.{Scope, HasType}
 use Rattle.well_formed.specs.Typed.{IsTyped, HasPlace}
 use Rattle.well_formed.specs.Standard.{Variable, Size, size}
-use Rattle.typing_rules.specs.Sorts.{word}
+use Rattle.typing_rules.specs.Sorts.{word, only, number_type}
 use Rattle.standard_rules.specs.Sizes.{has_class, sized, variable_sized}
 use Rattle.typed_nodes.specs.Tables.{IsSound}
 use Rattle.typed_nodes.specs.Laws.{IsOperand}
-use Rattle.typed_nodes.proofs.Ordinals.{holding, value_held, stored_word}
+use Rattle.typed_nodes.proofs.Ordinals.{holding, holding_wide, stored_word}
+use Rattle.typed_nodes.proofs.Wanting.{some_of}
+use Rattle.typed_nodes.proofs.Combined.{number_value}
 use Rattle.typed_nodes.proofs.Indexed.{type_some, loaded_from}
 
 abbrev IsSmall : Layout → Type 0
@@ -32,12 +34,18 @@ get_small (layout ∷ layouts) zero all = All-head IsSmall layout layouts all
 get_small (layout ∷ layouts) (suc k) all = get_small layouts k (All-tail IsSmall layout layouts all)
 
 module _ (s : Scope) (sound : IsSound s.types) where
+  size_within : (n : ℕ) → n ≤ 65520 → holds host.LongInt (pos n) (pos n) ≡ true
+  size_within n small = holding host.LongInt (pos n) (omega (arith, ints)) (omega (arith, ints, small))
+
   pub sized_typed : (ty : TypeId) → IsTyped s (sized s.types ty)
   sized_typed ty =
-      let small : size_of s.types ty ≤ 65520 = get_small (layouts_of s.types) ty.0 sound.fits in
-      let least : pos 0 ≤ℤ pos (size_of s.types ty) = omega (arith, ints) in
-      let most : pos (size_of s.types ty) ≤ℤ pos 65535 = omega (arith, ints, small) in
-      value_held s.types (definition s.types word) host.Word (pos (size_of s.types ty)) (stored_word s.types sound) (holding host.Word (pos (size_of s.types ty)) least most)
+      let n = pos (size_of s.types ty) in
+      let wide = holding_wide s.types sound (only n) in
+      let to = stored_as (definition s.types word) in
+      let from = stored_as (definition s.types (number_type n)) in (
+        number_value s sound n (size_within (size_of s.types ty) (get_small (layouts_of s.types) ty.0 sound.fits)),
+        inl (some_of to host.Word (stored_word s.types sound), some_of from wide.0 wide.1),
+      )
 
   node_by : (ty : TypeId) (at : tree.Place) → HasType s ty → HasPlace s at ty → (b : Bool) → IsTyped s (cond b (Std (Some word) 12 (ByPlace at NoArguments)) (sized s.types ty))
   node_by ty at there has true =

@@ -9,5 +9,6 @@ pub mod OverlayLaws
 pub mod ReachLaws
 pub mod ShownLaws
 pub mod FittingLaws
+pub mod FitLaws
 pub mod KeptLaws
 pub mod KeyLaws

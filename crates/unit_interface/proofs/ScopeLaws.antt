@@ -1,5 +1,5 @@
 -- Steps of the loop over the types of an interface, in a scope.
-use Rattle.std.proofs.Common.{◌≡◌, ℕ, ◌+◌, List, [], true, false, sym, ap, subst, ◌∙◌, add-one}
+use Rattle.std.proofs.Common.{◌≡◌, ℕ, ◌+◌, List, [], true, false, inl, sym, ap, subst, ◌∙◌, add-one}
 use Rattle.std.specs.Prelude.{Some, slice_get, get_or}
 use Rattle.type_layout.specs.declared.definitions.TypeId.{TypeId}
 use Rattle.type_layout.specs.declared.definitions.TypeDef.{TypeDef}
@@ -9,7 +9,7 @@ use Rattle.scopes.specs.Environment.{Environment}
 use Rattle.unit_interface.specs.declared.merge.MergeError.{MergeError}
 use Rattle.unit_interface.specs.declared.merge.MergeError.TheVariants.{Mismatch, NoMemory}
 use Rattle.unit_interface.specs.Merge.{renumbered, is_new, with_merged, merged}
-use Rattle.unit_interface.specs.Misfits.{IsMisfitCause, IsMisfitAt, IsUnfit, IsCause}
+use Rattle.unit_interface.specs.Misfits.{IsMisfitCause, IsMisfitAt, IsOutOfPlace, IsCause}
 use Rattle.unit_interface.proofs.MergeLaws.{merged-new, merged-old}
 
 pub merge-step : (env now new : Environment) (other : Table) (ids : List TypeId) (number : ℕ)
@@ -23,7 +23,7 @@ pub merge-stop : (env now : Environment) (other : Table) (ids : List TypeId) (nu
     → now ≡ record env { types = merged other ids env.types number } → IsMisfitAt ids now.types other number error → IsCause ids env.types other error
 merge-stop env now other ids number Mismatch so_far unfit = record {
   number = number;
-  unfit = subst (λ (e : Environment). IsUnfit ids e.types other number) so_far unfit;
+  unfit = subst (λ (e : Environment). IsOutOfPlace ids e.types other number) so_far unfit;
 }
 merge-stop env now other ids number NoMemory so_far unfit = tt
 
@@ -47,12 +47,13 @@ pub type-unfit : (env : Environment) (other : Table) (ids : List TypeId) (number
     → slice_get other.types number ≡ Some one → slice_get other.origins number ≡ Some origin → name ≡ get_or other.units origin.unit []
     → is_new ids env.types number ≡ true → added ≡ renumbered ids (place_of env.types.units name) one
     → IsMisfitCause env.types name added error → IsMisfitAt ids env.types other number error
-type-unfit env other ids number one added origin name Mismatch at from named new_id is misfit = record {
-  one = one;
-  origin = origin;
-  stands = at;
-  declared = from;
-  new = new_id;
-  misfit = rw (← named, ← is) misfit;
-}
+type-unfit env other ids number one added origin name Mismatch at from named new_id is misfit =
+    inl (record {
+      one = one;
+      origin = origin;
+      stands = at;
+      declared = from;
+      new = new_id;
+      misfit = rw (← named, ← is) misfit;
+    })
 type-unfit env other ids number one added origin name NoMemory at from named new_id is misfit = tt

@@ -6,3 +6,4 @@ pub mod Misfits
 pub mod Resolve
 pub mod Exports
 pub mod Keyed
+pub mod Fitting

@@ -1,24 +1,26 @@
 //! The types and items of an interface, as they come into a scope.
 
-ghost use Rattle.std.specs.Prelude.{◌≡◌, ◌<◌, [], length, IfErr, IfOk, OnOk};
+ghost use Rattle.std.specs.Prelude.{◌≡◌, ◌+◌, ◌<◌, true, [], get_or, length, option_copied, slice_get, IfErr, IfOk, OnOk};
 ghost use Rattle.scopes.specs.Predeclared.{system};
 ghost use Rattle.type_layout.specs.Words.{same_bytes};
 ghost use Rattle.type_layout.specs.Table.{IsWellFormed, place_of, with_type};
 ghost use Rattle.unit_interface.specs.Merge.{renumbered, is_new, with_merged, merged, name_of, entry_of, with_items, with_declaring, with_all_declaring, with_interface};
-ghost use Rattle.unit_interface.specs.Misfits.{IsMisfitCause, IsMisfitAt, IsCause, IsMergeCause};
+ghost use Rattle.unit_interface.specs.Misfits.{follows, is_torn, IsMisfitCause, IsMisfitAt, IsCause, IsMergeCause};
+ghost use Rattle.unit_interface.specs.Fitting.{stands, fits_at, fit_first, types_fit};
 
 use crate::Interface;
 use crate::keys::ids_in;
 use crate::renumber::{header_of, new_id, type_of};
 use scopes::{Entry, Scope, Symbols};
 use std::alloc::{AllocError, Global};
-use type_layout::{Name, RoutineId, TypeDef, TypeError, TypeId, Types};
+use type_layout::{Host, Name, RoutineId, TypeDef, TypeError, TypeId, Types};
 use typed_tree::{Item, Value};
 
 /// Why the types of an interface don't come into a table.
 #[derive(Debug, Drop)]
-pub(crate) enum MergeError {
-    /// A type can't stand on those that the table has for its parts, or is too large.
+pub enum MergeError {
+    /// A type can't stand on those that the table has for its parts, is too large, or is an ordinal type of an enumeration without
+    /// the set behind it.
     Mismatch,
     NoMemory,
 }
@@ -65,19 +67,50 @@ pub(crate) fn added_type(
     type_of(alloc, ids, place, one)
 }
 
+// The id of a type with this number.
+fn id_of(ids: &[TypeId], number: u32) -> TypeId
+    ensures { result ≡ get_or ids.now number (record { 0 = number }) }
+{
+    match ids.get(number as usize) {
+        Some(id) => *id,
+        None => TypeId(number),
+    }
+}
+
 // Whether the type with this number has the id of the type that is added next.
 fn is_new(ids: &[TypeId], types: &Types, number: u32) -> bool
     ensures { result ≡ is_new ids.now types.now number }
 {
-    let id = match ids.get(number as usize) {
-        Some(id) => *id,
-        None => TypeId(number),
-    };
-    id.0 >= types.count()
+    id_of(ids, number).0 >= types.count()
+}
+
+// Whether an id follows another.
+fn follows(id: TypeId, next: Option<TypeId>) -> bool
+    ensures { result ≡ follows id next }
+{
+    match next {
+        Some(next) => u64::from(next.0) == u64::from(id.0) + 1,
+        None => false,
+    }
+}
+
+// Whether the type with this number is an ordinal type of an enumeration, and the set behind it doesn't get the next id.
+fn is_torn(ids: &[TypeId], other: &Types, number: u32) -> bool
+    requires { number < length other.now.types }
+    ensures { result ≡ is_torn ids.now other.now number }
+{
+    match other.get(TypeId(number)) {
+        TypeDef::Ordinal { host, .. } if matches!(host, Host::Enumeration) => {
+            let next = ids.get(number as usize + 1).copied();
+            !follows(id_of(ids, number), next)
+        }
+        _ => false,
+    }
 }
 
 fn add(scope: &mut Scope, origin: Name, number: u32, one: TypeDef) -> Result<(), MergeError>
     ensures ok { OnOk result (scope.new ≡ record scope.old { types = with_type scope.old.types origin number one }) }
+    ensures fits { OnOk result (stands scope.old.types origin one ≡ true) }
     ensures cause { IfErr result (IsMisfitCause scope.old.types origin one) }
 {
     if !scope.types().takes(&origin, &one) {
@@ -101,10 +134,14 @@ fn merge_type(
     requires known { number < length other.now.types }
     requires well_formed { IsWellFormed other.now }
     ensures ok { OnOk result (scope.new ≡ record scope.old { types = with_merged other.now ids.now scope.old.types number }) }
+    ensures fits { OnOk result (fits_at ids.now scope.old.types other.now number ≡ true) }
     ensures cause { IfErr result (IsMisfitAt ids.now scope.old.types other.now number) }
 {
     if !is_new(ids, scope.types(), number) {
         return Ok(());
+    }
+    if is_torn(ids, other, number) {
+        return Err(MergeError::Mismatch);
     }
     let (unit, own) = other.origin(TypeId(number));
     let origin = other.units()[unit as usize].copied();
@@ -121,6 +158,7 @@ fn merge_type(
 // The types of another table, as they come into this one.
 fn merge(alloc: Global, scope: &mut Scope, other: &Types, ids: &[TypeId]) -> Result<(), MergeError>
     ensures ok { OnOk result (scope.new ≡ record scope.old { types = merged other.now ids.now scope.old.types (length other.now.types) }) }
+    ensures fits { OnOk result (fit_first ids.now scope.old.types other.now (length other.now.types) ≡ true) }
     ensures cause { IfErr result (IsCause ids.now scope.old.types other.now) }
 {
     for number in 0..other.count() {
@@ -236,6 +274,7 @@ pub(crate) fn add_interface(
     interface: &Interface,
 ) -> Result<(), MergeError>
     ensures ok { OnOk result (scope.new ≡ with_interface scope.old interface.now) }
+    ensures fits { OnOk result (types_fit scope.old.types interface.now.types ≡ true) }
     ensures cause { IfErr result (IsMergeCause scope.old.types interface.now.types) }
 {
     let ids = ids_in(alloc, scope.types(), &interface.types)?;

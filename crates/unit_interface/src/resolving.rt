@@ -1,9 +1,11 @@
 //! The scope of a unit or program that uses other units.
 
-ghost use Rattle.std.specs.Prelude.{◌≡◌, ◌≤◌, ℕ, List, length, take, option_copied, IfErr, IfOk, OnOk};
+ghost use Rattle.std.specs.Prelude.{◌≡◌, ◌≤◌, ℕ, true, List, length, take, option_copied, IfErr, IfOk, OnOk};
 ghost use Rattle.std.specs.List.{list_any};
 ghost use Rattle.type_layout.specs.Words.{same_bytes};
+ghost use Rattle.scopes.specs.Predeclared.{first};
 ghost use Rattle.unit_interface.specs.Keyed.{IsKeyed};
+ghost use Rattle.unit_interface.specs.Fitting.{use_fits, uses_fit, TellsFit};
 ghost use Rattle.unit_interface.specs.Resolve.{is_overlay, interface_named, with_use, resolved, is_there, is_repeated, IsMissing, IsDuplicate, IsUseCause, IsNameCause, IsCause};
 
 use crate::Interface;
@@ -102,7 +104,10 @@ fn check_uses(uses: &[Name], have: &[Interface]) -> Result<(), ResolveError>
     Ok(())
 }
 
-fn use_unit(
+/// Adds a used unit to a scope, which may have open blocks: OVERLAY, or what the first interface with this name shows. A type that
+/// the table has keeps its id, so types of the unit itself that come back are those that it declares. A name without an interface
+/// is passed over.
+pub fn use_unit(
     alloc: Global,
     scope: &mut Scope,
     have: &[Interface],
@@ -110,6 +115,8 @@ fn use_unit(
 ) -> Result<(), MergeError>
     ensures ok { OnOk result (scope.new ≡ with_use have.now scope.old name.now) }
     ensures cause { IfErr result (IsUseCause have.now scope.old name.now) }
+    // It is Mismatch where the types don't fit, and only there.
+    ensures fits { TellsFit (use_fits have.now scope.old name.now) result }
 {
     if is_overlay(name) {
         add_overlay(alloc, scope)?;
@@ -134,6 +141,7 @@ pub fn resolve(
     ensures keyed { IfOk result (λ scope. IsKeyed scope.types) }
     ensures once { OnOk result ((used : List ℕ) → IsDuplicate uses.now used → ⊥) }
     ensures there { OnOk result ((used : List ℕ) → IsMissing have.now uses.now used → ⊥) }
+    ensures fits { OnOk result (uses_fit have.now (first name.now) uses.now ≡ true) }
     ensures cause { IfErr result (IsCause have.now name.now uses.now) }
 {
     check_uses(uses, have)?;

@@ -4,4 +4,4 @@ use Rattle.tp_check_decl.proofs.CheckLaws.{lawful}
 use Rattle.tp_check_decl.proofs.checking.unit_laws.Goals as goal
 
 pub returns : goal.returns
-returns c = λ name says g. exact (judged name says g) (lawful name says g)
+returns c = λ name says g have. exact (judged name says g have) (lawful name says g have)

@@ -1,0 +1,4 @@
+program P;
+uses A;
+begin
+end.

@@ -1,0 +1,6 @@
+program P;
+uses A;
+begin
+  Run;
+  Run
+end.
