@@ -1,5 +1,5 @@
 -- What is known by some interfaces is known as well by more of them.
-use Rattle.std.proofs.Common.{◌≡◌, ℕ, suc, Bool, true, false, ◌||◌, cond, List, [], ◌∷◌, ◌++◌, Option, Some, None, length, get_or, ◌<◌, refl, sym, ap, ◌∙◌, subst}
+use Rattle.std.proofs.Common.{◌≡◌, ℕ, suc, Bool, true, false, ◌||◌, ◌&&◌, cond, List, [], ◌∷◌, ◌++◌, Option, Some, None, length, get_or, ◌<◌, refl, sym, ap, ◌∙◌, subst}
 use Rattle.std.specs.Prelude.{is_some}
 use Rattle.std.specs.List.{list_any}
 use Rattle.std.proofs.lemmas.List.Elements.{All-push, All-weaker}
@@ -11,9 +11,10 @@ use Rattle.scopes.specs.Environment.{Environment}
 use Rattle.scopes.specs.Predeclared.{first}
 use Rattle.unit_interface.specs.declared.interfaces.Interface.{Interface}
 use Rattle.unit_interface.specs.Resolve.{is_overlay, chosen, interface_named, with_overlay, with_found, with_use, with_uses, is_there, IsMissing}
+use Rattle.unit_interface.specs.Fitting.{found_fits, use_fits, uses_fit}
 use Rattle.source_order.specs.Orders.{names_of}
 use Rattle.tp_check_decl.specs.Shown.{IsShownAs}
-use Rattle.source_interfaces.specs.Scopes.{outer_units, known, outer_scope, is_shown, AreThere}
+use Rattle.source_interfaces.specs.Scopes.{outer_units, known, outer_scope, is_shown, AreThere, AreFitting}
 use Rattle.source_interfaces.specs.Interfaces.{IsShownIn, AreShown, IsGrown}
 use Rattle.source_interfaces.proofs.Uses.{contrary}
 
@@ -48,6 +49,20 @@ uses_more have more g (n ∷ names) none =
 pub known_more : (have more : List Interface) (name : List ℕ) (uses : List Identifier) → AreThere have uses → known have name uses ≡ known (have ++ more) name uses
 known_more have more name uses there = uses_more have more (first name) (names_of uses) there
 
+fit_by : (o : Bool) (g : Environment) (a c : Option Interface) → (o || is_some a) ≡ true → (is_some a ≡ true → c ≡ a) → (o || found_fits g a) ≡ (o || found_fits g c)
+fit_by true g a c there more = refl
+fit_by false g a c there more = ap (found_fits g) (sym (more there))
+
+fit_more : (have more : List Interface) (g : Environment) (names : List (List ℕ)) → ((name : List ℕ) → IsMissing have names name → ⊥) → uses_fit have g names ≡ uses_fit (have ++ more) g names
+fit_more have more g [] none = refl
+fit_more have more g (n ∷ names) none =
+    let there = there_by (is_there have n) (λ absent. none n (record { place = 0; used = refl; absent = absent })) in
+    let here = fit_by (is_overlay n) g (interface_named have n) (interface_named (have ++ more) n) there (λ some. found_more have more n some) in
+    let rest = fit_more have more (with_use (have ++ more) g n) names (λ name m. none name (record { place = suc m.place; used = m.used; absent = m.absent })) in
+    ap (λ (b : Bool). b && uses_fit have (with_use have g n) names) here
+    ∙ ap (λ (e : Environment). use_fits (have ++ more) g n && uses_fit have e names) (use_more have more g n there)
+    ∙ ap (λ (b : Bool). use_fits (have ++ more) g n && b) rest
+
 is_there_by : (o : Bool) (a c : Option Interface) → (o || is_some c) ≡ false → (is_some a ≡ true → c ≡ a) → (o || is_some a) ≡ false
 is_there_by true a c absent more = absent
 is_there_by false None c absent more = refl
@@ -70,15 +85,16 @@ shown_more sources have more interface s = record {
   one = s.one;
   named = s.named;
   there = there_more have more (outer_units s.source) s.there;
+  fits = sym (fit_more have more (first s.source.name) (names_of (outer_units s.source)) s.there) ∙ s.fits;
   shows = subst (λ (g : Environment). IsShownAs s.source.name s.source.says g s.source.tree interface) (known_more have more s.source.name (outer_units s.source) s.there) s.shows;
 }
 
 -- one interface more
 pub add_shown : (sources : List Source) (have new : List Interface) (place : ℕ) (source : Source) (interface : Interface) → new ≡ have ++ interface ∷ [] → AreShown sources have → place < length sources → source ≡ get_or sources place source
-    → interface.name ≡ source.name → AreThere have (outer_units source) → IsShownAs source.name source.says (outer_scope have source) source.tree interface → AreShown sources new
-add_shown sources have new place source interface is all below at named there shows =
+    → interface.name ≡ source.name → AreThere have (outer_units source) → AreFitting have source.name (outer_units source) → IsShownAs source.name source.says (outer_scope have source) source.tree interface → AreShown sources new
+add_shown sources have new place source interface is all below at named there fits shows =
     let more = interface ∷ [] in
-    let itself : IsShownIn sources have interface = record { source = source; one = (place, below, sym at); named = named; there = there; shows = shows } in
+    let itself : IsShownIn sources have interface = record { source = source; one = (place, below, sym at); named = named; there = there; fits = fits; shows = shows } in
     subst (AreShown sources) (sym is) (All-push (IsShownIn sources (have ++ more)) have interface
     (All-weaker (IsShownIn sources have) (IsShownIn sources (have ++ more)) (λ i s. shown_more sources have more i s) have all)
     (shown_more sources have more interface itself))

@@ -14,7 +14,7 @@ use Rattle.tp_check_decl.specs.Shown.{IsShownAs, FailsInInterface}
 use Rattle.outcomes.specs.declared.outcome.Outcome.{Outcome}
 use Rattle.outcomes.specs.declared.outcome.Outcome.TheVariants as outcome
 use Rattle.refusals.specs.Outcomes.{check_outcome}
-use Rattle.source_interfaces.specs.Scopes.{outer_units, known, outer_scope, is_shown, AreThere, IsRepeatedUse, IsUnresolved, KnowsNothing}
+use Rattle.source_interfaces.specs.Scopes.{outer_units, known, outer_scope, is_shown, AreThere, AreFitting, IsRepeatedUse, IsUnresolved, KnowsNothing}
 use Rattle.source_interfaces.specs.Interfaces.{AreShown, waits, is_settled, ShowsNothing, LacksInterface}
 use Rattle.source_interfaces.proofs.Rounds.{due}
 
@@ -48,6 +48,9 @@ shows_by have source uses scope interface outer is shows =
 
 pub outer_there : (have : List Interface) (source : Source) (uses : List Identifier) → uses ≡ outer_units source → AreThere have uses → AreThere have (outer_units source)
 outer_there have source uses outer there = subst (AreThere have) outer there
+
+pub outer_fit : (have : List Interface) (source : Source) (uses : List Identifier) → uses ≡ outer_units source → AreFitting have source.name uses → AreFitting have source.name (outer_units source)
+outer_fit have source uses outer fits = subst (AreFitting have source.name) outer fits
 
 pub knows_nothing : (texts : List Text) (have : List Interface) (source : Source) (uses : List Identifier) (result : Outcome) → uses ≡ outer_units source → KnowsNothing texts have source.name uses result
     → ShowsNothing texts have source result

@@ -13,7 +13,7 @@ use Rattle.source_order.specs.Orders.{all_uses}
 use Rattle.tp_check_decl.specs.Shown.{IsShownAs, FailsInInterface}
 use Rattle.outcomes.specs.declared.outcome.Outcome.{Outcome}
 use Rattle.refusals.specs.Outcomes.{check_outcome}
-use Rattle.source_interfaces.specs.Scopes.{outer_units, outer_scope, is_shown, AreThere, KnowsNothing}
+use Rattle.source_interfaces.specs.Scopes.{outer_units, outer_scope, is_shown, AreThere, AreFitting, KnowsNothing}
 
 -- An interface is what a source shows, over these interfaces, among which are those that its interface part uses.
 pub record IsShownIn (sources : List Source) (have : List Interface) (interface : Interface) : Type 0 where
@@ -21,6 +21,7 @@ pub record IsShownIn (sources : List Source) (have : List Interface) (interface 
   pub one : Contains sources source
   pub named : interface.name ≡ source.name
   pub there : AreThere have (outer_units source)
+  pub fits : AreFitting have source.name (outer_units source)
   pub shows : IsShownAs source.name source.says (outer_scope have source) source.tree interface
 
 abbrev pub AreShown : List Source → List Interface → Type 0

@@ -8,11 +8,13 @@ use Rattle.source_tree.specs.Sources.{used, used_in_interface}
 use Rattle.source_gathering.specs.declared.sources.Source.{Source}
 use Rattle.source_gathering.specs.Files.{source_file}
 use Rattle.scopes.specs.Environment.{Environment}
+use Rattle.scopes.specs.Predeclared.{first}
 use Rattle.typing_rules.specs.declared.faults.Fault.{Fault}
 use Rattle.typing_rules.specs.declared.faults.Rule.TheVariants as rules
 use Rattle.typing_rules.specs.Faults.{broken, error_of}
 use Rattle.unit_interface.specs.declared.interfaces.Interface.{Interface}
 use Rattle.unit_interface.specs.Resolve.{resolved, is_repeated, IsDuplicate, IsMissing, IsMismatched}
+use Rattle.unit_interface.specs.Fitting.{uses_fit}
 use Rattle.source_order.specs.Orders.{names_of}
 use Rattle.outcomes.specs.declared.outcome.Outcome.{Outcome}
 use Rattle.outcomes.specs.declared.outcome.Outcome.TheVariants as outcome
@@ -27,12 +29,9 @@ outer_units source = take (used_in_interface source.tree) (used source.tree)
 abbrev pub known : List Interface → List ℕ → List Identifier → Environment
 known have name uses = resolved have name (names_of uses)
 
--- what is known to the interface part of a source, and to the whole of it
+-- what is known to the interface part of a source
 abbrev pub outer_scope : List Interface → Source → Environment
 outer_scope have source = known have source.name (outer_units source)
-
-abbrev pub whole_scope : List Interface → Source → Environment
-whole_scope have source = known have source.name (used source.tree)
 
 -- an interface of this name is among these
 abbrev pub is_shown : List Interface → List ℕ → Bool
@@ -41,6 +40,10 @@ is_shown have name = list_any (λ interface. same_bytes name interface.name) hav
 -- each unit that is used has its interface there, or is always there
 abbrev pub AreThere : List Interface → List Identifier → Type 0
 AreThere have uses = (name : List ℕ) → IsMissing have (names_of uses) name → ⊥
+
+-- The types that the used units show fit one another, each unit's those of the units before it.
+abbrev pub AreFitting : List Interface → List ℕ → List Identifier → Type 0
+AreFitting have name uses = uses_fit have (first name) (names_of uses) ≡ true
 
 -- ---- why nothing is known
 

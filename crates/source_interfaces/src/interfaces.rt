@@ -2,7 +2,7 @@
 
 ghost use Rattle.std.specs.Prelude.{◌≡◌, ◌<◌, ℕ, List, Contains, length, IfOk, IfErr, OnOk};
 ghost use Rattle.std.specs.List.{list_all};
-ghost use Rattle.source_interfaces.specs.Scopes.{outer_units, outer_scope, is_shown, AreThere};
+ghost use Rattle.source_interfaces.specs.Scopes.{outer_units, outer_scope, is_shown, AreThere, AreFitting};
 ghost use Rattle.source_interfaces.specs.Interfaces.{AreShown, AreInterfaces, IsAcyclic, ShowsNothing, LacksInterface, is_source, lacks, waits, is_settled, IsStep, IsGrown};
 ghost use Rattle.tp_check_decl.specs.Shown.{IsShownAs};
 
@@ -18,8 +18,8 @@ use tp_lexer::Text;
 use type_layout::Name;
 use unit_interface::Interface;
 
-// The units that the interface part of a source uses.
-fn outer_units(source: &Source) -> &[Identifier]
+/// The units that the interface part of a source uses.
+pub fn outer_units(source: &Source) -> &[Identifier]
     ensures { result.now ≡ outer_units source.now }
 {
     let uses = uses_of(&source.tree);
@@ -73,6 +73,7 @@ fn shown_by(
         IsShownAs source.now.name source.now.says (outer_scope have.now source.now) source.now.tree interface) }
     ensures named { IfOk result (λ interface. interface.name ≡ source.now.name) }
     ensures there { OnOk result (AreThere have.now (outer_units source.now)) }
+    ensures fits { OnOk result (AreFitting have.now source.now.name (outer_units source.now)) }
     ensures cause { IfErr result (ShowsNothing texts.now have.now source.now) }
 {
     let scope = scope_of(alloc, texts, &source.name, outer_units(source), have)?;

@@ -1,11 +1,13 @@
 //! What is known to a source by the units that it uses.
 
-ghost use Rattle.std.specs.Prelude.{◌≡◌, ◌≤◌, ℕ, List, length, take, IfOk, IfErr, OnOk};
+ghost use Rattle.std.specs.Prelude.{◌≡◌, ◌≤◌, ℕ, true, List, length, take, IfOk, IfErr, OnOk};
 ghost use Rattle.std.specs.List.{list_any};
 ghost use Rattle.type_layout.specs.Words.{same_bytes};
+ghost use Rattle.scopes.specs.Predeclared.{first};
 ghost use Rattle.source_order.specs.Orders.{names_of};
 ghost use Rattle.unit_interface.specs.Resolve.{resolved, is_repeated, IsMissing};
-ghost use Rattle.source_interfaces.specs.Scopes.{known, AreThere, IsRepeatedUse, AreOnce, IsUnresolved, KnowsNothing};
+ghost use Rattle.unit_interface.specs.Fitting.{uses_fit};
+ghost use Rattle.source_interfaces.specs.Scopes.{known, AreThere, AreFitting, IsRepeatedUse, AreOnce, IsUnresolved, KnowsNothing};
 
 use outcomes::{Outcome, Refusal};
 use refusals::check_outcome;
@@ -69,6 +71,7 @@ fn resolved(
     requires once { AreOnce names.now }
     ensures ok { IfOk result (λ scope. scope ≡ resolved have.now name.now names.now) }
     ensures there { OnOk result ((used : List ℕ) → IsMissing have.now names.now used → ⊥) }
+    ensures fits { OnOk result (uses_fit have.now (first name.now) names.now ≡ true) }
     ensures cause { IfErr result (IsUnresolved have.now name.now names.now) }
 {
     match resolve(alloc, name, names, have) {
@@ -99,6 +102,7 @@ pub fn scope_of(
 ) -> Result<Scope, Outcome>
     ensures ok { IfOk result (λ scope. scope ≡ known have.now name.now uses.now) }
     ensures there { OnOk result (AreThere have.now uses.now) }
+    ensures fits { OnOk result (AreFitting have.now name.now uses.now) }
     ensures cause { IfErr result (KnowsNothing texts.now have.now name.now uses.now) }
 {
     let names = names_of(alloc, uses)?;

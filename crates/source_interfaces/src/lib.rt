@@ -5,6 +5,6 @@ mod interfaces;
 mod kinds;
 mod known;
 
-pub use interfaces::interfaces_of;
+pub use interfaces::{interfaces_of, outer_units};
 pub use kinds::check_kinds;
 pub use known::scope_of;

@@ -2,7 +2,7 @@ use Rattle.std.proofs.Common.{List, ◌∙◌, sym, ap, subst}
 use Rattle.std.proofs.lemmas.Result.{err_from_is_err_and}
 use Rattle.unit_interface.specs.declared.interfaces.Interface.{Interface}
 use Rattle.tp_check_decl.specs.Shown.{IsShownAs}
-use Rattle.source_interfaces.specs.Scopes.{outer_units, outer_scope, AreThere}
+use Rattle.source_interfaces.specs.Scopes.{outer_units, outer_scope, AreThere, AreFitting}
 use Rattle.source_interfaces.specs.Interfaces.{is_settled, ShowsNothing}
 use Rattle.source_interfaces.proofs.Extended.{add_shown}
 use Rattle.source_interfaces.proofs.Rounds.{passed, made}
@@ -38,9 +38,10 @@ returns-clause-shown c =
     let i = c.in_ok-interface.interface in
     let same = c.as_slice-2.ensures.value in
     let there = subst (λ (all : List Interface). AreThere all (outer_units s)) same c.in_ok-interface.ensures.there in
+    let fits = subst (λ (all : List Interface). AreFitting all s.name (outer_units s)) same c.in_ok-interface.ensures.fits in
     let shows = subst (λ (all : List Interface). IsShownAs s.name s.says (outer_scope all s) s.tree i) same c.in_ok-interface.ensures.shows in
     add_shown c.args.sources.now c.args.have.now.items c.push.new.self.items c.args.place s i c.in_ok-push.ensures.items c.requires.shown c.requires.within c.index-sources-place.is
-    c.in_ok-interface.ensures.named there shows
+    c.in_ok-interface.ensures.named there fits shows
 
 pub returns-clause-step : goal.returns-clause-step
 returns-clause-step c =
