@@ -20,7 +20,7 @@ use Rattle.declarations.specs.Parts.{part_declared}
 use Rattle.closed_constants.proofs.Constants.{constant_below}
 use Rattle.closed_types.proofs.Promising.{ArePromised, none_promised}
 use Rattle.closed_types.proofs.Denoting.{denoting}
-use Rattle.closed_types.proofs.Parts.{part_longer, part_bound}
+use Rattle.closed_types.proofs.Parts.{part_longer, part_ordered, part_bound}
 use Rattle.closed_routines.proofs.Staying.{Stays, Nothing, stays, stay_at, stay_for, stay_then, stay_on, of_types, stay_entered}
 
 stay_with : (asked : ℕ → Type 0) (g : Environment) (p q : Progress) → q ≡ p → Stays asked g p.scope → Stays asked g q.scope
@@ -76,5 +76,9 @@ module _ (unit : List ℕ) where
   declared_stays home next p (part_of.Constants here all) q e = constants_stay unit p all.items q e
   declared_stays home next p (part_of.Types here all) q e =
       stay_with Nothing p.scope (knowing p e.part) q e.made
-      (record { longer = part_longer unit next p.scope all.items e.part e.holds; bound = λ n b l a. part_bound n unit next p.scope all.items e.part e.holds b l })
+      (record {
+        longer = part_longer unit next p.scope all.items e.part e.holds;
+        ordered = λ o. part_ordered unit next p.scope all.items e.part e.holds o;
+        bound = λ n b l a. part_bound n unit next p.scope all.items e.part e.holds b l;
+      })
   declared_stays home next p (part_of.Variables here all) q e = variables_stay home p all.items q e

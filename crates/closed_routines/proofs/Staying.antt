@@ -7,27 +7,30 @@ use Rattle.scopes.specs.declared.searches.OpenBlock.{OpenBlock}
 use Rattle.scopes.specs.Environment.{Environment, with_block, with_name, without_block}
 use Rattle.type_denoters.specs.Additions.{Denoted, entered}
 use Rattle.closed_constants.specs.Bounds.{AreBelow, in_entry, in_names, in_open, IsBoundOf, IsClosedScope}
+use Rattle.closed_constants.specs.Ordered.{IsOrdered}
 use Rattle.closed_constants.proofs.Below.{below_both, below_first, below_last}
 use Rattle.closed_constants.proofs.Names.{closed_below}
 use Rattle.closed_types.proofs.Entering.{bound_with_name, bound_with_block}
 use Rattle.closed_types.proofs.Reading.{Types, is_entered}
 
--- The table has no fewer types, and a bound stays one that is no less than the table, where what is asked of it holds.
+-- The table has no fewer types and stays ordered, and a bound stays one that is no less than the table, where what is asked of
+-- it holds.
 pub record Stays (asked : ℕ → Type 0) (g h : Environment) : Type 0 where
   pub longer : length g.types.types ≤ length h.types.types
+  pub ordered : IsOrdered g.types → IsOrdered h.types
   pub bound : (n : ℕ) → IsBoundOf n g → length h.types.types ≤ n → asked n → IsBoundOf n h
 
 abbrev pub Nothing : ℕ → Type 0
 Nothing n = Unit {0}
 
 pub stays : (asked : ℕ → Type 0) (g : Environment) → Stays asked g g
-stays asked g = record { longer = omega arith; bound = λ n b l a. b }
+stays asked g = record { longer = omega arith; ordered = λ o. o; bound = λ n b l a. b }
 
 pub stay_at : (asked : ℕ → Type 0) (g h k : Environment) → k ≡ h → Stays asked g h → Stays asked g k
 stay_at asked g h k e s = let P : Environment → Type 0 = λ x. Stays asked g x in subst P (sym e) s
 
 pub stay_for : (first both : ℕ → Type 0) (g h : Environment) → Stays first g h → ((n : ℕ) → IsBoundOf n g → length h.types.types ≤ n → both n → first n) → Stays both g h
-stay_for first both g h s p = record { longer = s.longer; bound = λ n b l a. s.bound n b l (p n b l a) }
+stay_for first both g h s p = record { longer = s.longer; ordered = s.ordered; bound = λ n b l a. s.bound n b l (p n b l a) }
 
 pub stay_then : (first second both : ℕ → Type 0) (g h k : Environment) → Stays first g h → Stays second h k → ((n : ℕ) → IsBoundOf n g → length h.types.types ≤ n → both n → first n)
     → ((n : ℕ) → IsBoundOf n g → IsBoundOf n h → length h.types.types ≤ n → both n → second n) → Stays both g k
@@ -36,6 +39,7 @@ stay_then first second both g h k one two p q =
     let more = two.longer in
     record {
       longer = omega arith;
+      ordered = λ o. two.ordered (one.ordered o);
       bound = λ n b l a.
           let low : length h.types.types ≤ n = omega arith in
           let middle = one.bound n b low (p n b low a) in
@@ -47,17 +51,17 @@ pub stay_on : (g h k : Environment) → Stays Nothing g h → Stays Nothing h k 
 stay_on g h k one two = stay_then Nothing Nothing Nothing g h k one two (λ n b l a. a) (λ n b m l a. a)
 
 pub of_types : (asked : ℕ → Type 0) (g : Environment) (made : Denoted) (count : ℕ) → Types asked g made count → Stays asked g made.scope
-of_types asked g made count types = let long = types.reads.long in record { longer = omega arith; bound = types.reads.bound }
+of_types asked g made count types = let long = types.reads.long in record { longer = omega arith; ordered = types.reads.ordered; bound = types.reads.bound }
 
 -- ---- names and blocks
 
 pub stay_entered : (g : Environment) (place : Place) (name : List ℕ) (one : Entry) (h : Environment) → (entered g place name one).holds h → Stays (λ n. AreBelow n (in_entry one)) g h
 stay_entered g place name one h e =
     stay_at (λ n. AreBelow n (in_entry one)) g (with_name g name one) h (is_entered g place name one h e).is
-    (record { longer = omega arith; bound = λ n b l a. bound_with_name n g name one b a })
+    (record { longer = omega arith; ordered = λ o. o; bound = λ n b l a. bound_with_name n g name one b a })
 
 pub stay_opened : (asked : ℕ → Type 0) (g : Environment) (kind : BlockKind) → Stays asked g (with_block g kind)
-stay_opened asked g kind = record { longer = omega arith; bound = λ n b l a. bound_with_block n g kind b }
+stay_opened asked g kind = record { longer = omega arith; ordered = λ o. o; bound = λ n b l a. bound_with_block n g kind b }
 
 first_below : (n count : ℕ) (blocks : List OpenBlock) → AreBelow n (in_open blocks) → AreBelow n (in_open (take count blocks))
 first_below n zero blocks h = tt
@@ -69,6 +73,7 @@ first_below n (suc count) (block ∷ blocks) h =
 pub stay_closed : (asked : ℕ → Type 0) (g : Environment) → Stays asked g (without_block g)
 stay_closed asked g = record {
   longer = omega arith;
+  ordered = λ o. o;
   bound = λ n b l a. record {
     table = b.table;
     system = b.system;

@@ -1,14 +1,20 @@
 -- The scope of a source before it uses a unit is closed.
-use Rattle.std.proofs.Common.{ℕ, zero, suc, ◌+◌, ◌≤◌, pos, Bool, true, false, not, ◌&&◌, cond, List, [], ◌∷◌, ◌++◌, length, arith}
+use Rattle.std.proofs.Common.{ℕ, zero, suc, ◌+◌, ◌<◌, ◌≤◌, pos, Bool, true, false, not, ◌&&◌, cond, List, [], ◌∷◌, ◌++◌, length, get_or, refl, arith, rules}
 use Rattle.std.specs.Prelude.{slice_get, codes}
+use Rattle.type_layout.specs.declared.definitions.Origin.{Origin}
+use Rattle.type_layout.specs.declared.layout.Layout.{Layout}
+use Rattle.type_layout.specs.Layouts.{layouts_of}
+use Rattle.type_layout.specs.Table.{AllDefined}
 use Rattle.type_layout.specs.Words.{is_name}
 use Rattle.scopes.specs.declared.entries.Entry.{Entry}
 use Rattle.scopes.specs.declared.entries.Entry.TheVariants.{Ty, Std}
 use Rattle.scopes.specs.Symbols.{SymbolList, has}
-use Rattle.scopes.specs.Predeclared.{type_id, type_table, with_known, with_types, with_standard, number_entry, with_constants, type_names, standard, predeclared, first}
+use Rattle.scopes.specs.Predeclared.{type_id, type_list, type_table, with_known, with_types, with_standard, number_entry, with_constants, type_names, standard, predeclared, first}
 use Rattle.unit_interface.specs.Exports.{with_type}
 use Rattle.closed_constants.specs.Bounds.{AreBelow, in_entry, in_names, IsClosedScope}
 use Rattle.closed_constants.proofs.Below.{below_both, below_first, below_last}
+use Rattle.closed_constants.specs.Ordered.{IsOrdered}
+use Rattle.closed_scopes.specs.Scopes.{IsCompleteScope}
 
 pushed : (n : ℕ) (symbols : SymbolList) (name : List ℕ) (one : Entry) → AreBelow n (in_names symbols) → AreBelow n (in_entry one) → AreBelow n (in_names (symbols ++ (name, one) ∷ []))
 pushed n [] name one h k = below_both n (in_entry one) [] k tt
@@ -68,7 +74,7 @@ types_below (suc (suc (suc (suc (suc (suc (suc (suc (suc zero))))))))) = (omega 
 types_below (suc (suc (suc (suc (suc (suc (suc (suc (suc (suc zero)))))))))) = (omega arith, tt)
 types_below (suc (suc (suc (suc (suc (suc (suc (suc (suc (suc (suc by))))))))))) = tt
 
-pub first_closed : (name : List ℕ) → IsClosedScope (first name)
+first_closed : (name : List ℕ) → IsClosedScope (first name)
 first_closed name = record {
   table = omega arith;
   system = omega arith;
@@ -77,3 +83,48 @@ first_closed name = record {
   used = tt;
   blocks = tt;
 }
+
+-- ---- its table
+
+all_defined : AllDefined [] type_list
+all_defined = search rules
+
+all_small : (k : ℕ) (d : Layout) → k < 11 → (get_or (layouts_of type_list) k d).size ≤ 65520
+all_small zero d h = omega arith
+all_small (suc zero) d h = omega arith
+all_small (suc (suc zero)) d h = omega arith
+all_small (suc (suc (suc zero))) d h = omega arith
+all_small (suc (suc (suc (suc zero)))) d h = omega arith
+all_small (suc (suc (suc (suc (suc zero))))) d h = omega arith
+all_small (suc (suc (suc (suc (suc (suc zero)))))) d h = omega arith
+all_small (suc (suc (suc (suc (suc (suc (suc zero))))))) d h = omega arith
+all_small (suc (suc (suc (suc (suc (suc (suc (suc zero)))))))) d h = omega arith
+all_small (suc (suc (suc (suc (suc (suc (suc (suc (suc zero))))))))) d h = omega arith
+all_small (suc (suc (suc (suc (suc (suc (suc (suc (suc (suc zero)))))))))) d h = omega arith
+all_small (suc (suc (suc (suc (suc (suc (suc (suc (suc (suc (suc k))))))))))) d h = absurd (omega (arith, h))
+
+all_known : (k : ℕ) (d : Origin) → k < 11 → (get_or type_table.origins k d).unit < length type_table.units
+all_known zero d h = omega arith
+all_known (suc zero) d h = omega arith
+all_known (suc (suc zero)) d h = omega arith
+all_known (suc (suc (suc zero))) d h = omega arith
+all_known (suc (suc (suc (suc zero)))) d h = omega arith
+all_known (suc (suc (suc (suc (suc zero))))) d h = omega arith
+all_known (suc (suc (suc (suc (suc (suc zero)))))) d h = omega arith
+all_known (suc (suc (suc (suc (suc (suc (suc zero))))))) d h = omega arith
+all_known (suc (suc (suc (suc (suc (suc (suc (suc zero)))))))) d h = omega arith
+all_known (suc (suc (suc (suc (suc (suc (suc (suc (suc zero))))))))) d h = omega arith
+all_known (suc (suc (suc (suc (suc (suc (suc (suc (suc (suc zero)))))))))) d h = omega arith
+all_known (suc (suc (suc (suc (suc (suc (suc (suc (suc (suc (suc k))))))))))) d h = absurd (omega (arith, h))
+
+first_ordered : (name : List ℕ) → IsOrdered (first name).types
+first_ordered name = record {
+  begins = ([], refl);
+  defined = all_defined;
+  fits = λ k d low. all_small k d (omega (arith, low));
+  paired = refl;
+  known = λ k d low. all_known k d (omega (arith, low));
+}
+
+pub first_complete : (name : List ℕ) → IsCompleteScope (first name)
+first_complete name = record { ordered = first_ordered name; closed = first_closed name }

@@ -8,8 +8,11 @@ use Rattle.type_layout.specs.declared.definitions.TypeId.{TypeId}
 use Rattle.type_layout.specs.declared.definitions.TypeDef.{TypeDef}
 use Rattle.type_layout.specs.declared.definitions.Origin.{Origin}
 use Rattle.type_layout.specs.Table.{Table, place_of, with_type}
-use Rattle.unit_interface.specs.Merge.{same_key, key_of, keys_of, place_of_key, with_key, ids_of, ids_in, renumbered, with_listed, is_new}
-use Rattle.closed_scopes.specs.Scopes.{with_first}
+use Rattle.unit_interface.specs.Merge.{same_key, key_of, keys_of, place_of_key, with_key, ids_of, ids_in, renumbered, with_listed, is_new, merged}
+
+-- the table of a scope, and the first types of another one that are new there
+abbrev pub with_first : Table → Table → ℕ → Table
+with_first table other number = merged other (ids_in table other) table number
 
 -- ---- keys
 

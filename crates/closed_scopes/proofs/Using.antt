@@ -1,5 +1,5 @@
 -- Scopes stay closed where they use units.
-use Rattle.std.proofs.Common.{◌≡◌, ◌∙◌, ℕ, zero, suc, ◌+◌, ◌-◌, ◌<◌, ◌≤◌, ℤ, Bool, true, false, cond, List, [], ◌∷◌, ◌++◌, length, Option, Some, refl, sym, ap, subst, arith, length-append}
+use Rattle.std.proofs.Common.{◌≡◌, ◌∙◌, ℕ, zero, suc, ◌+◌, ◌-◌, ◌<◌, ◌≤◌, ℤ, Bool, true, false, ◌&&◌, ◌||◌, cond, List, [], ◌∷◌, ◌++◌, length, Option, Some, None, refl, sym, ap, subst, arith, length-append}
 use Rattle.std.specs.Prelude.{slice_get}
 use Rattle.type_layout.specs.declared.definitions.TypeId.{TypeId}
 use Rattle.type_layout.specs.declared.definitions.Host.TheVariants as host
@@ -12,12 +12,14 @@ use Rattle.unit_interface.specs.declared.interfaces.Interface.{Interface}
 use Rattle.unit_interface.specs.Exports as exports
 use Rattle.unit_interface.specs.Exports.{in_type, behind}
 use Rattle.unit_interface.specs.Merge.{ids_in, new_id, renumbered, is_new, with_interface}
-use Rattle.unit_interface.specs.Resolve.{overlay, overlay_items, with_overlay}
+use Rattle.unit_interface.specs.Resolve.{overlay, overlay_items, with_overlay, is_overlay, interface_named, with_found, with_use, with_uses}
+use Rattle.unit_interface.specs.Fitting.{types_fit, found_fits, use_fits, uses_fit}
 use Rattle.closed_constants.specs.Bounds.{AreBelow, in_names, in_lists, IsClosedScope}
 use Rattle.closed_constants.proofs.Below.{at_push, below_both, below_first, below_last}
 use Rattle.closed_constants.proofs.Names.{closed_below}
-use Rattle.closed_scopes.specs.Scopes.{IsClosedInterface, with_first, AreTogether}
-use Rattle.closed_scopes.proofs.Merging.{has, met, longer, id_low}
+use Rattle.closed_scopes.specs.Scopes.{IsCompleteScope, IsClosedInterface, IsClosedUse, AreClosedUses}
+use Rattle.closed_scopes.proofs.Merging.{with_first, has, met, longer, id_low}
+use Rattle.closed_scopes.proofs.Fitting.{AreTogether, ordered_behind, together}
 use Rattle.closed_scopes.proofs.Renumbering.{new_type, new_items}
 
 -- ---- types
@@ -45,7 +47,7 @@ grown_by : (b : Bool) (one two : Table) (n : ℕ) → b ≡ true → n ≤ lengt
 grown_by true one two n e h = h
 grown_by false one two n e h = absurd (let f : false ≡ true = e in cc)
 
-module _ (table : Table) (i : Interface) (paired : length table.origins ≡ length table.types) (closed : IsClosedInterface i) (together : AreTogether table i.types) where
+module _ (table : Table) (i : Interface) (paired : length table.origins ≡ length table.types) (closed : IsClosedInterface i) (united : AreTogether table i.types) where
   abbrev count : ℕ
   count = length i.types.types
 
@@ -99,7 +101,7 @@ module _ (table : Table) (i : Interface) (paired : length table.origins ≡ leng
       let at : slice_get i.types.types number ≡ Some (Ordinal host.Enumeration least greatest) = one.at ∙ ap (λ (t : TypeDef). Some t) is in
       let next : suc number < count = (let two = (at_number number (Ordinal host.Enumeration least greatest) at).0 in omega arith) in
       let here = one_longer number (omega arith) new in
-      let there = one_longer (suc number) next (together number least greatest at new) in
+      let there = one_longer (suc number) next (united number least greatest at new) in
       let most = up_to_all (suc (suc number)) (omega arith) in
       omega arith in
       at_push (λ by found. AreBelow n (exports.with_type by found)) (step number).types (renumbered new_ids m.place one.one) before
@@ -113,23 +115,23 @@ in_more n [] names h k = below_both n (in_names names) [] k tt
 in_more n (first ∷ lists) names h k =
     below_both n (in_names first) (in_lists (lists ++ names ∷ [])) (below_first n (in_names first) (in_lists lists) h) (in_more n lists names (below_last n (in_names first) (in_lists lists) h) k)
 
-pub interface_closed : (g : Environment) (interface : Interface) → length g.types.origins ≡ length g.types.types → IsClosedScope g → IsClosedInterface interface → AreTogether g.types interface.types
+interface_closed : (g : Environment) (interface : Interface) → length g.types.origins ≡ length g.types.types → IsClosedScope g → IsClosedInterface interface → AreTogether g.types interface.types
     → IsClosedScope (with_interface g interface)
-interface_closed g interface paired h closed together =
+interface_closed g interface paired h closed whole =
     let n = length (with_first g.types interface.types (length interface.types.types)).types in
-    let more = up_to_all g.types interface paired closed together 0 (omega arith) in
+    let more = up_to_all g.types interface paired closed whole 0 (omega arith) in
     let b = closed_below n g h more in
     record {
       table = omega arith;
       system = b.system;
-      types = types_merged g.types interface paired closed together (length interface.types.types) (omega arith) b.types;
+      types = types_merged g.types interface paired closed whole (length interface.types.types) (omega arith) b.types;
       predeclared = b.predeclared;
-      used = in_more n g.used _ b.used (new_items (λ x. x < length interface.types.types) n (ids_in g.types interface.types) (low_id g.types interface paired closed together)
+      used = in_more n g.used _ b.used (new_items (λ x. x < length interface.types.types) n (ids_in g.types interface.types) (low_id g.types interface paired closed whole)
           _ [] interface.items tt closed.items);
       blocks = b.blocks;
     }
 
-pub overlay_closed : (g : Environment) → IsClosedScope g → IsClosedScope (with_overlay g)
+overlay_closed : (g : Environment) → IsClosedScope g → IsClosedScope (with_overlay g)
 overlay_closed g h =
     let n = length g.types.types in
     let most = h.system in
@@ -143,3 +145,50 @@ overlay_closed g h =
           (omega arith, (omega arith, (omega arith, (omega arith, (omega arith, tt))))));
       blocks = h.blocks;
     }
+
+-- ---- complete scopes
+
+pub interface_complete : (g : Environment) (interface : Interface) → IsCompleteScope g → IsClosedInterface interface → types_fit g.types interface.types ≡ true → IsCompleteScope (with_interface g interface)
+interface_complete g interface h closed fits = record {
+  ordered = ordered_behind g.types interface.types closed.paired fits h.ordered;
+  closed = interface_closed g interface h.ordered.paired h.closed closed (together g.types interface.types h.ordered.paired closed.paired fits);
+}
+
+found_complete : (g : Environment) (found : Option Interface) → IsCompleteScope g → ((interface : Interface) → found ≡ Some interface → IsClosedInterface interface) → found_fits g found ≡ true
+    → IsCompleteScope (with_found g found)
+found_complete g None h closed fits = h
+found_complete g (Some interface) h closed fits = interface_complete g interface h (closed interface refl) fits
+
+pub use_complete : (have : List Interface) (g : Environment) (name : List ℕ) → IsCompleteScope g → IsClosedUse have name → use_fits have g name ≡ true → IsCompleteScope (with_use have g name)
+use_complete have g name h closed fits = by (is_overlay name) refl fits
+  where
+    by : (b : Bool) → is_overlay name ≡ b → (b || found_fits g (interface_named have name)) ≡ true → IsCompleteScope (cond b (with_overlay g) (with_found g (interface_named have name)))
+    by true is e = record { ordered = h.ordered; closed = overlay_closed g h.closed }
+    by false is e = found_complete g (interface_named have name) h (closed is) e
+
+-- its table has no fewer types
+found_longer : (g : Environment) (found : Option Interface) → IsCompleteScope g → ((interface : Interface) → found ≡ Some interface → IsClosedInterface interface) → found_fits g found ≡ true
+    → length g.types.types ≤ length (with_found g found).types.types
+found_longer g None h closed fits = omega arith
+found_longer g (Some interface) h closed fits =
+    let c = closed interface refl in
+    up_to_all g.types interface h.ordered.paired c (together g.types interface.types h.ordered.paired c.paired fits) 0 (omega arith)
+
+pub use_longer : (have : List Interface) (g : Environment) (name : List ℕ) → IsCompleteScope g → IsClosedUse have name → use_fits have g name ≡ true
+    → length g.types.types ≤ length (with_use have g name).types.types
+use_longer have g name h closed fits = by (is_overlay name) refl fits
+  where
+    by : (b : Bool) → is_overlay name ≡ b → (b || found_fits g (interface_named have name)) ≡ true
+        → length g.types.types ≤ length (cond b (with_overlay g) (with_found g (interface_named have name))).types.types
+    by true is e = omega arith
+    by false is e = found_longer g (interface_named have name) h (closed is) e
+
+both_true : (a b : Bool) → (a && b) ≡ true → (a ≡ true) × (b ≡ true)
+both_true true b e = (refl, e)
+both_true false b e = (let f : false ≡ true = e in cc)
+
+pub uses_complete : (have : List Interface) (g : Environment) (names : List (List ℕ)) → IsCompleteScope g → AreClosedUses have names → uses_fit have g names ≡ true → IsCompleteScope (with_uses have g names)
+uses_complete have g [] h closed fits = h
+uses_complete have g (name ∷ names) h closed fits =
+    let both = both_true (use_fits have g name) (uses_fit have (with_use have g name) names) fits in
+    uses_complete have (with_use have g name) names (use_complete have g name h closed.0 both.0) closed.1 both.1

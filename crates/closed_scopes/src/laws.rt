@@ -2,7 +2,7 @@
 
 ghost use Rattle.closed_scopes.specs.Scopes.{AreClosed};
 
-/// A scope is closed at its beginning, and stays so where it uses units whose interfaces are closed.
+/// A scope is complete at its beginning, and stays so where it uses units whose interfaces are closed and fit.
 pub fn scope_laws()
     ensures { AreClosed }
 {}

@@ -1,7 +1,9 @@
 -- Checked units over closed scopes name types of their table alone.
-use Rattle.std.proofs.Common.{◌≡◌, ℕ, zero, suc, ◌-◌, ◌<◌, Bool, true, false, nat_eq, eqb-true, List, [], ◌∷◌, ◌++◌, length, Option, Some, None, option_map, refl, sym, subst, arith}
+use Rattle.std.proofs.Common.{◌≡◌, ℕ, zero, suc, ◌-◌, ◌<◌, ◌≤◌, Bool, true, false, nat_eq, eqb-true, List, [], ◌∷◌, ◌++◌, length, drop, Option, Some, None, option_map, refl, sym, subst, arith}
 use Rattle.std.specs.Prelude.{◌||◌, slice_get}
+use Rattle.syntax_tree.specs.declared.identifier.Identifier.{Identifier}
 use Rattle.syntax_tree.specs.declared.statement.CompoundStatement.{CompoundStatement}
+use Rattle.type_layout.specs.Table.{Table}
 use Rattle.source_tree.specs.declared.source.InterfaceDeclaration.{InterfaceDeclaration}
 use Rattle.source_tree.specs.declared.source.InterfaceDeclaration.TheVariants as i
 use Rattle.source_tree.specs.declared.source.Tree.{Tree}
@@ -13,32 +15,31 @@ use Rattle.scopes.specs.declared.entries.Entry.TheVariants as entry
 use Rattle.scopes.specs.declared.entries.BlockKind.TheVariants.{Part}
 use Rattle.scopes.specs.declared.searches.OpenBlock.{OpenBlock}
 use Rattle.scopes.specs.Symbols.{SymbolList}
-use Rattle.scopes.specs.Members.{narrow}
 use Rattle.scopes.specs.Environment.{Environment}
+use Rattle.unit_interface.specs.declared.interfaces.Interface.{Interface}
 use Rattle.unit_interface.specs.Exports.{in_items, with_type, is_in}
+use Rattle.unit_interface.specs.Resolve.{with_use}
 use Rattle.routines.specs.Trees.{Works, view_declarations}
 use Rattle.routines.specs.Drafts.{Drafted, knowing, Stage, stage}
 use Rattle.routines.specs.Blocks.{all_judged}
 use Rattle.tp_check_decl.specs.Units.{Whole}
 use Rattle.tp_check_decl.specs.Endings.{ended}
 use Rattle.tp_check_decl.specs.Programs.{unit_site, empty_draft, declarations_judged}
-use Rattle.tp_check_decl.specs.Interfaces.{item_of, items_in, items_by, items_of, seeing, declared, all_declared, interface_judged}
-use Rattle.tp_check_decl.specs.Shown.{outlined}
+use Rattle.tp_check_decl.specs.Interfaces.{item_of, items_in, items_by, items_of, declared, all_declared, interface_judged, all_used}
+use Rattle.tp_check_decl.specs.Shown.{outlined, with_nothing_else, IsShownAs}
 use Rattle.tp_check_decl.specs.Checked.{judged}
 use Rattle.interface_laws.specs.Agreement.{IsClosed}
-use Rattle.closed_constants.specs.Bounds.{AreBelow, in_entry, in_names, in_open, IsBoundOf, IsClosedScope}
+use Rattle.closed_scopes.specs.Scopes.{IsCompleteScope, IsClosedInterface, IsClosedUse}
+use Rattle.closed_scopes.proofs.Showing.{shown_closed}
+use Rattle.closed_scopes.proofs.Using.{use_longer, use_complete}
+use Rattle.closed_tables.specs.Tables.{IsClosedUnit}
+use Rattle.closed_constants.specs.Bounds.{AreBelow, in_entry, in_names, in_open, IsBoundOf}
 use Rattle.closed_constants.proofs.Below.{below_both, below_first, below_last}
 use Rattle.closed_constants.proofs.Names.{closed_below}
 use Rattle.closed_routines.proofs.Staying.{Stays, Nothing, stays, stay_on, stay_opened, grown_closed}
 use Rattle.closed_routines.proofs.Routing.{draft_stays, stage_stays, heading_stays, part_of_stays, all_stay}
 
 -- ---- interface parts
-
-stay_seeing : (asked : ℕ → Type 0) (g : Environment) (uses : ℕ) → Stays asked g (seeing uses g)
-stay_seeing asked g uses = record {
-  longer = omega arith;
-  bound = λ n b l a. record { table = b.table; system = b.system; types = b.types; predeclared = b.predeclared; used = b.used; blocks = b.blocks };
-}
 
 declared_stays : (unit : List ℕ) (s : Stage) (one : InterfaceDeclaration) (made : Stage) → (declared unit s one).holds made → Stays Nothing s.draft.scope made.draft.scope
 declared_stays unit s (i.Part one) made e = part_of_stays unit unit_site s one made e
@@ -49,14 +50,12 @@ declared_stay unit s [] made e = stage_stays Nothing s.draft.scope s made e (sta
 declared_stay unit s (one ∷ rest) made e =
     stay_on s.draft.scope e.part.draft.scope made.draft.scope (declared_stays unit s one e.part e.holds) (declared_stay unit e.part rest made e.made)
 
-interface_stays : (name : List ℕ) (g : Environment) (uses : ℕ) (all : List InterfaceDeclaration) (d : Drafted) → (interface_judged name g uses all).holds d → Stays Nothing g d.scope
+interface_stays : (name : List ℕ) (g : Environment) (all : List InterfaceDeclaration) (d : Drafted) → (interface_judged name g all).holds d → Stays Nothing g d.scope
 unfolding interface_judged
-interface_stays name g uses all d e =
-    let own = seeing uses g in
-    let start = empty_draft own in
+interface_stays name g all d e =
+    let start = empty_draft g in
     draft_stays Nothing g e.part.draft d e.made
-    (stay_on g own e.part.draft.scope (stay_seeing Nothing g uses)
-    (stay_on own start.scope e.part.draft.scope (stay_opened Nothing own Part) (declared_stay name (stage start []) all e.part e.holds)))
+    (stay_on g start.scope e.part.draft.scope (stay_opened Nothing g Part) (declared_stay name (stage start []) all e.part e.holds))
 
 read_stays : (name : List ℕ) (g : Environment) (all : Works) (d : Drafted) → (declarations_judged name g all).holds d → Stays Nothing g d.scope
 unfolding declarations_judged
@@ -65,10 +64,28 @@ read_stays name g all d e =
     draft_stays Nothing g e.part.draft d e.made
     (stay_on g start.scope e.part.draft.scope (stay_opened Nothing g Part) (all_stay name unit_site (stage start []) all e.part e.holds))
 
-behind_stays : (name : List ℕ) (uses : ℕ) (d : Drafted) (all : Works) (s : Stage) → (all_judged name unit_site (stage (knowing d (seeing uses d.scope)) []) all).holds s → Stays Nothing d.scope s.draft.scope
-behind_stays name uses d all s e =
-    let start = seeing uses d.scope in
-    stay_on d.scope start s.draft.scope (stay_seeing Nothing d.scope uses) (all_stay name unit_site (stage (knowing d start) []) all s e)
+-- ---- units that the implementation part uses
+
+-- behind them the table has no fewer types, and has what the scope names
+record IsUsed (g h : Environment) : Type 0 where
+  longer : length g.types.types ≤ length h.types.types
+  complete : IsCompleteScope h
+
+used_at : (g h k : Environment) → k ≡ h → IsUsed g h → IsUsed g k
+used_at g h k e u = let P : Environment → Type 0 = λ x. IsUsed g x in subst P (sym e) u
+
+all_used_so : (have : List Interface) (g : Environment) (rest : List Identifier) (h : Environment) → (all_used have g rest).holds h → IsCompleteScope g → ((used : List ℕ) → IsClosedUse have used) → IsUsed g h
+all_used_so have g [] h e c closed = used_at g g h e (record { longer = omega arith; complete = c })
+all_used_so have g (one ∷ rest) h e c closed =
+    let next = with_use have g one.name in
+    let first : IsUsed g e.part = used_at g next e.part e.holds.made (record {
+      longer = use_longer have g one.name c (closed one.name) e.holds.asked;
+      complete = use_complete have g one.name c (closed one.name) e.holds.asked;
+    }) in
+    let more = all_used_so have e.part rest h e.made first.complete closed in
+    let long = first.longer in
+    let longer = more.longer in
+    record { longer = omega arith; complete = more.complete }
 
 -- ---- what a scope shows
 
@@ -92,8 +109,6 @@ block_below n (block ∷ blocks) (suc place) h = block_below n blocks place (bel
 shown_below : (n : ℕ) (g : Environment) → IsBoundOf n g → AreBelow n (in_items (items_of g))
 shown_below n g b = block_below n g.blocks (length g.blocks - 1) b.blocks
 
--- ---- closed tables
-
 below_in : (n : ℕ) (numbers : List ℕ) (number : ℕ) → AreBelow n numbers → is_in numbers number ≡ true → number < n
 below_in n [] number h e = cc
 below_in n (first ∷ rest) number h e = by (nat_eq number first) refl e (λ f. below_in n rest number h.1 f)
@@ -102,42 +117,66 @@ below_in n (first ∷ rest) number h e = by (nat_eq number first) refl e (λ f. 
     by true same f more = let is = eqb-true number first same in let low = h.0 in omega arith
     by false same f more = more f
 
-closed_of : (g : Environment) (items : List Item) → IsClosedScope g → AreBelow (length g.types.types) (in_items items) → IsClosed g.types.types items
-closed_of g items h k =
-    let n = length g.types.types in
-    record {
-      named = λ number e. below_in n (in_items items) number k e;
-      beside = λ by number e. below_in n (with_type by (slice_get g.types.types by)) number (h.types by) e;
-    }
+-- ---- closed units
+
+closed_of : (g : Environment) (items : List Item) → IsCompleteScope g → AreBelow (length g.types.types) (in_items items) → IsClosedUnit g.types items
+closed_of g items h k = record { ordered = h.ordered; items = k; types = h.closed.types }
+
+complete_on : (g h : Environment) → Stays Nothing g h → IsCompleteScope g → IsCompleteScope h
+complete_on g h s c = record { ordered = s.ordered c.ordered; closed = grown_closed g h s c.closed }
 
 ended_closed : (name : List ℕ) (front : _) (items : List Item) (body : Option CompoundStatement) (d : Drafted) (unit : Whole) → (ended name front items body d).holds unit
-    → IsClosed d.scope.types.types items → IsClosed unit.types.types unit.items
-ended_closed name front items None d unit e h = let P : Whole → Type 0 = λ u. IsClosed u.types.types u.items in subst P (sym e.made) h
-ended_closed name front items (Some body) d unit e h = let P : Whole → Type 0 = λ u. IsClosed u.types.types u.items in subst P (sym e.made) h
+    → IsClosedUnit d.scope.types items → IsClosedUnit unit.types unit.items
+ended_closed name front items None d unit e h = let P : Whole → Type 0 = λ u. IsClosedUnit u.types u.items in subst P (sym e.made) h
+ended_closed name front items (Some body) d unit e h = let P : Whole → Type 0 = λ u. IsClosedUnit u.types u.items in subst P (sym e.made) h
 
-same_unit : (one made : Whole) → made ≡ one → IsClosed one.types.types one.items → IsClosed made.types.types made.items
-same_unit one made e h = let P : Whole → Type 0 = λ u. IsClosed u.types.types u.items in subst P (sym e) h
+same_unit : (one made : Whole) → made ≡ one → IsClosedUnit one.types one.items → IsClosedUnit made.types made.items
+same_unit one made e h = let P : Whole → Type 0 = λ u. IsClosedUnit u.types u.items in subst P (sym e) h
 
-pub outline_closed : (name : List ℕ) (says : Directives) (g : Environment) (tree : Tree) (unit : Whole) → IsClosedScope g → (outlined name says g tree).holds unit → IsClosed unit.types.types unit.items
-outline_closed name says g (t.Program heading uses all body) unit closed e = same_unit _ unit e.made (closed_of g [] closed tt)
-outline_closed name says g (t.Unit here own uses outer interface all body) unit closed e =
+-- behind an interface part
+outer_complete : (name : List ℕ) (g : Environment) (all : List InterfaceDeclaration) (d : Drafted) → (interface_judged name g all).holds d → IsCompleteScope g → IsCompleteScope d.scope
+outer_complete name g all d e h = complete_on g d.scope (interface_stays name g all d e) h
+
+pub outline_closed : (name : List ℕ) (says : Directives) (g : Environment) (tree : Tree) (unit : Whole) → IsCompleteScope g → (outlined name says g tree).holds unit → IsClosedUnit unit.types unit.items
+outline_closed name says g (t.Program heading uses all body) unit h e = same_unit _ unit e.made (closed_of g [] h tt)
+outline_closed name says g (t.Unit here own uses outer interface all body) unit h e =
     let d = e.made in
-    let own_scope = grown_closed g d.part.scope (interface_stays name g (narrow outer) interface.items d.part d.holds) closed in
-    same_unit _ unit d.made (closed_of d.part.scope (items_of d.part.scope) own_scope (shown_below (length d.part.scope.types.types) d.part.scope own_scope))
+    let behind = outer_complete name g interface.items d.part d.holds h in
+    same_unit _ unit d.made (closed_of d.part.scope (items_of d.part.scope) behind (shown_below (length d.part.scope.types.types) d.part.scope behind.closed))
 
-pub unit_closed : (name : List ℕ) (says : Directives) (g : Environment) (tree : Tree) (unit : Whole) → IsClosedScope g → (judged name says g tree).holds unit → IsClosed unit.types.types unit.items
-unit_closed name says g (t.Program heading uses all body) unit closed h =
+pub interface_closed : (name : List ℕ) (says : Directives) (g : Environment) (tree : Tree) (interface : Interface) → IsCompleteScope g → IsShownAs name says g tree interface → IsClosedInterface interface
+interface_closed name says g tree interface h e =
+    let c = outline_closed name says g tree e.unit h e.holds in
+    shown_closed (with_nothing_else e.unit) interface c.ordered.paired c.items c.types e.shows
+
+pub unit_closed : (name : List ℕ) (says : Directives) (g : Environment) (have : List Interface) (tree : Tree) (unit : Whole) → IsCompleteScope g → ((used : List ℕ) → IsClosedUse have used)
+    → (judged name says g have tree).holds unit → IsClosedUnit unit.types unit.items
+unit_closed name says g have (t.Program heading uses all body) unit c used h =
     let f = h.made in
     let d = f.made in
     ended_closed name f.part [] (Some body) d.part unit d.made
-    (closed_of d.part.scope [] (grown_closed g d.part.scope (read_stays name g (view_declarations all.items) d.part d.holds) closed) tt)
-unit_closed name says g (t.Unit here own uses outer interface all body) unit closed h =
+    (closed_of d.part.scope [] (complete_on g d.part.scope (read_stays name g (view_declarations all.items) d.part d.holds) c) tt)
+unit_closed name says g have (t.Unit here own uses outer interface all body) unit c used h =
     let i = h.made in
     let d = i.part in
-    let s = i.made in
-    let first = grown_closed g d.scope (interface_stays name g (narrow outer) interface.items d i.holds) closed in
-    let more = behind_stays name (narrow (length uses.items)) d (view_declarations all.items) s.part s.holds in
+    let u = i.made in
+    let s = u.made in
+    let first = outer_complete name g interface.items d i.holds c in
+    let middle = all_used_so have d.scope (drop outer uses.items) u.part u.holds first used in
+    let more = all_stay name unit_site (stage (knowing d u.part) []) (view_declarations all.items) s.part s.holds in
     let last = s.part.draft.scope in
     let n = length last.types.types in
+    let behind_uses = middle.longer in
+    let behind_all = more.longer in
+    let low : length d.scope.types.types ≤ n = omega arith in
     ended_closed name h.part (items_of d.scope) body s.part.draft unit s.made
-    (closed_of last (items_of d.scope) (grown_closed d.scope last more first) (shown_below n d.scope (closed_below n d.scope first more.longer)))
+    (closed_of last (items_of d.scope) (complete_on u.part last more middle.complete) (shown_below n d.scope (closed_below n d.scope first.closed low)))
+
+-- the law of `interface_laws` on closed tables, of closed units
+pub is_closed : (types : Table) (items : List Item) → IsClosedUnit types items → IsClosed types.types items
+is_closed types items h =
+    let n = length types.types in
+    record {
+      named = λ number e. below_in n (in_items items) number h.items e;
+      beside = λ by number e. below_in n (with_type by (slice_get types.types by)) number (h.types by) e;
+    }

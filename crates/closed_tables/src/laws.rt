@@ -4,7 +4,7 @@ ghost use Rattle.closed_tables.specs.Tables.{StayClosed, ShowAlike};
 
 use interface_laws::agreement_laws;
 
-/// Over a closed scope, the types behind a unit, and behind its interface part alone, name types of their table alone. So what the
+/// Over a complete scope, the types behind a unit, and behind its interface part alone, name types of their table alone. So what the
 /// unit shows is what its interface part shows.
 pub fn table_laws()
     ensures closed { StayClosed }

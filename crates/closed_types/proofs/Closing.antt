@@ -7,6 +7,7 @@ use Rattle.type_denoters.specs.Additions.{Denoted}
 use Rattle.type_denoters.specs.Denoters.{ground, judged}
 use Rattle.type_parts.specs.Parts.{type_part}
 use Rattle.closed_constants.specs.Bounds.{IsClosedScope}
+use Rattle.closed_constants.specs.Ordered.{IsOrdered}
 use Rattle.closed_constants.proofs.Names.{closed_below}
 use Rattle.closed_types.proofs.Promising.{none_promised}
 use Rattle.closed_types.proofs.Denoting.{denoting}
@@ -25,3 +26,6 @@ pub part_closed : (unit : List ℕ) (next : Option ℕ) (g : Environment) (all :
 part_closed unit next g all h e closed =
     let n = length h.types.types in
     part_bound n unit next g all h e (closed_below n g closed (part_longer unit next g all h e)) (omega arith)
+
+pub type_ordered : (unit : List ℕ) (g : Environment) (one : Denoter) (made : Denoted) → (judged (ground unit []) g one).holds made → IsOrdered g.types → IsOrdered made.scope.types
+type_ordered unit g one made e o = (denoting (ground unit []) g one made e).reads.ordered o

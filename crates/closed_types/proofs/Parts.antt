@@ -22,6 +22,7 @@ use Rattle.type_denoters.specs.Denoters.{Ground, ground, promise_of, judged}
 use Rattle.type_parts.specs.Promised.{adds, alias_by, promised_id, promise, promises_from, promises}
 use Rattle.type_parts.specs.Parts.{whole, type_declared, next_routine, types_declared, type_part}
 use Rattle.closed_constants.specs.Bounds.{IsBoundOf}
+use Rattle.closed_constants.specs.Ordered.{IsOrdered}
 use Rattle.closed_constants.proofs.Names.{OfMeaning, of_found}
 use Rattle.closed_types.specs.Promises.{MeansType}
 use Rattle.closed_types.proofs.Means.{IsApart, follows_name}
@@ -101,6 +102,7 @@ apart_at ty false e = tt
 -- what a declaration leaves of a scope
 pub record IsDeclared (on : Ground) (g : Environment) (one : TypeDeclaration) (h : Environment) : Type 0 where
   pub long : length h.types.types ≡ length g.types.types + adds (view_denoter one.denoter)
+  pub ordered : IsOrdered g.types → IsOrdered h.types
   pub follows : (name : List ℕ) (ty : TypeId) → same_bytes name one.name.name ≡ false → MeansType (find h name) ty → MeansType (find g name) ty
   pub ty : TypeId
   pub means : MeansSome g (view_denoter one.denoter) ty
@@ -114,6 +116,7 @@ declared on next g one h e =
     let same : length h.types.types ≡ length made.scope.types.types = ap (λ (x : Environment). length x.types.types) entered.is in
     record {
       long = same ∙ types.reads.long;
+      ordered = λ o. (let P : Environment → Type 0 = λ x. IsOrdered x.types in subst P (sym entered.is) (types.reads.ordered o));
       follows = λ name ty apart m.
           let Q : Environment → Type 0 = λ x. MeansType (find x name) ty in
           (types.reads.follows name).means ty ((follows_name made.scope one.name.name name (entry.Ty made.ty) (apart_at made.ty (same_bytes name one.name.name) apart)).means ty (subst Q entered.is m));
@@ -132,6 +135,10 @@ module _ (on : Ground) where
       let first = (declared on next g one e.part e.holds).long in
       let more = types_longer (next_routine next one.denoter) e.part rest h e.made in
       omega arith
+
+  types_ordered : (next : Option ℕ) (g : Environment) (all : List TypeDeclaration) (h : Environment) → (types_declared on next g all).holds h → IsOrdered g.types → IsOrdered h.types
+  types_ordered next g [] h e o = let P : Environment → Type 0 = λ x. IsOrdered x.types in subst P (sym e) o
+  types_ordered next g (one ∷ rest) h e o = types_ordered (next_routine next one.denoter) e.part rest h e.made ((declared on next g one e.part e.holds).ordered o)
 
   types_bound : (n : ℕ) (next : Option ℕ) (g : Environment) (all : List TypeDeclaration) (h : Environment) → (types_declared on next g all).holds h → IsBoundOf n g → length h.types.types ≤ n
       → ArePromised on.names n → IsBoundOf n h
@@ -160,6 +167,10 @@ module _ (on : Ground) where
 pub part_longer : (unit : List ℕ) (next : Option ℕ) (g : Environment) (all : List TypeDeclaration) (h : Environment) → (type_part unit next g all).holds h → length g.types.types ≤ length h.types.types
 unfolding type_part
 part_longer unit next g all h e = types_longer (ground unit (promises g all)) next g all h e
+
+pub part_ordered : (unit : List ℕ) (next : Option ℕ) (g : Environment) (all : List TypeDeclaration) (h : Environment) → (type_part unit next g all).holds h → IsOrdered g.types → IsOrdered h.types
+unfolding type_part
+part_ordered unit next g all h e o = types_ordered (ground unit (promises g all)) next g all h e o
 
 pub part_bound : (n : ℕ) (unit : List ℕ) (next : Option ℕ) (g : Environment) (all : List TypeDeclaration) (h : Environment) → (type_part unit next g all).holds h → IsBoundOf n g
     → length h.types.types ≤ n → IsBoundOf n h

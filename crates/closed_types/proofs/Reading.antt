@@ -1,23 +1,28 @@
 -- What is left of a scope where types are read.
-use Rattle.std.proofs.Common.{◌≡◌, ◌∙◌, ℕ, ◌+◌, ◌<◌, ◌≤◌, false, List, [], ◌∷◌, length, Some, refl, sym, subst, arith, length-append}
+use Rattle.std.proofs.Common.{◌≡◌, ◌∙◌, ℕ, ◌+◌, ◌-◌, ◌^◌, ◌<◌, ◌≤◌, false, List, [], ◌∷◌, length, Some, refl, sym, subst, arith, length-append}
+use Rattle.std.specs.Prelude.{min}
 use Rattle.type_layout.specs.declared.definitions.TypeDef.{TypeDef}
 use Rattle.type_layout.specs.declared.texts.Place.{Place}
+use Rattle.type_layout.specs.Layouts.{size_over}
 use Rattle.type_layout.specs.Table.{IsAddable, IsDefinedOver}
 use Rattle.type_layout.specs.Words.{same_bytes}
 use Rattle.scopes.specs.declared.entries.Entry.{Entry}
 use Rattle.scopes.specs.Predeclared.{type_id}
 use Rattle.scopes.specs.Environment.{Environment, find, has_innermost, with_name}
 use Rattle.typing_rules.specs.declared.faults.Rule.{Rule}
-use Rattle.type_denoters.specs.Additions.{Denoted, denoted, with_type_of, added, entered}
+use Rattle.type_denoters.specs.Additions.{Denoted, denoted, count_of, with_type_of, added, entered}
 use Rattle.closed_constants.specs.Bounds.{AreBelow, in_entry, IsBoundOf}
+use Rattle.closed_constants.specs.Ordered.{IsOrdered}
+use Rattle.closed_constants.proofs.Ordering.{ordered_with}
 use Rattle.closed_types.proofs.Means.{Follows, follows_same, follows_then, follows_types, follows_name, IsApart}
 use Rattle.closed_types.proofs.Own.{own_entry, still_own, same_count}
 use Rattle.closed_types.proofs.Entering.{IsAsked, types_below, bound_with_name}
 
--- So many types are added; no name means a type that meant none, what the innermost block has it keeps, no block is opened or
--- closed; and a bound stays one that is no less than the table, where what is asked of it holds.
+-- So many types are added, by which the table stays ordered; no name means a type that meant none, what the innermost block has it keeps, no
+-- block is opened or closed; and a bound stays one that is no less than the table, where what is asked of it holds.
 pub record Reads (asked : ℕ → Type 0) (g h : Environment) (count : ℕ) : Type 0 where
   pub long : length h.types.types ≡ length g.types.types + count
+  pub ordered : IsOrdered g.types → IsOrdered h.types
   pub follows : (name : List ℕ) → Follows (find h name) (find g name)
   pub keeps : (name : List ℕ) (one : Entry) → own_entry g name ≡ Some one → own_entry h name ≡ Some one
   pub blocks : length h.blocks ≡ length g.blocks
@@ -33,7 +38,7 @@ pub record Types (asked : ℕ → Type 0) (g : Environment) (made : Denoted) (co
 pub read_same : (asked : ℕ → Type 0) (g h : Environment) → h ≡ g → Reads asked g h 0
 read_same asked g h e =
     let P : Environment → Type 0 = λ x. Reads asked g x 0 in
-    subst P (sym e) (record { long = omega arith; follows = λ name. follows_same (find g name); keeps = λ name one f. f; blocks = refl; bound = λ n b l a. b })
+    subst P (sym e) (record { long = omega arith; ordered = λ o. o; follows = λ name. follows_same (find g name); keeps = λ name one f. f; blocks = refl; bound = λ n b l a. b })
 
 pub read_at : (asked : ℕ → Type 0) (g h k : Environment) (count : ℕ) → k ≡ h → Reads asked g h count → Reads asked g k count
 read_at asked g h k count e r = let P : Environment → Type 0 = λ x. Reads asked g x count in subst P (sym e) r
@@ -47,7 +52,7 @@ typed_as asked g made m n e r = subst (λ (x : ℕ). Types asked g made x) e r
 pub typed_for : (first both : ℕ → Type 0) (g : Environment) (made : Denoted) (count : ℕ) → Types first g made count
     → ((b : ℕ) → IsBoundOf b g → length made.scope.types.types ≤ b → both b → first b) → Types both g made count
 typed_for first both g made count one p = record {
-  reads = record { long = one.reads.long; follows = one.reads.follows; keeps = one.reads.keeps; blocks = one.reads.blocks; bound = λ b s l a. one.reads.bound b s l (p b s l a) };
+  reads = record { long = one.reads.long; ordered = one.reads.ordered; follows = one.reads.follows; keeps = one.reads.keeps; blocks = one.reads.blocks; bound = λ b s l a. one.reads.bound b s l (p b s l a) };
   ty = λ b s l a. one.ty b s l (p b s l a);
 }
 
@@ -59,6 +64,7 @@ module _ (first second both : ℕ → Type 0) (g h : Environment) (m n : ℕ) (o
       let f = two.long in
       record {
         long = omega arith;
+        ordered = λ o. two.ordered (one.ordered o);
         follows = λ name. follows_then (find k name) (find h name) (find g name) (two.follows name) (one.follows name);
         keeps = λ name entry e. two.keeps name entry (one.keeps name entry e);
         blocks = two.blocks ∙ one.blocks;
@@ -84,10 +90,14 @@ module _ (first second both : ℕ → Type 0) (g h : Environment) (m n : ℕ) (o
 pub record IsAdded (unit : List ℕ) (g : Environment) (one : TypeDef) (made : Denoted) : Type 0 where
   pub is : made ≡ denoted (type_id (length g.types.types)) (with_type_of unit g one)
   pub addable : IsAddable g.types unit one
+  pub small : size_over g.types.types one ≤ 65520
+
+least_small : (m : ℕ) → min m (2 ^ 64 - 1) ≤ 65520 → m ≤ 65520
+least_small m h = omega arith
 
 pub is_added : (unit : List ℕ) (g : Environment) (place : Place) (asked : Rule) (one : TypeDef) (made : Denoted) → (added unit g place asked one).holds made → IsAdded unit g one made
 unfolding added
-is_added unit g place asked one made h = record { is = h.made.made; addable = h.holds.asked }
+is_added unit g place asked one made h = record { is = h.made.made; addable = h.holds.asked; small = least_small (size_over g.types.types one) h.made.asked }
 
 module _ (unit : List ℕ) (g : Environment) (one : TypeDef) where
   longer : length (with_type_of unit g one).types.types ≡ length g.types.types + 1
@@ -104,10 +114,11 @@ module _ (unit : List ℕ) (g : Environment) (one : TypeDef) where
     blocks = h.blocks;
   }
 
-  reads_type : IsAddable g.types unit one → Types (λ n. IsAsked n (length g.types.types) one) g (denoted (type_id (length g.types.types)) (with_type_of unit g one)) 1
-  reads_type a = record {
+  reads_type : IsAddable g.types unit one → size_over g.types.types one ≤ 65520 → Types (λ n. IsAsked n (length g.types.types) one) g (denoted (type_id (length g.types.types)) (with_type_of unit g one)) 1
+  reads_type a small = record {
     reads = record {
       long = longer;
+      ordered = λ o. ordered_with g.types unit (count_of g.types unit) one o a.defined small;
       follows = λ name. follows_types g (with_type_of unit g one) (one ∷ []) name refl refl refl refl refl;
       keeps = λ name entry e. e;
       blocks = refl;
@@ -120,7 +131,7 @@ pub adds_type : (unit : List ℕ) (g : Environment) (place : Place) (asked : Rul
     → Types (λ n. IsAsked n (length g.types.types) one) g made 1
 adds_type unit g place asked one made h =
     let a = is_added unit g place asked one made h in
-    typed_at (λ n. IsAsked n (length g.types.types) one) g (denoted (type_id (length g.types.types)) (with_type_of unit g one)) made 1 a.is (reads_type unit g one a.addable)
+    typed_at (λ n. IsAsked n (length g.types.types) one) g (denoted (type_id (length g.types.types)) (with_type_of unit g one)) made 1 a.is (reads_type unit g one a.addable a.small)
 
 -- ---- names
 
@@ -138,6 +149,7 @@ enters g place name one h e apart =
     let is = is_entered g place name one h e in
     read_at (λ n. AreBelow n (in_entry one)) g (with_name g name one) h 0 is.is (record {
       long = omega arith;
+      ordered = λ o. o;
       follows = λ wanted. follows_name g name wanted one (apart wanted);
       keeps = λ wanted found f. still_own g name one wanted found f;
       blocks = same_count g.blocks name one;

@@ -1,7 +1,8 @@
 -- One type more, one name more, and declarations one after the other.
-use Rattle.std.proofs.Common.{◌≡◌, ℕ, List, [], ◌∷◌, ◌++◌, length, Option, Some, None, refl, sym, subst, ap, ◌∙◌, append-nil, append_assoc}
+use Rattle.std.proofs.Common.{◌≡◌, ℕ, ◌+◌, List, [], ◌∷◌, ◌++◌, length, Option, Some, None, refl, sym, subst, ap, ◌∙◌, append-nil, append_assoc}
 use Rattle.std.proofs.Math.IntN.{ℤ}
 use Rattle.std.specs.Prelude.{slice_get}
+use Rattle.type_layout.specs.declared.definitions.TypeId.{TypeId}
 use Rattle.type_layout.specs.declared.definitions.TypeDef.{TypeDef}
 use Rattle.type_layout.specs.declared.definitions.TypeDef.TheVariants as type
 use Rattle.type_layout.specs.declared.texts.Place.{Place}
@@ -15,8 +16,8 @@ use Rattle.scopes.specs.Predeclared.{type_id}
 use Rattle.scopes.specs.Environment.{Environment, with_name}
 use Rattle.typing_rules.specs.declared.faults.Rule.{Rule}
 use Rattle.type_denoters.specs.Additions.{with_type_of, Denoted, denoted, added, entered}
-use Rattle.wider_scopes.proofs.Types.{more_kept}
-use Rattle.declared_names.specs.Declaring.{typing, with_names, IsOfType, AreOfTypes, Declares}
+use Rattle.wider_scopes.proofs.Types.{more_kept, some_of}
+use Rattle.declared_names.specs.Declaring.{typing, with_names, HasSet, IsOfType, AreOfTypes, Declares}
 
 -- ---- names stay known as types follow
 
@@ -28,11 +29,16 @@ number_over : (types more : List TypeDef) (n : ℤ) (d : Option TypeDef) → IsV
 number_over types more n (Some (type.Ordinal host low high)) h = h
 number_over types more n d h = absurd h
 
+pub set_kept : (front back : List TypeDef) (ty : TypeId) → HasSet front ty → HasSet (front ++ back) ty
+set_kept front back ty h = more_kept front back (type_id (ty.0 + 1)) (some_of (definition front (type_id (ty.0 + 1))) (type.SetOf ty) h) ∙ h
+
 pub of_type_kept : (front back : List TypeDef) (one : Entry) → IsOfType front one → IsOfType (front ++ back) one
 of_type_kept front back (entry.Ty ty) h = tt
 of_type_kept front back (entry.Const ty (value.Number n)) h =
-    let same = more_kept front back ty (number_some front n (definition front ty) h) in
-    subst (λ (d : Option TypeDef). IsValue (front ++ back) (value.Number n) d) (sym same) (number_over front (front ++ back) n (definition front ty) h)
+    let same = more_kept front back ty (number_some front n (definition front ty) h.0) in (
+      subst (λ (d : Option TypeDef). IsValue (front ++ back) (value.Number n) d) (sym same) (number_over front (front ++ back) n (definition front ty) h.0),
+      set_kept front back ty h.1,
+    )
 of_type_kept front back one h = absurd h
 
 of_types_kept : (front back : List TypeDef) (names : SymbolList) → AreOfTypes front names → AreOfTypes (front ++ back) names

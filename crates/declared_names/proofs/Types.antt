@@ -1,27 +1,30 @@
 -- Types as they are written.
-use Rattle.std.proofs.Common.{◌≡◌, ℕ, ◌+◌, ◌<◌, ◌≤◌, List, [], ◌∷◌, length, Option, Some, sym, subst, ap, ◌∙◌, arith}
+use Rattle.std.proofs.Common.{◌≡◌, ℕ, ◌+◌, ◌<◌, ◌≤◌, List, [], ◌∷◌, ◌++◌, length, Option, Some, sym, subst, ap, ◌∙◌, length-append, arith}
 use Rattle.std.proofs.Math.IntN.{pos}
-use Rattle.std.specs.Prelude.{◌≤ℤ◌}
+use Rattle.std.specs.Prelude.{◌≤ℤ◌, slice_get}
 use Rattle.std.proofs.lemmas.Int.{ints}
 use Rattle.type_layout.specs.declared.definitions.TypeId.{TypeId}
 use Rattle.type_layout.specs.declared.definitions.Field.{Field}
 use Rattle.type_layout.specs.declared.definitions.Host.TheVariants as host
 use Rattle.type_layout.specs.declared.definitions.TypeDef.{TypeDef}
+use Rattle.type_layout.specs.declared.definitions.TypeDef.TheVariants as type
 use Rattle.type_layout.specs.declared.texts.Place.{Place}
 use Rattle.typed_tree.specs.declared.expressions.Value.TheVariants as value
 use Rattle.well_formed.specs.Fits.{definition, stored_as}
 use Rattle.syntax_tree.specs.declared.identifier.Identifier.{Identifier}
 use Rattle.scopes.specs.declared.entries.Entry.TheVariants as entry
+use Rattle.scopes.specs.Predeclared.{type_id}
 use Rattle.scopes.specs.Environment.{Environment}
+use Rattle.typing_rules.specs.declared.faults.Rule.{Rule}
 use Rattle.constant_expressions.specs.declared.constants.Constant.{Constant}
 use Rattle.type_denoters.specs.Trees as tree
 use Rattle.type_denoters.specs.Trees.{Denoter, Denoters, Fields, no_denoters, and_denoter, no_fields, and_fields}
-use Rattle.type_denoters.specs.Additions.{Denoted}
+use Rattle.type_denoters.specs.Additions.{Denoted, added}
 use Rattle.type_denoters.specs.Denoters.{Ground, Listed, Indexes, with_set, followed, range_of, values_entered, enumeration_of, string_of, array_of, arrays_of, judged, indexes_judged, fields_judged}
 use Rattle.typed_nodes.proofs.Ordinals.{holding, value_held}
 use Rattle.wider_scopes.proofs.Types.{more_kept, some_of}
-use Rattle.declared_names.specs.Declaring.{IsOfType, Declares}
-use Rattle.declared_names.proofs.Adding.{nothing, behind, entered_is, name_declares, added_declares, last_is}
+use Rattle.declared_names.specs.Declaring.{HasSet, IsOfType, Declares}
+use Rattle.declared_names.proofs.Adding.{nothing, behind, entered_is, name_declares, added_is, added_declares, last_is}
 
 -- ---- subranges
 
@@ -39,21 +42,37 @@ range_declares unit g place low high made k =
 
 -- ---- enumerations
 
-value_known : (types : List TypeDef) (ty : TypeId) (number : ℕ) → number < 256 → stored_as (definition types ty) ≡ Some host.Enumeration → IsOfType types (entry.Const ty (value.Number (pos number)))
-value_known types ty number h stored =
+value_known : (types : List TypeDef) (ty : TypeId) (number : ℕ) → number < 256 → stored_as (definition types ty) ≡ Some host.Enumeration → HasSet types ty
+    → IsOfType types (entry.Const ty (value.Number (pos number)))
+value_known types ty number h stored set =
     let least : pos 0 ≤ℤ pos number = omega (arith, ints) in
     let most : pos number ≤ℤ pos 255 = omega (arith, ints, h) in
-    value_held types (definition types ty) host.Enumeration (pos number) stored (holding host.Enumeration (pos number) least most)
+    (value_held types (definition types ty) host.Enumeration (pos number) stored (holding host.Enumeration (pos number) least most), set)
 
 values_declare : (g h : Environment) (ty : TypeId) (number : ℕ) (names : List Identifier) → number + length names ≤ 256 → stored_as (definition g.types.types ty) ≡ Some host.Enumeration
-    → (values_entered g ty number names).holds h → Declares g h
-values_declare g h ty number [] few stored k = subst (λ (e : Environment). Declares g e) (sym k) (nothing g)
-values_declare g h ty number (one ∷ rest) few stored k =
+    → HasSet g.types.types ty → (values_entered g ty number names).holds h → Declares g h
+values_declare g h ty number [] few stored set k = subst (λ (e : Environment). Declares g e) (sym k) (nothing g)
+values_declare g h ty number (one ∷ rest) few stored set k =
     let below : number < 256 = omega (arith, few) in
-    let first = name_declares g k.part one.position.place one.name (entry.Const ty (value.Number (pos number))) (value_known g.types.types ty number below stored) k.holds in
-    let still : stored_as (definition k.part.types.types ty) ≡ Some host.Enumeration =
-    ap (λ (e : Environment). stored_as (definition e.types.types ty)) (entered_is g k.part one.position.place one.name (entry.Const ty (value.Number (pos number))) k.holds) ∙ stored in
-    behind g k.part h first (values_declare k.part h ty (number + 1) rest (omega (arith, few)) still k.made)
+    let first = name_declares g k.part one.position.place one.name (entry.Const ty (value.Number (pos number))) (value_known g.types.types ty number below stored set) k.holds in
+    let is = entered_is g k.part one.position.place one.name (entry.Const ty (value.Number (pos number))) k.holds in
+    let still : stored_as (definition k.part.types.types ty) ≡ Some host.Enumeration = ap (λ (e : Environment). stored_as (definition e.types.types ty)) is ∙ stored in
+    let there : HasSet k.part.types.types ty = ap (λ (e : Environment). definition e.types.types (type_id (ty.0 + 1))) is ∙ set in
+    behind g k.part h first (values_declare k.part h ty (number + 1) rest (omega (arith, few)) still there k.made)
+
+-- the set that follows a type is the next type
+set_behind : (unit : List ℕ) (g h : Environment) (place : Place) (asked : Rule) (one : TypeDef) (made : Denoted) (base : TypeId) → (added unit g place asked one).holds made
+    → (with_set unit made.scope place base).holds h → definition h.types.types (type_id (made.ty.0 + 1)) ≡ Some (type.SetOf base)
+set_behind unit g h place asked one made base first k =
+    let is = added_is unit g place asked one made first in
+    let next = added_is unit made.scope place _ (type.SetOf base) k.part k.holds in
+    let at : k.part.ty.0 ≡ length made.scope.types.types = ap (λ (m : Denoted). m.ty.0) next in
+    let types : length made.scope.types.types ≡ length (g.types.types ++ one ∷ []) = ap (λ (m : Denoted). length m.scope.types.types) is in
+    let number : made.ty.0 ≡ length g.types.types = ap (λ (m : Denoted). m.ty.0) is in
+    let longer = length-append g.types.types (one ∷ []) in
+    let same : made.ty.0 + 1 ≡ k.part.ty.0 = omega (arith, at, types, number, longer) in
+    ap (λ (e : Environment). definition e.types.types (type_id (made.ty.0 + 1))) k.made ∙ ap (λ (n : ℕ). slice_get k.part.scope.types.types n) same
+    ∙ last_is unit made.scope place _ (type.SetOf base) k.part k.holds
 
 enumeration_declares : (unit : List ℕ) (g : Environment) (place : Place) (names : List Identifier) (made : Denoted) → (enumeration_of unit g place names).holds made → Declares g made.scope
 unfolding enumeration_of
@@ -70,7 +89,8 @@ enumeration_declares unit g place names made k =
     let kept = more_kept ordinal.part.scope.types.types back.0 ordinal.part.ty (some_of (definition ordinal.part.scope.types.types ordinal.part.ty) _ before) in
     let stored : stored_as (definition over.part.types.types ordinal.part.ty) ≡ Some host.Enumeration =
     ap (λ (t : List TypeDef). stored_as (definition t ordinal.part.ty)) back.1 ∙ ap (λ (d : Option TypeDef). stored_as d) (kept ∙ before) in
-    let named = values_declare over.part values.part ordinal.part.ty 0 names (omega (arith, small)) stored values.holds in
+    let behind_it = set_behind unit g over.part place _ _ ordinal.part ordinal.part.ty ordinal.holds over.holds in
+    let named = values_declare over.part values.part ordinal.part.ty 0 names (omega (arith, small)) stored behind_it values.holds in
     let whole : Declares g values.part = behind g over.part values.part (behind g ordinal.part.scope over.part one set) named in
     subst (λ (m : Denoted). Declares g m.scope) (sym values.made) whole
 

@@ -1,11 +1,14 @@
 -- What declarations of types add to a scope.
-use Rattle.std.specs.Prelude.{◌≡◌, List, [], ◌∷◌, ◌++◌}
+use Rattle.std.specs.Prelude.{◌≡◌, ◌+◌, List, [], ◌∷◌, ◌++◌, Some}
+use Rattle.type_layout.specs.declared.definitions.TypeId.{TypeId}
 use Rattle.type_layout.specs.declared.definitions.TypeDef.{TypeDef}
+use Rattle.type_layout.specs.declared.definitions.TypeDef.TheVariants as type
 use Rattle.type_layout.specs.Table.{Table}
 use Rattle.typed_tree.specs.declared.expressions.Value.TheVariants as value
 use Rattle.well_formed.specs.Fits.{definition, IsValue}
 use Rattle.scopes.specs.declared.entries.Entry.{Entry}
 use Rattle.scopes.specs.declared.entries.Entry.TheVariants as entry
+use Rattle.scopes.specs.Predeclared.{type_id}
 use Rattle.scopes.specs.Symbols.{SymbolList}
 use Rattle.scopes.specs.Environment.{Environment, with_name}
 
@@ -18,10 +21,14 @@ abbrev pub with_names : Environment → SymbolList → Environment
 with_names g [] = g
 with_names g (one ∷ rest) = with_names (with_name g one.0 one.1) rest
 
--- the name of a type, or of a value of an enumeration
+-- the set over a type stands behind it in the table
+abbrev pub HasSet : List TypeDef → TypeId → Type 0
+HasSet types ty = definition types (type_id (ty.0 + 1)) ≡ Some (type.SetOf ty)
+
+-- the name of a type, or of a value of an enumeration, which has its set behind it
 abbrev pub IsOfType : List TypeDef → Entry → Type 0
 IsOfType types (entry.Ty ty) = Unit {0}
-IsOfType types (entry.Const ty (value.Number n)) = IsValue types (value.Number n) (definition types ty)
+IsOfType types (entry.Const ty (value.Number n)) = IsValue types (value.Number n) (definition types ty) × HasSet types ty
 IsOfType types _ = ⊥
 
 abbrev pub AreOfTypes : List TypeDef → SymbolList → Type 0

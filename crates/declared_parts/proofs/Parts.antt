@@ -41,7 +41,7 @@ plain_adds where_at p one value g k =
     let is = entered_is p.scope g one.position.place one.name (entry.Const k.part.ty k.part.value) k.made in
     same_rows where_at p g (name_adds where_at p g one.name (entry.Const k.part.ty k.part.value) [] [] is (inr (p.scope, value, k.part, k.holds, refl, refl)))
 
-static_adds : (where_at : Home) (p : Progress) (ty : TypeId) (one : Identifier) (bytes : List ℕ) (q : Progress) → (static_declared p ty one bytes).holds q → Adds where_at p q
+pub static_adds : (where_at : Home) (p : Progress) (ty : TypeId) (one : Identifier) (bytes : List ℕ) (q : Progress) → (static_declared p ty one bytes).holds q → Adds where_at p q
 static_adds where_at p ty one bytes q k =
     let is = entered_is p.scope k.part one.position.place one.name (static_entry ty p) k.holds in
     let named : Adds where_at p (with_rows k.part (p.globals ++ beginning ty bytes ∷ []) (p.locals ++ [])) =
@@ -57,11 +57,11 @@ typed_adds unit where_at p one denoter first q k =
     behind where_at p (knowing p k.part.scope) q (naming_adds where_at p k.part.scope (type_declares denoter (ground unit []) p.scope k.part k.holds))
     (static_adds where_at (knowing p k.part.scope) k.part.ty one inner.part q inner.made)
 
-constant_adds : (unit : List ℕ) (where_at : Home) (p : Progress) (one : ConstantDeclaration) (q : Progress) → (constant_declared unit p one).holds q → Adds where_at p q
+pub constant_adds : (unit : List ℕ) (where_at : Home) (p : Progress) (one : ConstantDeclaration) (q : Progress) → (constant_declared unit p one).holds q → Adds where_at p q
 constant_adds unit where_at p (c.Plain one value) q k = subst (λ (r : Progress). Adds where_at p r) (sym k.made) (plain_adds where_at p one (view_simple value) k.part k.holds)
 constant_adds unit where_at p (c.Typed one denoter first) q k = typed_adds unit where_at p one (view_denoter denoter) (view_initializer first) q k
 
-constants_add : (unit : List ℕ) (where_at : Home) (p : Progress) (all : List ConstantDeclaration) (q : Progress) → (constants_declared unit p all).holds q → Adds where_at p q
+pub constants_add : (unit : List ℕ) (where_at : Home) (p : Progress) (all : List ConstantDeclaration) (q : Progress) → (constants_declared unit p all).holds q → Adds where_at p q
 constants_add unit where_at p [] q k = subst (λ (r : Progress). Adds where_at p r) (sym k) (nothing where_at p)
 constants_add unit where_at p (one ∷ rest) q k = behind where_at p k.part q (constant_adds unit where_at p one k.part k.holds) (constants_add unit where_at k.part rest q k.made)
 
@@ -83,7 +83,7 @@ variable_adds (home.Routine level first) ty p one q k =
     subst (λ (all : List Global). Adds (home.Routine level first) p (with_rows k.part all (p.locals ++ ty ∷ []))) (append-nil p.globals) named in
     subst (λ (r : Progress). Adds (home.Routine level first) p r) (sym k.made) whole
 
-names_add : (where_at : Home) (ty : TypeId) (p : Progress) (all : List Identifier) (q : Progress) → (names_declared where_at ty p all).holds q → Adds where_at p q
+pub names_add : (where_at : Home) (ty : TypeId) (p : Progress) (all : List Identifier) (q : Progress) → (names_declared where_at ty p all).holds q → Adds where_at p q
 names_add where_at ty p [] q k = subst (λ (r : Progress). Adds where_at p r) (sym k) (nothing where_at p)
 names_add where_at ty p (one ∷ rest) q k = behind where_at p k.part q (variable_adds where_at ty p one k.part k.holds) (names_add where_at ty k.part rest q k.made)
 
@@ -92,7 +92,7 @@ group_adds unit where_at p one q k =
     behind where_at p (knowing p k.part.scope) q (naming_adds where_at p k.part.scope (type_declares (view_denoter one.denoter) (ground unit []) p.scope k.part k.holds))
     (names_add where_at k.part.ty (knowing p k.part.scope) one.names.items q k.made)
 
-variables_add : (unit : List ℕ) (where_at : Home) (p : Progress) (all : List VariableDeclaration) (q : Progress) → (variables_declared unit where_at p all).holds q → Adds where_at p q
+pub variables_add : (unit : List ℕ) (where_at : Home) (p : Progress) (all : List VariableDeclaration) (q : Progress) → (variables_declared unit where_at p all).holds q → Adds where_at p q
 variables_add unit where_at p [] q k = subst (λ (r : Progress). Adds where_at p r) (sym k) (nothing where_at p)
 variables_add unit where_at p (one ∷ rest) q k = behind where_at p k.part q (group_adds unit where_at p one k.part k.holds) (variables_add unit where_at k.part rest q k.made)
 

@@ -11,7 +11,6 @@ use Rattle.type_layout.specs.Table.{Table}
 use Rattle.typed_tree.specs.declared.units.Item.{Item}
 use Rattle.typed_tree.specs.declared.units.Global.{Global}
 use Rattle.scopes.specs.Members.{narrow}
-use Rattle.scopes.specs.Growth.{IsGrown}
 use Rattle.scopes.specs.Environment.{Environment}
 use Rattle.unit_interface.specs.declared.interfaces.Interface.{Interface}
 use Rattle.unit_interface.specs.Exports.{is_in, known, new_ids, kept, renumbered_item}
@@ -27,8 +26,8 @@ use Rattle.tp_check_decl.specs.Interfaces.{items_of, all_declared, declared, int
 use Rattle.tp_check_decl.specs.Shown.{with_nothing_else, Shows}
 use Rattle.tp_check_decl.specs.Checked.{judged}
 use Rattle.tp_check_decl.proofs.UsedLaws.{used_is}
-use Rattle.interface_laws.specs.Agreement.{IsClosed, IsShownBy, further_units}
-use Rattle.interface_laws.proofs.Growing.{IsPaired, Grows, then, GrowsTo, unchanged, next}
+use Rattle.interface_laws.specs.Agreement.{IsPaired, IsClosed, IsShownBy, further_units}
+use Rattle.interface_laws.proofs.Growing.{Grows, then, GrowsTo, unchanged, next}
 use Rattle.interface_laws.proofs.RoutinesGrow.{part_of_grows, heading_grows, all_grow, same_stage, same_draft}
 use Rattle.interface_laws.proofs.UsesGrow.{used_grows, uses_names}
 use Rattle.interface_laws.proofs.Shorter.{known_below, known_past, is_none, longer, is_reached_less, is_reached_more, reached_stays, same_types, same_shown}
@@ -141,20 +140,17 @@ read_grows name g all d e =
     let start = (empty_draft g).scope in
     same_draft g d e.part.draft e.made (next g start e.part.draft.scope (unchanged g start refl refl) (all_grow name unit_site (stage (empty_draft g) []) all e.part e.holds))
 
-paired_of : (table : Table) → IsGrown table → IsPaired table
-paired_of table h = record { paired = h.paired; known = h.known }
-
-pub agree : (name : List ℕ) (says : Directives) (g : Environment) (have : List Interface) (tree : Tree) (unit : Whole) → IsGrown g.types → (judged name says g have tree).holds unit
+pub agree : (name : List ℕ) (says : Directives) (g : Environment) (have : List Interface) (tree : Tree) (unit : Whole) → IsPaired g.types → (judged name says g have tree).holds unit
     → IsShownBy name says g tree unit
-agree name says g have (t.Program heading uses all body) unit grown h =
+agree name says g have (t.Program heading uses all body) unit paired h =
     let f = h.made in
     let d = f.made in
     record {
       outline = whole name f.part g [] [] [] None;
       holds = record { part = f.part; holds = f.holds; made = refl };
-      same = shown_by name f.part [] (Some body) g [] d.part unit (read_grows name g (view_declarations all.items) d.part d.holds).table (paired_of g.types grown) d.made;
+      same = shown_by name f.part [] (Some body) g [] d.part unit (read_grows name g (view_declarations all.items) d.part d.holds).table paired d.made;
     }
-agree name says g have (t.Unit here own uses outer interface all body) unit grown h =
+agree name says g have (t.Unit here own uses outer interface all body) unit paired h =
     let i = h.made in
     let d = i.part in
     let u = i.made in
@@ -165,7 +161,7 @@ agree name says g have (t.Unit here own uses outer interface all body) unit grow
     record {
       outline = whole name h.part d.scope (items_of d.scope) d.globals [] None;
       holds = record { part = h.part; holds = h.holds; made = record { part = d; holds = i.holds; made = refl } };
-      same = shown_by name h.part (items_of d.scope) body d.scope d.globals s.part.draft unit grows (first.table.pairs (paired_of g.types grown)) s.made;
+      same = shown_by name h.part (items_of d.scope) body d.scope d.globals s.part.draft unit grows (first.table.pairs paired) s.made;
     }
 
 -- the names of a unit are those of the scope at its end

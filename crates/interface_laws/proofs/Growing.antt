@@ -8,11 +8,7 @@ use Rattle.type_layout.specs.declared.definitions.Origin.{Origin}
 use Rattle.type_layout.specs.Words.{same_bytes}
 use Rattle.type_layout.specs.Table.{Table, place_of, with_unit, with_type}
 use Rattle.scopes.specs.Environment.{Environment}
-
--- beside each type of a table stands its origin, in a unit of the table
-pub record IsPaired (table : Table) : Type 0 where
-  pub paired : length table.origins ≡ length table.types
-  pub known : All (λ (origin : Origin). origin.unit < length table.units) table.origins
+use Rattle.interface_laws.specs.Agreement.{IsPaired}
 
 -- a table with further types, in which each has its origin if each had in the first
 pub record Grows (before after : Table) : Type 0 where

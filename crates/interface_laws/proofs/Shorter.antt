@@ -13,8 +13,8 @@ use Rattle.typed_tree.specs.declared.units.Item.{Item}
 use Rattle.unit_interface.specs.Merge.{new_id, renumbered, with_listed}
 use Rattle.unit_interface.specs.Exports as exports
 use Rattle.unit_interface.specs.Exports.{in_type, in_items, behind, is_in, known, ReachedWithin, IsReached, kept_before, new_ids, with_kept, kept, renumbered_item}
-use Rattle.interface_laws.specs.Agreement.{IsClosed}
-use Rattle.interface_laws.proofs.Growing.{IsPaired, Grows}
+use Rattle.interface_laws.specs.Agreement.{IsPaired, IsClosed}
+use Rattle.interface_laws.proofs.Growing.{Grows}
 use Rattle.interface_laws.proofs.Renumbered.{AreBelow, below_all, below_first, same_type, same_items}
 
 slice_left : {X : Type 0} (xs ys : List X) (n : ℕ) → n < length xs → slice_get (xs ++ ys) n ≡ slice_get xs n

@@ -1,11 +1,12 @@
 -- A unit shows what its interface part shows.
-use Rattle.std.specs.Prelude.{◌≡◌, ◌↔◌, ◌<◌, ℕ, true, List, [], drop, map, length, slice_get}
+use Rattle.std.specs.Prelude.{◌≡◌, ◌↔◌, ◌<◌, ℕ, true, All, List, [], drop, map, length, slice_get}
 use Rattle.type_layout.specs.declared.definitions.TypeDef.{TypeDef}
 use Rattle.source_tree.specs.declared.source.Tree.{Tree}
 use Rattle.source_tree.specs.declared.source.Tree.TheVariants as t
 use Rattle.source_directives.specs.declared.collected.Directives.{Directives}
 use Rattle.typed_tree.specs.declared.units.Item.{Item}
-use Rattle.scopes.specs.Growth.{IsGrown}
+use Rattle.type_layout.specs.Table.{Table}
+use Rattle.type_layout.specs.declared.definitions.Origin.{Origin}
 use Rattle.scopes.specs.Environment.{Environment}
 use Rattle.unit_interface.specs.declared.interfaces.Interface.{Interface}
 use Rattle.unit_interface.specs.Exports.{in_items, with_type, is_in}
@@ -13,6 +14,11 @@ use Rattle.unit_interface.specs.Resolve.{with_uses}
 use Rattle.tp_check_decl.specs.Units.{Whole}
 use Rattle.tp_check_decl.specs.Shown.{outlined, Shows}
 use Rattle.tp_check_decl.specs.Checked.{judged}
+
+-- beside each type of a table stands its origin, in a unit of the table
+pub record IsPaired (table : Table) : Type 0 where
+  pub paired : length table.origins ≡ length table.types
+  pub known : All (λ (origin : Origin). origin.unit < length table.units) table.origins
 
 -- Each type that items name, and each that goes with a type of a table, is one of the table.
 pub record IsClosed (types : List TypeDef) (items : List Item) : Type 0 where
@@ -28,7 +34,7 @@ pub record IsShownBy (name : List ℕ) (says : Directives) (g : Environment) (tr
 
 -- so it is for every unit of a source
 abbrev pub Agree : Type 0
-Agree = (name : List ℕ) (says : Directives) (g : Environment) (have : List Interface) (tree : Tree) (unit : Whole) → IsGrown g.types → (judged name says g have tree).holds unit
+Agree = (name : List ℕ) (says : Directives) (g : Environment) (have : List Interface) (tree : Tree) (unit : Whole) → IsPaired g.types → (judged name says g have tree).holds unit
     → IsShownBy name says g tree unit
 
 -- the units that the implementation part of a source uses

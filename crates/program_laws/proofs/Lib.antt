@@ -3,3 +3,4 @@ mod Alike
 mod Fronts
 mod Programs
 mod Missing
+mod Closing

@@ -32,7 +32,7 @@ module _ (types : List TypeDef) where
   result_in None h = tt
   result_in (Some ty) h = some_within types ty.0 h.0
 
-  header_in : (header : Header) → AreBelow (length types) (in_header header) → IsHeaderIn types header
+  pub header_in : (header : Header) → AreBelow (length types) (in_header header) → IsHeaderIn types header
   header_in header h = record {
     params = params_in header.params (below_front (length types) (in_params header.params) (in_option header.result) h);
     result = result_in header.result (below_back (length types) (in_params header.params) (in_option header.result) h);
@@ -57,11 +57,11 @@ module _ (types : List TypeDef) where
       names_in one (below_front (length types) (in_type one) (behind ty.0 one) whole)
 
 pub sound : SoundLaw
-sound g well closed begins few = record {
+sound g fit closed begins = record {
   begins = begins;
-  defined = well.defined;
-  fits = well.fits;
+  defined = fit.defined;
+  fits = fit.fits;
   names = λ ty one is. type_in g.types.types ty one is (closed.types ty.0);
-  room = well.few;
-  few = few;
+  room = fit.room;
+  few = fit.few;
 }

@@ -3,4 +3,4 @@
 
 mod laws;
 
-pub use laws::sound_table_law;
+pub use laws::{fit_front_law, sound_table_law};

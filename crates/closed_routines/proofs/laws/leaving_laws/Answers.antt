@@ -6,4 +6,5 @@ pub returns : goal.returns
 returns c = record {
   header = λ far site d one made e closed. grown_closed d.scope made.scope (heading_stays far site d one made e) closed;
   declarations = λ unit site s all made e closed. grown_closed s.draft.scope made.draft.scope (all_stay unit site s all made e) closed;
+  ordered = λ unit site s all made e o. (all_stay unit site s all made e).ordered o;
 }

@@ -1,5 +1,6 @@
 use Rattle.program_laws.proofs.Programs.{one_program, complete}
 use Rattle.program_laws.proofs.Missing.{none_missing}
+use Rattle.program_laws.proofs.Closing.{interfaces, uses, scopes, units, closed_units, shows_alike}
 use Rattle.program_laws.proofs.laws.program_laws.Goals as goal
 
 pub returns-clause-one : goal.returns-clause-one
@@ -10,3 +11,12 @@ returns-clause-complete c = complete
 
 pub returns-clause-present : goal.returns-clause-present
 returns-clause-present c = none_missing
+
+pub returns-clause-closed : goal.returns-clause-closed
+returns-clause-closed c = record { interfaces = interfaces; uses = uses; scopes = scopes; units = units }
+
+pub returns-clause-units : goal.returns-clause-units
+returns-clause-units c = closed_units
+
+pub returns-clause-shown : goal.returns-clause-shown
+returns-clause-shown c = shows_alike c.table_laws.ensures.alike
