@@ -1,5 +1,5 @@
 -- The block behind a header is well formed, where its declarations are.
-use Rattle.std.proofs.Common.{◌≡◌, ◌⊎◌, inl, inr, ℕ, zero, suc, ◌+◌, ◌<◌, ◌≤◌, Bool, true, false, List, [], ◌∷◌, ◌++◌, length, map, Option, Some, refl, sym, subst, ap, ◌∙◌, arith}
+use Rattle.std.proofs.Common.{◌≡◌, ◌⊎◌, inl, inr, ℕ, zero, suc, ◌+◌, ◌<◌, ◌≤◌, Bool, true, false, List, [], ◌∷◌, ◌++◌, length, map, Option, Some, None, refl, sym, subst, ap, ◌∙◌, arith}
 use Rattle.std.proofs.lemmas.List.{length-map}
 use Rattle.std.specs.Prelude.{slice_get, ◌^◌, nat_lt}
 use Rattle.std.proofs.Math.Nat.{min-eq_left, min-eq_right}
@@ -9,6 +9,7 @@ use Rattle.type_layout.specs.declared.definitions.Param.{Param}
 use Rattle.type_layout.specs.declared.definitions.Method.{Method}
 use Rattle.type_layout.specs.declared.definitions.TypeDef.{TypeDef}
 use Rattle.type_layout.specs.declared.texts.Place.{Place}
+use Rattle.type_layout.specs.Table.{Table}
 use Rattle.type_layout.proofs.Local.{slice_get-append}
 use Rattle.syntax_tree.specs.declared.statement.CompoundStatement.{CompoundStatement}
 use Rattle.statement_tree.specs.Trees.{compound, view_statements}
@@ -29,7 +30,7 @@ use Rattle.declarations.specs.Progress.{level_of}
 use Rattle.routines.specs.declared.drafts.Site.{Site}
 use Rattle.routines.specs.Drafts.{Done, Numbered, Drafted, knowing, Stage, stage, with_done}
 use Rattle.routines.specs.Headings.{Opened}
-use Rattle.routines.specs.Insides.{site_in, inside, done, closed}
+use Rattle.routines.specs.Insides.{variables_beside, variables_before, site_in, inside, done, closed}
 use Rattle.routines.specs.Blocks.{block_judged}
 use Rattle.wider_scopes.specs.Wider.{IsSame}
 use Rattle.checked_statements.specs.Trees.{depth_in}
@@ -40,13 +41,18 @@ use Rattle.known_names.proofs.Frames.{open_end}
 use Rattle.known_names.proofs.Entering.{blocks_join, routine_known, closed_known, closed_each}
 use Rattle.known_names.proofs.Growing.{same_known}
 use Rattle.known_names.proofs.Agreeing.{agrees_within}
-use Rattle.checked_routines.specs.Reading.{locals_of, tree_of, Frame, frame, with_locals, trees_of, scope_of, numbers_of, IsOwn, IsAnnounced, IsBody, IsBlock, AreThere, IsBottom, IsRead, IsSite, with_inner}
+use Rattle.checked_routines.specs.Reading as reading
+use Rattle.checked_routines.specs.Rooms.{HasRoom}
+use Rattle.checked_routines.specs.Laws.{StaysRead}
+use Rattle.checked_routines.specs.Reading.{locals_of, tree_of, Frame, frame, with_locals, trees_of, scope_of, numbers_of, IsOwn, IsAnnounced, IsBody, IsBlock, AreThere, IsBottom, IsTabled, IsGlobalIn, IsRead, IsSite, IsBehind, with_inner, IsStage}
 use Rattle.checked_routines.specs.Trees.{IsKept}
-use Rattle.checked_routines.proofs.Lists.{having, get_with, get_back, plain_at, finished_at, finished_kept, finished_length, IsNone, trees_apart, trees_finished, trees_at}
+use Rattle.checked_routines.proofs.Lists.{having, get_with, get_back, plain_at, finished_at, finished_kept, IsNone, trees_apart, trees_finished, trees_at}
 use Rattle.checked_routines.proofs.Steps.{extends_itself, extends_on, with_routines, extends_with, bare_keeps, each_weaker, there_kept, not_open}
 use Rattle.checked_routines.proofs.Bottoms.{more_bottom, closed_bottom, closed_open}
 use Rattle.checked_routines.proofs.Entered.{IsInner, params_inner, self_inner, types_alike, all_alike}
 use Rattle.checked_routines.proofs.Opened.{IsOpened}
+use Rattle.checked_routines.proofs.Constants.{opened_values, closed_values}
+use Rattle.checked_routines.proofs.Grown.{Keeps, inside_keeps, closed_grows, room_before}
 
 -- ---- the same routines, whatever they have declared
 
@@ -130,6 +136,7 @@ module _ (d : Drafted) (frames : List Frame) (site : Site) (at : IsSite site fra
         known = open_known;
         around = open_end o.draft.scope.blocks new [] ∙ ap (λ (ns : List ℕ). number ∷ ns) op.read.around;
         own = blocks_join (IsOwn o.draft.routines) [] o.draft.scope.blocks new op.read.own tt;
+        values = opened_values o.draft.scope (block.Routine number o.begun.owner) op.read.values;
         bottom = subst (λ (n : ℕ). IsBottom (o.draft.scope.blocks ++ new ∷ []) (suc n)) (sym (length-map frames (λ (one : Frame). one.number))) (more_bottom o.draft.scope.blocks new (length frames) op.read.bottom);
         units = refl;
       }
@@ -171,7 +178,7 @@ module _ (d : Drafted) (frames : List Frame) (site : Site) (at : IsSite site fra
 
   -- ---- what was read is well formed in the scope inside
 
-  module _ (g : Environment) (k : IsInner o.draft.routines opened (number ∷ numbers_of frames) g) where
+  module _ (g : Environment) (k : IsInner o.draft.routines opened (number ∷ numbers_of frames) g) (keeps : Keeps o.draft.scope g) where
     abbrev within : Drafted
     within = knowing o.draft g
 
@@ -202,6 +209,9 @@ module _ (d : Drafted) (frames : List Frame) (site : Site) (at : IsSite site fra
       bottom = subst (λ (n : ℕ). IsBottom g.blocks n) (ap (λ (n : ℕ). suc n) (length-map frames (λ (one : Frame). one.number))) k.bottom;
       locals = (λ at ty e. absurd (nothing_at at ty e), fits (λ s. AreThere s frames) (there_kept base opened frames (λ ty h. h) op.read.locals));
       own = k.own;
+      values = k.values;
+      table = subst (λ (table : Table). IsTabled table) (sym keeps.table) op.read.table;
+      globals = λ at one e. subst (λ (table : Table). IsGlobalIn table.types one) (sym keeps.table) (op.read.globals at one e);
       methods = λ at place one ty method e owned is same. op.read.methods at place one ty method e owned (ap (λ (types : List TypeDef). slice_get (methods_of (definition types ty)) place) (sym op.read.known.has.types ∙ k.known.has.types) ∙ is) same;
       announced = λ at one e. fits (λ s. IsAnnounced s at one.first) (announced_there at one e);
       blocks = λ at one done e has. fits (λ s. IsBlock s at done) (block_there at one done e has);
@@ -209,6 +219,33 @@ module _ (d : Drafted) (frames : List Frame) (site : Site) (at : IsSite site fra
 
     pub inside_since : Extends base inside_scope
     inside_since = fits (λ s. Extends base s) grows
+
+    -- how many variables there are before those of the block
+    beside : (owner result : Option TypeId) → variables_beside owner result ≡ length (listed owner) + length (listed result)
+    beside None None = refl
+    beside None (Some ty) = refl
+    beside (Some class) None = refl
+    beside (Some class) (Some ty) = refl
+
+    before_is : variables_before o.begun ≡ reading.variables_before bare
+    before_is =
+        let count = params_count in
+        let owned : variables_beside o.begun.owner o.begun.header.result ≡ length (listed op.one.first.owner) + length (listed op.one.first.header.result) =
+        beside o.begun.owner o.begun.header.result
+        ∙ ap (λ (x : Option TypeId). length (listed x) + length (listed o.begun.header.result)) (sym op.owner)
+        ∙ ap (λ (x : Option TypeId). length (listed op.one.first.owner) + length (listed x)) (sym op.result) in
+        let own = few_listed op.one.first.owner in
+        let result = few_listed op.one.first.header.result in
+        let few = params_few in
+        let low : length o.begun.header.params + variables_beside o.begun.owner o.begun.header.result ≤ 4294967295 = omega (arith, count, owned, own, result, few) in
+        min-eq_left low ∙ (let whole : length o.begun.header.params + variables_beside o.begun.owner o.begun.header.result ≡ reading.variables_before bare = omega (arith, count, owned) in whole)
+      where
+        few_listed : (x : Option TypeId) → length (listed x) ≤ 1
+        few_listed None = omega arith
+        few_listed (Some ty) = omega arith
+
+    pub inside_behind : IsBehind (site_in site o.begun).home (trees_of within.routines inner_frames) (number ∷ numbers_of frames)
+    inside_behind = (bare, there, before_is)
 
 -- ---- a block is closed
 
@@ -238,13 +275,20 @@ module _ (frames : List Frame) (number : ℕ) (place : Place) (s : Stage) (typed
 
   own_left : (around : List ℕ) (one : Entry) → IsOwn s.draft.routines around one → IsOwn left.routines around one
   own_left around (entry.Code routine level header far) o =
-      λ none. (
-      let it = o none in
-      let next = finished_kept s.draft.routines number routine.number made it.0 it.1 in
-      (next.0, next.1, ap (λ first. first.header) next.2 ∙ it.2, ap (λ first. first.outer) next.2 ∙ it.3, ap (λ first. first.owner) next.2 ∙ it.4))
+      let it = o.1 in
+      let next = finished_kept s.draft.routines number routine.number made it.one it.is in (
+        o.0,
+        record {
+          one = next.0;
+          is = next.1;
+          first = ap (λ first. first.header) next.2 ∙ it.first;
+          outer = ap (λ first. first.outer) next.2 ∙ it.outer;
+          free = ap (λ first. first.owner) next.2 ∙ it.free;
+        },
+      )
   own_left around (entry.Const ty v) o = tt
   own_left around (entry.Ty ty) o = tt
-  own_left around (entry.Var unit level n ty) o = tt
+  own_left around (entry.Var unit level n ty) o = o
   own_left around (entry.Std n) o = tt
 
   body_left : IsBody last number made
@@ -297,6 +341,9 @@ module _ (frames : List Frame) (number : ℕ) (place : Place) (s : Stage) (typed
         bottom = closed_bottom s.draft.scope.blocks (length frames) r.bottom;
         locals = fits_left (λ x. AreThere x frames) r.locals.1;
         own = each_weaker (IsOwn s.draft.routines) (IsOwn left.routines) own_left [] (outer s.draft.scope.blocks) (closed_each s.draft.scope (IsOwn s.draft.routines) r.own);
+        values = closed_values s.draft.scope r.values;
+        table = r.table;
+        globals = r.globals;
         methods = methods_left;
         announced = λ at one e. fits_left (λ x. IsAnnounced x at one.first) (announced_left at one e);
         blocks = λ at one some e has. fits_left (λ x. IsBlock x at some) (block_left at one some e has);
@@ -320,14 +367,13 @@ unnarrowed n h = by (nat_lt 4294967295 n) refl
         let same : narrow n ≡ n = min-eq_left low in
         omega (arith, h, same)
 
--- what is asked of the declarations of a block
-abbrev pub DeclaredKeep : (Site → Stage → Judgement Stage) → Type 0
-DeclaredKeep declared =
-    (inner : Site) (s t : Stage) (frames : List Frame) → IsSite inner frames → IsRead s.draft (with_inner s.locals frames) → length t.draft.routines < 2 ^ 32 → (declared inner s).holds t
-    → IsRead t.draft (with_inner t.locals frames) × Extends (scope_of s.draft (with_inner s.locals frames)) (scope_of t.draft (with_inner t.locals frames))
+-- what is asked of the declarations of a block, with so many variables
+abbrev pub DeclaredKeep : List ℕ → ℕ → (Site → Stage → Judgement Stage) → Type 0
+DeclaredKeep unit count declared =
+    (inner : Site) (s t : Stage) (frames : List Frame) → IsStage unit inner s frames → length s.locals + count < 2 ^ 31 → HasRoom t.draft → (declared inner s).holds t → StaysRead s t frames
 
-module _ (d : Drafted) (frames : List Frame) (site : Site) (at : IsSite site frames) (o : Opened) (op : IsOpened d frames o) (place : Place) (body : CompoundStatement) (kept : IsKept body)
-    (declared : Site → Stage → Judgement Stage) (rec : DeclaredKeep declared) where
+module _ (unit : List ℕ) (d : Drafted) (frames : List Frame) (site : Site) (at : IsSite site frames) (o : Opened) (op : IsOpened d frames o) (named : slice_get o.draft.scope.units 0 ≡ Some unit) (place : Place)
+    (body : CompoundStatement) (kept : IsKept body) (count : ℕ) (some : count < 2 ^ 31) (declared : Site → Stage → Judgement Stage) (rec : DeclaredKeep unit count declared) where
   abbrev inner_site : Site
   inner_site = site_in site o.begun
 
@@ -336,7 +382,7 @@ module _ (d : Drafted) (frames : List Frame) (site : Site) (at : IsSite site fra
       let next : level_of site.home + 1 ≡ suc (length frames) = (let e = at.level in omega (arith, e)) in
       record { level = level_is d frames site at o op shallow ∙ next; outer = refl }
 
-  pub block_kept : (e : Drafted) → length e.routines < 2 ^ 32 → (block_judged site place o body declared).holds e → IsRead e frames × Extends (scope_of d frames) (scope_of e frames)
+  pub block_kept : (e : Drafted) → HasRoom e → (block_judged site place o body declared).holds e → IsRead e frames × Extends (scope_of d frames) (scope_of e frames)
   block_kept e few h =
       let g : Environment = h.part in
       let read = h.made in
@@ -345,19 +391,25 @@ module _ (d : Drafted) (frames : List Frame) (site : Site) (at : IsSite site fra
       let depth = end.made in
       let shallow : level_of site.home + 1 ≤ 16 = unnarrowed (level_of site.home + 1) depth.holds.asked in
       let inner = inside_known d frames site at o op shallow place g h.holds in
-      let first = inside_read d frames site at o op shallow g inner in
+      let keeps = inside_keeps (site_in site o.begun) place o.begun o.draft.scope g h.holds in
+      let first = inside_read d frames site at o op shallow g inner keeps in
+      let begun : IsStage unit inner_site (stage (knowing o.draft g) []) (frame o.begun.number [] ∷ frames) = record {
+        stands = inner_at shallow;
+        named = ap (λ (names : List (List ℕ)). slice_get names 0) keeps.units ∙ named;
+        behind = inside_behind d frames site at o op shallow g inner keeps;
+        read = first;
+      } in
       let draft_is : e ≡ closed o.begun.number place s end.part = depth.made in
-      let count : length e.routines ≡ length s.draft.routines =
-      ap (λ (x : Drafted). length x.routines) draft_is ∙ finished_length s.draft.routines o.begun.number (done place s.locals end.part) in
-      let room : length s.draft.routines < 2 ^ 32 = subst (λ (n : ℕ). n < 2 ^ 32) count few in
-      let known = rec inner_site (stage (knowing o.draft g) []) s (frame o.begun.number [] ∷ frames) (inner_at shallow) first room read.holds in
+      let room = room_before s.draft e (closed_grows s e o.begun.number place end.part draft_is) few in
+      let none : 0 + count < 2 ^ 31 = omega (arith, some) in
+      let known = rec inner_site (stage (knowing o.draft g) []) s (frame o.begun.number [] ∷ frames) begun none room read.holds in
       let agrees = agrees_within s.draft.scope (scope_of s.draft (frame o.begun.number s.locals ∷ frames)) known.0.known in
       let literal : depth_in (view_statements body.statements.items) + 0 ≤ 2147483648 = (let k = kept.depth in omega (arith, k)) in
       let well : IsStatement (scope_over (scope_of s.draft (frame o.begun.number s.locals ∷ frames)) (open_in s.draft.scope)) end.part =
       stated_well (compound (view_statements body.statements.items)) s.draft.scope (scope_over (scope_of s.draft (frame o.begun.number s.locals ∷ frames)) (open_in s.draft.scope)) agrees end.part kept.literals literal end.holds in
       let left = left_read frames o.begun.number place s end.part known.0 well in
       let since = left_since frames o.begun.number place s end.part known.0 well in
-      let opened_since = inside_since d frames site at o op shallow g inner in
+      let opened_since = inside_since d frames site at o op shallow g inner keeps in
       let up : Extends (scope_of d frames) (scope_of s.draft (frame o.begun.number s.locals ∷ frames)) =
       extends_on (scope_of d frames) (scope_of (knowing o.draft g) (frame o.begun.number [] ∷ frames)) (scope_of s.draft (frame o.begun.number s.locals ∷ frames))
       (extends_on (scope_of d frames) (scope_of o.draft frames) (scope_of (knowing o.draft g) (frame o.begun.number [] ∷ frames)) op.since opened_since) known.1 in (

@@ -25,8 +25,10 @@ use Rattle.typed_nodes.specs.Tables.{IsInTable}
 use Rattle.typed_nodes.proofs.Fields.{get-append}
 use Rattle.known_names.specs.Known.{open_in, at_level, IsEntry, EachIn, AreKnown}
 use Rattle.known_names.proofs.Entering.{named_known, named_open, named_each}
+use Rattle.declared_values.specs.Values.{IsConstantIn, HasValues}
 use Rattle.checked_routines.specs.Reading.{IsOwn, IsBottom}
 use Rattle.checked_routines.proofs.Bottoms.{named_bottom}
+use Rattle.checked_routines.proofs.Constants.{named_values}
 
 -- an entry that was put into the innermost block
 pub entered_is : (g : Environment) (place : Place) (name : List ℕ) (one : Entry) (h : Environment) → (entered g place name one).holds h → h ≡ with_name g name one
@@ -40,15 +42,18 @@ pub record IsInner (routines : List Numbered) (s : Scope) (numbers : List ℕ) (
   pub known : AreKnown g s
   pub around : open_in g ≡ numbers
   pub own : EachIn (IsOwn routines) [] g.blocks
+  pub values : HasValues g
   pub bottom : IsBottom g.blocks (length numbers)
   pub units : length g.units ≡ s.units
 
 module _ (routines : List Numbered) (s : Scope) where
-  pub named_inner : (numbers : List ℕ) (g : Environment) (name : List ℕ) (one : Entry) → IsInner routines s numbers g → IsEntry s numbers one → IsOwn routines numbers one → IsInner routines s numbers (with_name g name one)
-  named_inner numbers g name one h known own = record {
+  pub named_inner : (numbers : List ℕ) (g : Environment) (name : List ℕ) (one : Entry) → IsInner routines s numbers g → IsEntry s numbers one → IsOwn routines numbers one → IsConstantIn g.types.types one
+      → IsInner routines s numbers (with_name g name one)
+  named_inner numbers g name one h known own constant = record {
     known = named_known g s name one h.known (subst (λ (o : List ℕ). IsEntry s o one) (sym h.around) known);
     around = named_open g name one ∙ h.around;
     own = named_each g name one (IsOwn routines) h.own (subst (λ (o : List ℕ). IsOwn routines o one) (sym h.around) own);
+    values = named_values g name one h.values constant;
     bottom = named_bottom g name one (length numbers) h.bottom;
     units = h.units;
   }
@@ -68,7 +73,7 @@ module _ (routines : List Numbered) (s : Scope) where
         → IsInner routines s (number ∷ around) g → IsInner routines s (number ∷ around) (with_name g name (entry.Var 0 level place ty))
     variable_inner level place ty g name at there v h =
         subst (λ (l : ℕ). IsInner routines s (number ∷ around) (with_name g name (entry.Var 0 l place ty))) (sym at)
-        (named_inner (number ∷ around) g name (entry.Var 0 (suc (length around)) place ty) h (own_variable place ty there v) tt)
+        (named_inner (number ∷ around) g name (entry.Var 0 (suc (length around)) place ty) h (own_variable place ty there v) refl tt)
 
     abbrev types_in : List Param → List TypeId
     types_in params = map (λ (param : Param). param.ty) params

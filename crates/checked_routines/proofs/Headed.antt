@@ -34,7 +34,6 @@ use Rattle.declarations.specs.Progress.{level_of}
 use Rattle.routines.specs.declared.drafts.Announced.{Announced}
 use Rattle.routines.specs.declared.drafts.Site.{Site}
 use Rattle.routines.specs.Drafts.{Done, Numbered, Drafted, knowing, announcing}
-use Rattle.routines.specs.Headings.{announced}
 use Rattle.typed_nodes.specs.Tables.{IsHeaderIn}
 use Rattle.typed_nodes.proofs.Ordinals.{text_type}
 use Rattle.known_names.specs.Known.{open_in, first_in, AreNested, IsDeep, IsEntry, IsPlaced, AreKnown}
@@ -47,6 +46,7 @@ use Rattle.checked_routines.specs.Reading.{tree_of, Frame, trees_of, scope_of, n
 use Rattle.checked_routines.proofs.Lists.{trees_length, trees_end, AreBelow}
 use Rattle.checked_routines.proofs.Steps.{extends_on, with_routines, extends_end, snoc_at, snoc_last, each_weaker, nested_below, there_kept}
 use Rattle.checked_routines.proofs.Bottoms.{named_bottom}
+use Rattle.checked_routines.proofs.Constants.{named_values}
 use Rattle.checked_routines.proofs.Named.{NamesBelow, routine_in, header_there}
 
 -- ---- headers
@@ -86,11 +86,11 @@ limit types is_method header h =
     put : (n m k : ℕ) → n ≤ m → m + k ≤ 256 → n ≤ 256
     put n m k e f = omega (arith, e, f)
 
-procedure_few : (g : Environment) (is_method : Bool) (place : Place) (one : Kind) (groups : List ParameterGroup) (header : Header) → (procedure_header g is_method place one groups).holds header → length header.params ≤ 256
+pub procedure_few : (g : Environment) (is_method : Bool) (place : Place) (one : Kind) (groups : List ParameterGroup) (header : Header) → (procedure_header g is_method place one groups).holds header → length header.params ≤ 256
 procedure_few g is_method place one groups header k =
     subst (λ (x : Header). length x.params ≤ 256) (sym k.made.made) (limit g.types.types is_method (of_parts one k.part None) k.made.asked)
 
-function_few : (g : Environment) (is_method : Bool) (place : Place) (groups : List ParameterGroup) (result : Option NamedType) (header : Header) → (function_header g is_method place groups result).holds header → length header.params ≤ 256
+pub function_few : (g : Environment) (is_method : Bool) (place : Place) (groups : List ParameterGroup) (result : Option NamedType) (header : Header) → (function_header g is_method place groups result).holds header → length header.params ≤ 256
 function_few g is_method place groups result header k =
     subst (λ (x : Header). length x.params ≤ 256) (sym k.made.made) (limit g.types.types is_method (of_parts kind.Function k.left (Some k.right)) k.made.asked)
 
@@ -98,7 +98,7 @@ routine_few : (g : Environment) (one : RoutineHeader) (header : Header) → (rou
 routine_few g (h.Procedure here name groups) header k = procedure_few g false here.place kind.Procedure groups.items header k
 routine_few g (h.Function here name groups result) header k = function_few g false here.place groups.items result header k
 
-abbrev IsKindly : Header → Type 0
+abbrev pub IsKindly : Header → Type 0
 IsKindly header = is_some header.result ≡ true → header.kind ≡ kind.Function
 
 routine_function : (g : Environment) (one : RoutineHeader) (header : Header) → (routine_header g one).holds header → IsKindly header
@@ -198,14 +198,15 @@ module _ (d : Drafted) (frames : List Frame) (r : IsRead d frames) where
     )
 
     own_new : IsOwn (d.routines ++ new ∷ []) (open_in d.scope) (own_entry (length d.routines) (level_of site.home))
-    own_new = λ none. (new, snoc_last d.routines new, refl, outer_first, free)
+    own_new = (refl, record { one = new; is = snoc_last d.routines new; first = refl; outer = outer_first; free = free })
 
     own_kept : (around : List ℕ) (one : Entry) → IsOwn d.routines around one → IsOwn (d.routines ++ new ∷ []) around one
     own_kept around (entry.Code routine level header far) o =
-        λ none. (let it = o none in (it.0, slice_get-append d.routines (new ∷ []) routine.number (slice_get_within d.routines routine.number it.0 it.1) ∙ it.1, it.2, it.3, it.4))
+        let it = o.1 in
+        (o.0, record { one = it.one; is = slice_get-append d.routines (new ∷ []) routine.number (slice_get_within d.routines routine.number it.one it.is) ∙ it.is; first = it.first; outer = it.outer; free = it.free })
     own_kept around (entry.Const ty v) o = tt
     own_kept around (entry.Ty ty) o = tt
-    own_kept around (entry.Var unit level number ty) o = tt
+    own_kept around (entry.Var unit level number ty) o = o
     own_kept around (entry.Std number) o = tt
 
     abbrev named_scope : List ℕ → Environment
@@ -274,6 +275,9 @@ module _ (d : Drafted) (frames : List Frame) (r : IsRead d frames) where
       bottom = named_bottom d.scope name (own_entry (length d.routines) (level_of site.home)) (length frames) r.bottom;
       locals = subst (λ (rs : List Routine). AreThere (with_routines here rs) frames) (sym trees_more) (there_kept here more frames (λ ty k. k) r.locals);
       own = named_each d.scope name (own_entry (length d.routines) (level_of site.home)) (IsOwn (d.routines ++ new ∷ [])) (each_weaker (IsOwn d.routines) (IsOwn (d.routines ++ new ∷ [])) own_kept [] d.scope.blocks r.own) own_new;
+      values = named_values d.scope name (own_entry (length d.routines) (level_of site.home)) r.values tt;
+      table = r.table;
+      globals = r.globals;
       methods = methods_at;
       announced = λ number one e. subst (λ (rs : List Routine). IsAnnounced (with_routines here rs) number one.first) (sym trees_more) (announced_at number one e);
       blocks = λ number one done e has. subst (λ (rs : List Routine). IsBlock (with_routines here rs) number done) (sym trees_more) (blocks_at number one done e has);

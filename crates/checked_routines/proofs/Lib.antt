@@ -1,9 +1,11 @@
 pub mod Lists
 pub mod Steps
 pub mod Bottoms
+pub mod Constants
 pub mod Entered
 pub mod Named
 pub mod Headed
 pub mod Opened
+pub mod Grown
 pub mod Blocks
 pub mod Kept

@@ -175,20 +175,19 @@ module _ (d : Drafted) (frames : List Frame) (r : IsRead d frames) (site : Site)
       let both = and_parts (n + 1 == block_count d.scope) (routine.unit == 0 && is_left (slice_get d.routines routine.number)) (is ∙ so) in
       let rest = and_parts (routine.unit == 0) (is_left (slice_get d.routines routine.number)) both.1 in
       let inner : n + 1 ≡ block_count d.scope = (Decides-eqb (n + 1) (block_count d.scope)).0 both.0 in
-      let own_unit : routine.unit ≡ 0 = (Decides-eqb routine.unit 0).0 rest.0 in
       let bottom = r.bottom in
       let whole : length d.scope.blocks ≡ suc (length bottom.rest) = ap (λ (b : List OpenBlock). length b) bottom.is in
       let some : 0 < length d.scope.blocks = omega (arith, whole) in
-      let own = found_inner d.scope (IsOwn d.routines) name n (entry.Code routine level header far) r.own some inner found own_unit in
+      let own = (found_inner d.scope (IsOwn d.routines) name n (entry.Code routine level header far) r.own some inner found).1 in
       let slot = left_slot (slice_get d.routines routine.number) rest.1 in
-      let same : own.0 ≡ slot.0 = (let e = own.1 in let f = slot.1 in cc) in
+      let same : own.one ≡ slot.0 = (let e = own.is in let f = slot.1 in cc) in
       record {
-        one = own.0;
-        is = own.1;
+        one = own.one;
+        is = own.is;
         left = ap (λ (x : Numbered). x.done) same ∙ slot.2;
-        header_is = own.2;
-        outer = own.3 ∙ ap (λ (ns : List ℕ). first_in ns) r.around;
-        free = own.4;
+        header_is = own.first;
+        outer = own.outer ∙ ap (λ (ns : List ℕ). first_in ns) r.around;
+        free = own.free;
       }
 
   none_awaited : (name : List ℕ) (m : Option Meaning) (first : _) → find d.scope name ≡ m → awaited_by (block_count d.scope) d.routines m ≡ Some first → IsAwaited d frames first.number first.header

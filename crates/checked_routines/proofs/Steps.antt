@@ -92,7 +92,7 @@ extends_with s number locals one is keeps = record {
         let apart : number ≡ n → ⊥ = λ same. (let yes : (number == n) ≡ true = (Decides-eqb number n).1 same in cc) in
         (other, get_other s.routines number n locals apart ∙ e, further_itself other)
 
-variables_end : (one : Routine) (locals : List TypeId) → variables_of (having [] one) ++ locals ≡ variables_of (having locals one)
+pub variables_end : (one : Routine) (locals : List TypeId) → variables_of (having [] one) ++ locals ≡ variables_of (having locals one)
 variables_end one locals =
     let params : List TypeId = map (λ (param : Param). param.ty) one.header.params in
     let own : List TypeId = listed one.owner in

@@ -1,3 +1,4 @@
 pub mod Reading
+pub mod Rooms
 pub mod Trees
 pub mod Laws

@@ -1,26 +1,35 @@
 -- A unit while it is read, as trees have it.
-use Rattle.std.specs.Prelude.{◌≡◌, ℕ, zero, suc, true, List, [], ◌∷◌, length, map, Option, Some, None, is_some, slice_get}
+use Rattle.std.specs.Prelude.{◌≡◌, ℕ, zero, suc, ◌+◌, ◌<◌, ℤ, true, List, [], ◌∷◌, length, map, Option, Some, None, is_some, slice_get}
 use Rattle.type_layout.specs.declared.definitions.TypeId.{TypeId}
 use Rattle.type_layout.specs.declared.definitions.Kind.TheVariants as kind
+use Rattle.type_layout.specs.declared.definitions.Header.{Header}
 use Rattle.type_layout.specs.declared.definitions.Method.{Method}
+use Rattle.type_layout.specs.declared.definitions.Host.TheVariants as host
+use Rattle.type_layout.specs.declared.definitions.TypeDef.{TypeDef}
+use Rattle.type_layout.specs.declared.definitions.TypeDef.TheVariants as type
+use Rattle.type_layout.specs.Layouts.{size_of}
+use Rattle.type_layout.specs.Table.{Table}
 use Rattle.typed_tree.specs.declared.statements.Stmt.TheVariants as stmt
 use Rattle.typed_tree.specs.declared.units.Global.{Global}
 use Rattle.typed_tree.specs.declared.units.Routine.{Routine}
 use Rattle.well_formed.specs.Fits.{definition}
-use Rattle.well_formed.specs.Scopes.{Scope, HasType}
-use Rattle.well_formed.specs.WellFormed.{IsStatement, IsInside, IsOwner}
+use Rattle.well_formed.specs.Scopes.{Scope, HasType, listed}
+use Rattle.well_formed.specs.WellFormed.{IsStatement, IsInside, IsOwner, IsFirst}
 use Rattle.scopes.specs.declared.entries.Entry.{Entry}
 use Rattle.scopes.specs.declared.entries.Entry.TheVariants as entry
 use Rattle.scopes.specs.declared.entries.BlockKind.TheVariants as block
 use Rattle.scopes.specs.declared.searches.OpenBlock.{OpenBlock}
 use Rattle.method_rules.specs.Slots.{methods_of}
+use Rattle.declarations.specs.declared.homes.Home.{Home}
+use Rattle.declarations.specs.declared.homes.Home.TheVariants as home
 use Rattle.declarations.specs.Progress.{level_of}
 use Rattle.routines.specs.declared.drafts.Announced.{Announced}
 use Rattle.routines.specs.declared.drafts.Site.{Site}
-use Rattle.routines.specs.Drafts.{Done, Numbered, Drafted}
-use Rattle.typed_nodes.specs.Tables.{IsHeaderIn, IsSound}
+use Rattle.routines.specs.Drafts.{Done, Numbered, Drafted, Stage}
+use Rattle.typed_nodes.specs.Tables.{IsInTable, IsHeaderIn, IsSound}
 use Rattle.known_names.specs.Known.{EachIn, open_in, first_in, AreNested, AreKnown, scope_over}
 use Rattle.known_names.specs.Growing.{Extends}
+use Rattle.declared_values.specs.Values.{HasValues}
 
 -- ---- routines
 
@@ -73,10 +82,18 @@ numbers_of frames = map (λ (one : Frame). one.number) frames
 
 -- ---- what is known of routines by their names
 
--- a name of a routine of the unit stands in the block that the routine is declared in, with its first header
+-- a routine of the unit that is declared where these are open, with its first header
+pub record IsOwnRoutine (routines : List Numbered) (around : List ℕ) (number : ℕ) (header : Header) : Type 0 where
+  pub one : Numbered
+  pub is : slice_get routines number ≡ Some one
+  pub first : one.first.header ≡ header
+  pub outer : one.first.outer ≡ first_in around
+  pub free : one.first.owner ≡ None
+
+-- A name of a block is of the unit itself; that of a routine stands in the block that the routine is declared in.
 abbrev pub IsOwn : List Numbered → List ℕ → Entry → Type 0
-IsOwn routines around (entry.Code routine level header far) =
-    routine.unit ≡ 0 → (one : Numbered) × (slice_get routines routine.number ≡ Some one) × (one.first.header ≡ header) × (one.first.outer ≡ first_in around) × (one.first.owner ≡ None)
+IsOwn routines around (entry.Code routine level header far) = (routine.unit ≡ 0) × IsOwnRoutine routines around routine.number header
+IsOwn routines around (entry.Var unit level number ty) = unit ≡ 0
 IsOwn routines around one = Unit {0}
 
 -- ---- routines that were read
@@ -116,16 +133,32 @@ pub record IsBottom (blocks : List OpenBlock) (count : ℕ) : Type 0 where
   pub part : first.kind ≡ block.Part
   pub several : length rest ≡ count
 
+-- ---- tables
+
+-- Behind the ordinal type of an enumeration stands a further type, and the unit of each method is one of the table's.
+pub record IsTabled (table : Table) : Type 0 where
+  pub followed : (number : ℕ) (low high : ℤ) → slice_get table.types number ≡ Some (type.Ordinal host.Enumeration low high) → number + 1 < length table.types
+  pub owned : (class : TypeId) (place : ℕ) (method : Method) → slice_get (methods_of (definition table.types class)) place ≡ Some method → method.routine.unit < length table.units
+
+-- a variable of the unit has a type of the table, and as many bytes to begin with, if any
+pub record IsGlobalIn (types : List TypeDef) (one : Global) : Type 0 where
+  pub has : IsInTable types one.ty
+  pub first : IsFirst (size_of types one.ty) one.first
+
 -- ---- the whole
 
--- All that is known is there among trees; names of routines stand where these are declared; a method's routine has the header that its
--- type has under the routine's number; and each routine is well formed, as far as it was read.
+-- All that is known is there among trees; names of routines stand where these are declared; names of constants mean values of
+-- their types; a method's routine has the header that its type has under the routine's number; and the unit's variables and routines are
+-- well formed, as far as they were read.
 pub record IsRead (d : Drafted) (frames : List Frame) : Type 0 where
   pub known : AreKnown d.scope (scope_of d frames)
   pub around : open_in d.scope ≡ numbers_of frames
   pub bottom : IsBottom d.scope.blocks (length frames)
   pub locals : AreThere (scope_of d frames) frames
   pub own : EachIn (IsOwn d.routines) [] d.scope.blocks
+  pub values : HasValues d.scope
+  pub table : IsTabled d.scope.types
+  pub globals : (number : ℕ) (one : Global) → slice_get d.globals number ≡ Some one → IsGlobalIn d.scope.types.types one
   pub methods : (number place : ℕ) (one : Numbered) (ty : TypeId) (method : Method) → slice_get d.routines number ≡ Some one → one.first.owner ≡ Some ty
       → slice_get (methods_of (definition d.scope.types.types ty)) place ≡ Some method → method.routine.number ≡ number → one.first.header ≡ method.header
   pub announced : (number : ℕ) (one : Numbered) → slice_get d.routines number ≡ Some one → IsAnnounced (scope_of d frames) number one.first
@@ -136,7 +169,23 @@ pub record IsSite (site : Site) (frames : List Frame) : Type 0 where
   pub level : level_of site.home ≡ length frames
   pub outer : site.outer ≡ first_in (numbers_of frames)
 
+-- how many variables the routine of the innermost block has before those that the block declares
+abbrev pub variables_before : Routine → ℕ
+variables_before one = length one.header.params + (length (listed one.owner) + length (listed one.header.result))
+
+abbrev pub IsBehind : Home → List Routine → List ℕ → Type 0
+IsBehind home.Unit routines around = Unit {0}
+IsBehind (home.Routine level first) routines [] = ⊥
+IsBehind (home.Routine level first) routines (number ∷ around) = (one : Routine) × (slice_get routines number ≡ Some one) × (first ≡ variables_before one)
+
 -- the frames with what the innermost block has declared
 abbrev pub with_inner : List TypeId → List Frame → List Frame
 with_inner locals [] = []
 with_inner locals (one ∷ frames) = frame one.number locals ∷ frames
+
+-- A block whose declarations are read: the unit has its name, and what was read is well formed.
+pub record IsStage (unit : List ℕ) (site : Site) (s : Stage) (frames : List Frame) : Type 0 where
+  pub stands : IsSite site frames
+  pub named : slice_get s.draft.scope.units 0 ≡ Some unit
+  pub behind : IsBehind site.home (scope_of s.draft (with_inner s.locals frames)).routines (numbers_of frames)
+  pub read : IsRead s.draft (with_inner s.locals frames)

@@ -1,0 +1,9 @@
+pub mod Tables
+pub mod Methods
+pub mod Objects
+pub mod Rows
+pub mod Closed
+pub mod Trees
+pub mod Names
+pub mod Joined
+pub mod Kept

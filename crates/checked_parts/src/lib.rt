@@ -1,0 +1,6 @@
+//! Parts of declarations keep what is known.
+#![tactic(auto)]
+
+mod laws;
+
+pub use laws::part_keeping_law;

@@ -1,0 +1,11 @@
+pub mod Finished
+pub mod Levels
+pub mod Whole
+pub mod Used
+pub mod Begun
+pub mod Formed
+pub mod Predeclared
+pub mod Bringing
+pub mod Overlay
+pub mod Uses
+pub mod Sources

@@ -1,0 +1,104 @@
+-- Checked sources are well-formed units.
+use Rattle.std.proofs.Common.{◌≡◌, ℕ, ◌+◌, ◌<◌, List, [], ◌∷◌, length, map, Option, Some, None, refl, subst, ap, ◌∙◌, arith, length-append}
+use Rattle.std.specs.Prelude.{◌^◌, drop}
+use Rattle.std.proofs.lemmas.List.{length-map}
+use Rattle.std.proofs.lemmas.List.Elements.{All-nil}
+use Rattle.type_layout.specs.Table.{Table}
+use Rattle.syntax_tree.specs.declared.identifier.Identifier.{Identifier}
+use Rattle.syntax_tree.specs.declared.statement.CompoundStatement.{CompoundStatement}
+use Rattle.source_directives.specs.declared.collected.Directives.{Directives}
+use Rattle.source_tree.specs.declared.source.InterfaceDeclaration.{InterfaceDeclaration}
+use Rattle.source_tree.specs.declared.source.Tree.TheVariants as t
+use Rattle.typed_tree.specs.declared.units.Global.{Global}
+use Rattle.typed_tree.specs.declared.units.Item.{Item}
+use Rattle.typed_tree.specs.declared.units.Unit as typed
+use Rattle.well_formed.specs.WellFormed.{IsItem, IsWellFormed}
+use Rattle.scopes.specs.Environment.{Environment}
+use Rattle.unit_interface.specs.declared.interfaces.Interface.{Interface}
+use Rattle.unit_interface.specs.Resolve.{resolved}
+use Rattle.routines.specs.Trees.{Works, view_declarations}
+use Rattle.routines.specs.Drafts.{Drafted, knowing, Stage, stage}
+use Rattle.tp_check_decl.specs.Units.{Whole, view_routine, view_unit}
+use Rattle.tp_check_decl.specs.Endings.{ended}
+use Rattle.tp_check_decl.specs.Programs.{program_judged}
+use Rattle.tp_check_decl.specs.Interfaces.{items_of, unit_judged}
+use Rattle.wider_scopes.specs.Laws.{StatementsStay}
+use Rattle.sound_tables.specs.Laws.{IsFit}
+use Rattle.checked_routines.specs.Reading.{scope_of}
+use Rattle.checked_routines.specs.Rooms.{HasRoom}
+use Rattle.checked_routines.specs.Laws.{PartsKeep}
+use Rattle.checked_parts.specs.Laws.{PartLaw}
+use Rattle.constant_values.specs.Laws.{StayConstants}
+use Rattle.checked_routines.proofs.Steps.{extends_on}
+use Rattle.checked_routines.proofs.Grown.{room_before, all_grow}
+use Rattle.tp_check_decl.specs.Programs.{unit_site}
+use Rattle.checked_units.specs.Begun.{IsBegun, UseKeeps, EachUse, further_uses, IsKeptPart, IsBlock, IsInterface, IsRoomy}
+use Rattle.checked_units.specs.Laws.{SourceLaw, BareLaw}
+use Rattle.checked_units.proofs.Uses.{bare_begun, bare_keeps}
+use Rattle.checked_units.proofs.Begun.{block_left, interface_left, program_left, uses_left}
+use Rattle.checked_units.proofs.Finished.{count_all}
+use Rattle.checked_units.proofs.Used.{all_used_grow, room_types}
+use Rattle.checked_units.proofs.Formed.{items_shown, formed}
+
+-- ---- what a unit keeps within bounds its draft keeps
+
+ended_room : (name : List ℕ) (front : _) (items : List Item) (body : Option CompoundStatement) (d : Drafted) (unit : typed.Unit) → (ended name front items body d).holds (view_unit unit) → IsRoomy unit → HasRoom d
+ended_room name front items None d unit h room =
+    let count = count_all d.scope.types.types d.routines h.part h.holds in
+    let same : length (map view_routine unit.routines) ≡ length h.part = ap (λ (w : Whole). length w.routines) h.made in
+    let views = length-map unit.routines view_routine in
+    record {
+      routines = (let few = room.routines in omega (arith, count, same, views, few));
+      globals = subst (λ (gs : List Global). length gs < 2 ^ 32) (ap (λ (w : Whole). w.globals) h.made) room.globals;
+      types = subst (λ (table : Table). IsFit table.types) (ap (λ (w : Whole). w.types) h.made) room.types;
+    }
+ended_room name front items (Some body) d unit h room =
+    let count = count_all d.scope.types.types d.routines h.left h.left_holds in
+    let same : length (map view_routine unit.routines) ≡ length h.left + 1 = ap (λ (w : Whole). length w.routines) h.made ∙ length-append h.left (h.right ∷ []) in
+    let views = length-map unit.routines view_routine in
+    record {
+      routines = (let few = room.routines in omega (arith, count, same, views, few));
+      globals = subst (λ (gs : List Global). length gs < 2 ^ 32) (ap (λ (w : Whole). w.globals) h.made) room.globals;
+      types = subst (λ (table : Table). IsFit table.types) (ap (λ (w : Whole). w.types) h.made) room.types;
+    }
+
+module _ (stay : StatementsStay) (name : List ℕ) (g : Environment) (keeps : PartsKeep name) (begun : IsBegun name g) (unit : typed.Unit) (room : IsRoomy unit) where
+  program_formed : (says : Directives) (uses : List Identifier) (all : Works) (body : CompoundStatement) → IsBlock all → IsKeptPart (Some body) → (program_judged name says g uses all body).holds (view_unit unit) → IsWellFormed unit
+  program_formed says uses all body block kept h =
+      let front = h.made in
+      let declared = front.made in
+      let d : Drafted = declared.part in
+      let fits = ended_room name front.part [] (Some body) d unit declared.made room in
+      let left = program_left name keeps g d all begun block fits declared.holds in
+      formed stay name d left.read left.named unit room.routines front.part [] (Some body) declared.made kept (λ every behind finish u. All-nil (IsItem unit))
+
+  unit_formed : (says : Directives) (have : List Interface) (own : Identifier) (uses : List Identifier) (outer : ℕ) (interface : List InterfaceDeclaration) (all : Works) (body : Option CompoundStatement) → EachUse (UseKeeps name have) (drop outer uses)
+      → IsInterface interface → IsBlock all → IsKeptPart body → (unit_judged name says g have own uses outer interface all body).holds (view_unit unit) → IsWellFormed unit
+  unit_formed says have own uses outer interface all body brings inside block kept h =
+      let front = h.made in
+      let d : Drafted = front.part in
+      let used = front.made in
+      let late : Environment = used.part in
+      let implementation = used.made in
+      let s : Stage = implementation.part in
+      let e : Drafted = s.draft in
+      let end_room = ended_room name h.part (items_of d.scope) body e unit implementation.made room in
+      let middle_room = room_before (knowing d late) e (all_grow all name unit_site (stage (knowing d late) []) s implementation.holds) end_room in
+      let more = all_used_grow have d.scope _ late used.holds in
+      let first_room = room_types d (knowing d late) more.0 more.1 refl refl middle_room in
+      let first = interface_left name keeps g d interface begun inside first_room front.holds in
+      let second = uses_left name keeps have d late (drop outer uses) brings first.read first.named used.holds middle_room in
+      let third = block_left name keeps (knowing d late) e all second.read second.named block s refl end_room implementation.holds in
+      let since = extends_on (scope_of d []) (scope_of (knowing d late) []) (scope_of e []) second.since third.since in
+      formed stay name e third.read third.named unit room.routines h.part (items_of d.scope) body implementation.made kept
+      (λ every behind finish u. items_shown stay d e first.read third.read since every behind unit finish u)
+
+pub source_formed : StatementsStay → PartLaw → SourceLaw
+source_formed stay keeps name says g have (t.Program heading uses all body) unit brings begun source room h =
+    program_formed stay name g (keeps name) begun unit room says uses.items (view_declarations all.items) body source.0 source.1 h
+source_formed stay keeps name says g have (t.Unit here own uses outer interface all body) unit brings begun source room h =
+    unit_formed stay name g (keeps name) begun unit room says have own uses.items outer interface.items (view_declarations all.items) body brings source.0 source.1 source.2 h
+
+pub bare_formed : StatementsStay → PartLaw → StayConstants → BareLaw
+bare_formed stay keeps constants name says have uses tree unit other are further source room h =
+    source_formed stay keeps name says (resolved have name uses) have tree unit (bare_keeps constants name other have (further_uses tree) further) (bare_begun constants name other have uses are) source room h

@@ -1,0 +1,3 @@
+pub mod Begun
+pub mod Bringing
+pub mod Laws

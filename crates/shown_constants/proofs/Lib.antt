@@ -1,0 +1,4 @@
+pub mod Moved
+pub mod Kept
+pub mod Arriving
+pub mod Faithful
