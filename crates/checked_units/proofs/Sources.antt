@@ -1,6 +1,6 @@
 -- Checked sources are well-formed units.
 use Rattle.std.proofs.Common.{◌≡◌, ℕ, ◌+◌, ◌<◌, List, [], ◌∷◌, length, map, Option, Some, None, refl, subst, ap, ◌∙◌, arith, length-append}
-use Rattle.std.specs.Prelude.{◌^◌}
+use Rattle.std.specs.Prelude.{◌^◌, drop}
 use Rattle.std.proofs.lemmas.List.{length-map}
 use Rattle.std.proofs.lemmas.List.Elements.{All-nil}
 use Rattle.type_layout.specs.Table.{Table}
@@ -32,7 +32,7 @@ use Rattle.constant_values.specs.Laws.{StayConstants}
 use Rattle.checked_routines.proofs.Steps.{extends_on}
 use Rattle.checked_routines.proofs.Grown.{room_before, all_grow}
 use Rattle.tp_check_decl.specs.Programs.{unit_site}
-use Rattle.checked_units.specs.Begun.{IsBegun, UsesKeep, IsKeptPart, IsBlock, IsInterface, IsRoomy}
+use Rattle.checked_units.specs.Begun.{IsBegun, UseKeeps, EachUse, further_uses, IsKeptPart, IsBlock, IsInterface, IsRoomy}
 use Rattle.checked_units.specs.Laws.{SourceLaw, BareLaw}
 use Rattle.checked_units.proofs.Uses.{bare_begun, bare_keeps}
 use Rattle.checked_units.proofs.Begun.{block_left, interface_left, program_left, uses_left}
@@ -72,7 +72,7 @@ module _ (stay : StatementsStay) (name : List ℕ) (g : Environment) (keeps : Pa
       let left = program_left name keeps g d all begun block fits declared.holds in
       formed stay name d left.read left.named unit room.routines front.part [] (Some body) declared.made kept (λ every behind finish u. All-nil (IsItem unit))
 
-  unit_formed : (says : Directives) (have : List Interface) (own : Identifier) (uses : List Identifier) (outer : ℕ) (interface : List InterfaceDeclaration) (all : Works) (body : Option CompoundStatement) → UsesKeep name have
+  unit_formed : (says : Directives) (have : List Interface) (own : Identifier) (uses : List Identifier) (outer : ℕ) (interface : List InterfaceDeclaration) (all : Works) (body : Option CompoundStatement) → EachUse (UseKeeps name have) (drop outer uses)
       → IsInterface interface → IsBlock all → IsKeptPart body → (unit_judged name says g have own uses outer interface all body).holds (view_unit unit) → IsWellFormed unit
   unit_formed says have own uses outer interface all body brings inside block kept h =
       let front = h.made in
@@ -87,7 +87,7 @@ module _ (stay : StatementsStay) (name : List ℕ) (g : Environment) (keeps : Pa
       let more = all_used_grow have d.scope _ late used.holds in
       let first_room = room_types d (knowing d late) more.0 more.1 refl refl middle_room in
       let first = interface_left name keeps g d interface begun inside first_room front.holds in
-      let second = uses_left name keeps have brings d late _ first.read first.named used.holds middle_room in
+      let second = uses_left name keeps have d late (drop outer uses) brings first.read first.named used.holds middle_room in
       let third = block_left name keeps (knowing d late) e all second.read second.named block s refl end_room implementation.holds in
       let since = extends_on (scope_of d []) (scope_of (knowing d late) []) (scope_of e []) second.since third.since in
       formed stay name e third.read third.named unit room.routines h.part (items_of d.scope) body implementation.made kept
@@ -100,5 +100,5 @@ source_formed stay keeps name says g have (t.Unit here own uses outer interface 
     unit_formed stay name g (keeps name) begun unit room says have own uses.items outer interface.items (view_declarations all.items) body brings source.0 source.1 source.2 h
 
 pub bare_formed : StatementsStay → PartLaw → StayConstants → BareLaw
-bare_formed stay keeps constants name says uses tree unit other source room h =
-    source_formed stay keeps name says (resolved [] name uses) [] tree unit (bare_keeps constants name other) (bare_begun constants name other uses) source room h
+bare_formed stay keeps constants name says have uses tree unit other are further source room h =
+    source_formed stay keeps name says (resolved have name uses) have tree unit (bare_keeps constants name other have (further_uses tree) further) (bare_begun constants name other have uses are) source room h

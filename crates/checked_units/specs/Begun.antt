@@ -1,5 +1,5 @@
 -- Where the check of a source begins, and what the source and the unit keep within bounds.
-use Rattle.std.specs.Prelude.{◌≡◌, ℕ, ◌+◌, ◌<◌, ◌^◌, List, [], ◌∷◌, Option, Some, None, length, slice_get}
+use Rattle.std.specs.Prelude.{◌≡◌, ℕ, ◌+◌, ◌<◌, ◌^◌, List, [], ◌∷◌, Option, Some, None, length, drop, slice_get}
 use Rattle.syntax_tree.specs.declared.identifier.Identifier.{Identifier}
 use Rattle.syntax_tree.specs.declared.statement.CompoundStatement.{CompoundStatement}
 use Rattle.source_tree.specs.declared.source.InterfaceDeclaration.{InterfaceDeclaration}
@@ -37,9 +37,22 @@ pub record IsJoined (d e : Drafted) : Type 0 where
   pub since : Extends (scope_of d []) (scope_of e [])
   pub named : slice_get e.scope.units 0 ≡ slice_get d.scope.units 0
 
-abbrev pub UsesKeep : List ℕ → List Interface → Type 0
-UsesKeep name have =
-    (d : Drafted) (h : Environment) (one : Identifier) → IsRead d [] → slice_get d.scope.units 0 ≡ Some name → (further_used have d.scope one).holds h → HasRoom (knowing d h) → IsJoined d (knowing d h)
+abbrev pub UseKeeps : List ℕ → List Interface → Identifier → Type 0
+UseKeeps name have one =
+    (d : Drafted) (h : Environment) → IsRead d [] → slice_get d.scope.units 0 ≡ Some name → (further_used have d.scope one).holds h → HasRoom (knowing d h) → IsJoined d (knowing d h)
+
+abbrev pub EachUse : (Identifier → Type 0) → List Identifier → Type 0
+EachUse P [] = Unit {0}
+EachUse P (one ∷ rest) = P one × EachUse P rest
+
+-- the units that come into the scope behind the interface part
+abbrev pub further_uses : Tree → List Identifier
+further_uses (t.Program heading uses all body) = []
+further_uses (t.Unit here own uses outer interface all body) = drop outer uses.items
+
+-- each of them keeps what is known
+abbrev pub UsesKeep : List ℕ → List Interface → Tree → Type 0
+UsesKeep name have tree = EachUse (UseKeeps name have) (further_uses tree)
 
 -- ---- sources
 

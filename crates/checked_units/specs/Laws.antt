@@ -1,5 +1,6 @@
 -- Checked units are well formed.
-use Rattle.std.specs.Prelude.{◌≡◌, ℕ, List, [], Some, slice_get}
+use Rattle.std.specs.Prelude.{◌≡◌, ℕ, true, List, [], ◌∷◌, Some, slice_get}
+use Rattle.syntax_tree.specs.declared.identifier.Identifier.{Identifier}
 use Rattle.source_directives.specs.declared.collected.Directives.{Directives}
 use Rattle.source_tree.specs.declared.source.Tree.{Tree}
 use Rattle.typed_tree.specs.declared.units.Unit as typed
@@ -7,25 +8,29 @@ use Rattle.well_formed.specs.WellFormed.{IsWellFormed}
 use Rattle.scopes.specs.Predeclared.{first}
 use Rattle.scopes.specs.Environment.{Environment}
 use Rattle.unit_interface.specs.declared.interfaces.Interface.{Interface}
-use Rattle.unit_interface.specs.Resolve.{overlay, resolved}
+use Rattle.unit_interface.specs.Resolve.{overlay, is_overlay, resolved}
 use Rattle.routines.specs.Drafts.{Drafted, knowing}
 use Rattle.tp_check_decl.specs.Units.{view_unit}
 use Rattle.tp_check_decl.specs.Programs.{empty_draft}
 use Rattle.tp_check_decl.specs.Checked.{IsTypedAs}
 use Rattle.checked_routines.specs.Reading.{scope_of, IsRead}
-use Rattle.checked_units.specs.Begun.{IsBegun, IsJoined, UsesKeep, IsSource, IsRoomy}
+use Rattle.checked_units.specs.Begun.{IsBegun, IsJoined, EachUse, further_uses, UsesKeep, IsSource, IsRoomy}
 use Rattle.checked_units.specs.Bringing.{Brings}
 
 -- Over a scope whose names are there, each source that is typed is a well-formed unit, where the units that its implementation part
 -- uses keep what is known.
 abbrev pub SourceLaw : Type 0
-SourceLaw = (name : List ℕ) (says : Directives) (g : Environment) (have : List Interface) (tree : Tree) (unit : typed.Unit) → UsesKeep name have → IsBegun name g
+SourceLaw = (name : List ℕ) (says : Directives) (g : Environment) (have : List Interface) (tree : Tree) (unit : typed.Unit) → UsesKeep name have tree → IsBegun name g
     → IsSource tree → IsRoomy unit → IsTypedAs name says g have tree (view_unit unit) → IsWellFormed unit
 
--- Where no unit is used but OVERLAY, nothing is asked of the scope.
+abbrev pub AreOverlay : List (List ℕ) → Type 0
+AreOverlay [] = Unit {0}
+AreOverlay (one ∷ rest) = (is_overlay one ≡ true) × AreOverlay rest
+
+-- Where no unit is used but OVERLAY, nothing is asked of the scope. (The file of no source has that name.)
 abbrev pub BareLaw : Type 0
-BareLaw = (name : List ℕ) (says : Directives) (uses : List (List ℕ)) (tree : Tree) (unit : typed.Unit) → (name ≡ overlay → ⊥) → IsSource tree → IsRoomy unit
-    → IsTypedAs name says (resolved [] name uses) [] tree (view_unit unit) → IsWellFormed unit
+BareLaw = (name : List ℕ) (says : Directives) (have : List Interface) (uses : List (List ℕ)) (tree : Tree) (unit : typed.Unit) → (name ≡ overlay → ⊥) → AreOverlay uses
+    → EachUse (λ (one : Identifier). is_overlay one.name ≡ true) (further_uses tree) → IsSource tree → IsRoomy unit → IsTypedAs name says (resolved have name uses) have tree (view_unit unit) → IsWellFormed unit
 
 -- What a used unit brings, if it is there, keeps what is known: where a source begins, and behind its interface part.
 pub record UsesLaws (name : List ℕ) : Type 0 where

@@ -8,25 +8,24 @@ use Rattle.typed_tree.specs.declared.units.Unit.{Unit}
 use Rattle.typed_tree.specs.declared.units.Program.{Program}
 use Rattle.object_vmt.specs.declared.faults.ClassError.{ClassError}
 use Rattle.object_vmt.specs.Dispatch.{IsCause}
-use Rattle.syntax_tree.specs.declared.identifier.Identifier.{Identifier}
 use Rattle.source_tree.specs.Sources.{used}
 use Rattle.source_gathering.specs.declared.sources.Source.{Source}
 use Rattle.scopes.specs.Environment.{Environment}
 use Rattle.typing_rules.specs.declared.faults.CheckError.{CheckError}
 use Rattle.typing_rules.specs.declared.faults.Fault.{Fault}
-use Rattle.typing_rules.specs.Faults.{Tells, error_of}
+use Rattle.typing_rules.specs.Faults.{error_of}
 use Rattle.unit_interface.specs.declared.interfaces.Interface.{Interface}
 use Rattle.unit_interface.specs.declared.order.OrderError.{OrderError}
 use Rattle.unit_interface.specs.Order.{start_order, IsCause as IsOrderCause}
 use Rattle.source_order.specs.Orders.{all_uses}
 use Rattle.tp_check_decl.specs.Units.{view_unit}
-use Rattle.tp_check_decl.specs.Checked.{IsTypedAs, FailsAt}
+use Rattle.tp_check_decl.specs.Checked.{IsTypedAs}
 use Rattle.outcomes.specs.declared.outcome.Outcome.{Outcome}
 use Rattle.outcomes.specs.declared.outcome.Outcome.TheVariants as outcome
 use Rattle.outcomes.specs.declared.refusal.Refusal.TheVariants as refusal
 use Rattle.outcomes.specs.declared.refusal.What.TheVariants as what
 use Rattle.refusals.specs.Outcomes.{order_outcome, check_outcome, class_outcome}
-use Rattle.source_interfaces.specs.Scopes.{known, AreThere, KnowsNothing}
+use Rattle.source_interfaces.specs.Scopes.{outer_units, outer_scope, AreThere, AreFitting}
 use Rattle.source_interfaces.specs.Kinds.{AreOfKinds, IsOfWrongKind}
 use Rattle.source_interfaces.specs.Interfaces.{AreInterfaces, IsAcyclic, LacksInterface}
 use Rattle.source_interfaces.proofs.Steps.{no_memory_known}
@@ -35,25 +34,13 @@ use Rattle.front_end.specs.Untyped.{IsNoUnit, LacksUnit, HasWrongClass, AreUntyp
 
 -- ---- the typed unit of a source
 
-pub unit_by : (have : List Interface) (source : Source) (uses : List Identifier) (scope : Environment) (unit : Unit) → uses ≡ used source.tree → scope ≡ known have source.name uses → AreThere have uses
-    → IsTypedAs source.name source.says scope source.tree (view_unit unit) → IsUnitOf have source unit
-unit_by have source uses scope unit all is there typed = record {
-  there = subst (AreThere have) all there;
-  typed = subst (λ (g : Environment). IsTypedAs source.name source.says g source.tree (view_unit unit)) (is ∙ ap (known have source.name) all) typed;
+pub unit_by : (have : List Interface) (source : Source) (scope : Environment) (unit : Unit) → scope ≡ outer_scope have source → AreThere have (used source.tree)
+    → AreFitting have source.name (outer_units source) → IsTypedAs source.name source.says scope have source.tree (view_unit unit) → IsUnitOf have source unit
+unit_by have source scope unit is there fits typed = record {
+  there = there;
+  fits = fits;
+  typed = subst (λ (g : Environment). IsTypedAs source.name source.says g have source.tree (view_unit unit)) is typed;
 }
-
-pub unit_knows_nothing : (texts : List Text) (have : List Interface) (source : Source) (uses : List Identifier) (result : Outcome) → uses ≡ used source.tree → KnowsNothing texts have source.name uses result
-    → IsNoUnit texts have source result
-unit_knows_nothing texts have source uses result all why = inl (subst (λ (each : List Identifier). KnowsNothing texts have source.name each result) all why)
-
-pub fails_inside : (texts : List Text) (have : List Interface) (source : Source) (uses : List Identifier) (scope : Environment) (error : CheckError) (result : Outcome) → uses ≡ used source.tree → scope ≡ known have source.name uses
-    → Tells (FailsAt source.name source.says scope source.tree) error → result ≡ check_outcome texts error → IsNoUnit texts have source result
-fails_inside texts have source uses scope error result all known_is tells is =
-    inr (record {
-      error = error;
-      tells = subst (λ (g : Environment). Tells (FailsAt source.name source.says g source.tree) error) (known_is ∙ ap (known have source.name) all) tells;
-      is = is;
-    })
 
 contains_at : (sources : List Source) (place : ℕ) (source : Source) → slice_get sources place ≡ Some source → Contains sources source
 contains_at sources place source at = (place, slice_get_within sources place source at, get_or_from_slice_get sources place source source at)
@@ -62,7 +49,7 @@ pub lacks_unit : (texts : List Text) (sources : List Source) (have : List Interf
 lacks_unit texts sources have place source result at why = record { source = source; one = contains_at sources place source at; cause = why }
 
 pub lacks_unit_memory : (texts : List Text) (sources : List Source) (have : List Interface) (place : ℕ) (source : Source) (result : Outcome) → slice_get sources place ≡ Some source → result ≡ outcome.NoMemory → LacksUnit texts sources have result
-lacks_unit_memory texts sources have place source result at memory = lacks_unit texts sources have place source result at (inl (no_memory_known texts have source.name (used source.tree) result memory))
+lacks_unit_memory texts sources have place source result at memory = lacks_unit texts sources have place source result at (inl (inl (no_memory_known texts have source.name (used source.tree) result memory)))
 
 pub wrong_class : (units : List Unit) (place : ℕ) (unit : Unit) (error : ClassError) (result : Outcome) → place < length units → unit ≡ get_or units place unit → IsCause unit.types.types error → result ≡ class_outcome error
     → HasWrongClass units result

@@ -1,8 +1,7 @@
 -- What is answered for a name, where the folder is told; and that sources which are no program are no fault of the files.
-use Rattle.std.proofs.Common.{◌≡◌, ℕ, List, Option, Some, None, IfSome, Result, Ok, Err, IfOk, IfErr, inl, inr, sym, subst}
+use Rattle.std.proofs.Common.{◌≡◌, ℕ, List, Option, Some, None, IfSome, inl, inr, sym, subst}
 use Rattle.tp_outside.specs.Folder.{Folder}
 use Rattle.tp_lexer.specs.declared.token.Text.{Text}
-use Rattle.typed_tree.specs.declared.units.Program.{Program}
 use Rattle.object_vmt.specs.declared.faults.ClassError.{ClassError}
 use Rattle.object_vmt.specs.declared.faults.ClassError.TheVariants as class
 use Rattle.syntax_tree.specs.declared.identifier.Identifier.{Identifier}
@@ -23,6 +22,8 @@ use Rattle.outcomes.specs.declared.refusal.Refusal.TheVariants as refusal
 use Rattle.refusals.specs.Outcomes.{gather_outcome, order_outcome, check_outcome, class_outcome}
 use Rattle.source_tree.specs.Sources.{used}
 use Rattle.source_interfaces.specs.Scopes.{outer_units, IsUnresolved, KnowsNothing}
+use Rattle.front_end.specs.declared.program.TypedSources.{TypedSources}
+use Rattle.front_end.specs.Found.{IsFoundIn}
 use Rattle.front_end.specs.Typed.{IsProgram, IsProgramIn}
 use Rattle.front_end.specs.Untyped.{AreUntyped, IsNoProgram, IsRefusing, IsDeclining}
 
@@ -67,7 +68,8 @@ untyped_refuses texts sources result (inr (inr (inl i))) = elim i.lacks.cause [
   | inr fails ↦ subst IsRefusing (sym fails.is) (check_refuses texts fails.error)
 ]
 untyped_refuses texts sources result (inr (inr (inr (inl u)))) = elim u.lacks.cause [
-  | inl knows ↦ knows_refuses texts u.have u.lacks.source.name (used u.lacks.source.tree) result knows
+  | inl (inl knows) ↦ knows_refuses texts u.have u.lacks.source.name (used u.lacks.source.tree) result knows
+  | inl (inr knows) ↦ knows_refuses texts u.have u.lacks.source.name (outer_units u.lacks.source) result knows
   | inr fails ↦ subst IsRefusing (sym fails.is) (check_refuses texts fails.error)
 ]
 untyped_refuses texts sources result (inr (inr (inr (inr (inl c))))) = subst IsRefusing (sym c.wrong.is) (class_refuses c.wrong.error)
@@ -79,9 +81,8 @@ refuses_declines (outcome.Refused r) is = is
 refuses_declines outcome.NoMemory is = tt
 refuses_declines other is = absurd is
 
-pub typed_declines : (texts : List Text) (sources : List Source) (result : Result Program Outcome) → IfErr result (AreUntyped texts sources) → IfErr result IsDeclining
-typed_declines texts sources (Ok program) why = tt
-typed_declines texts sources (Err error) why = refuses_declines error (untyped_refuses texts sources error why)
+pub untyped_declines : (texts : List Text) (sources : List Source) (result : Outcome) → AreUntyped texts sources result → IsDeclining result
+untyped_declines texts sources result why = refuses_declines result (untyped_refuses texts sources result why)
 
 pub gather_declines : (error : GatherError) → IsDeclining (gather_outcome error)
 gather_declines (gather.MissingFile name) = tt
@@ -93,11 +94,8 @@ gather_declines (gather.TooDeep at) = tt
 gather_declines gather.FilesFault = tt
 gather_declines gather.NoMemory = tt
 
-pub typed_not : {A : Type 0} (texts : List Text) (sources : List Source) (result : Result Program Outcome) → IfErr result (AreUntyped texts sources) → result ≡ Err outcome.FilesFault → A
-typed_not texts sources (Ok program) why is = absurd cc
-typed_not texts sources (Err error) why is =
-    let same : error ≡ outcome.FilesFault = cc in
-    absurd (subst IsRefusing same (untyped_refuses texts sources error why))
+pub untyped_not : {A : Type 0} (texts : List Text) (sources : List Source) (result : Outcome) → AreUntyped texts sources result → result ≡ outcome.FilesFault → A
+untyped_not texts sources result why is = absurd (subst IsRefusing is (untyped_refuses texts sources result why))
 
 pub fault_of_files : (error : GatherError) → gather_outcome error ≡ outcome.FilesFault → error ≡ gather.FilesFault
 fault_of_files (gather.MissingFile name) is = absurd cc
@@ -109,17 +107,19 @@ fault_of_files (gather.TooDeep at) is = absurd cc
 fault_of_files gather.FilesFault is = cc
 fault_of_files gather.NoMemory is = absurd cc
 
-pub program_in : (known : Option Folder) (name : List ℕ) (texts : List Text) (sources : List Source) (result : Result Program Outcome) → IfSome known (λ held. Gathers held name texts sources)
-    → IfOk result (IsProgram sources) → IfSome known (λ held. IfOk result (IsProgramIn held name))
-program_in None name texts sources result gathers is = tt
-program_in (Some held) name texts sources (Err error) gathers is = tt
-program_in (Some held) name texts sources (Ok program) gathers is = record { texts = texts; sources = sources; gathers = gathers; is = is }
+pub found_in : (known : Option Folder) (name : List ℕ) (found : TypedSources) → IfSome known (λ held. Gathers held name found.texts.items found.sources.items) → IsProgram found.sources.items found.program
+    → IfSome known (λ held. IsFoundIn held name found)
+found_in None name found gathers is = tt
+found_in (Some held) name found gathers is = record { gathers = gathers; is = is }
 
-pub none_in : (known : Option Folder) (name : List ℕ) (texts : List Text) (sources : List Source) (result : Result Program Outcome) → IfSome known (λ held. Gathers held name texts sources)
-    → IfErr result (AreUntyped texts sources) → IfSome known (λ held. IfErr result (IsNoProgram held name))
+pub none_in : (known : Option Folder) (name : List ℕ) (texts : List Text) (sources : List Source) (result : Outcome) → IfSome known (λ held. Gathers held name texts sources) → AreUntyped texts sources result
+    → IfSome known (λ held. IsNoProgram held name result)
 none_in None name texts sources result gathers why = tt
-none_in (Some held) name texts sources (Ok program) gathers why = tt
-none_in (Some held) name texts sources (Err error) gathers why = inr (record { texts = texts; sources = sources; gathers = gathers; why = why })
+none_in (Some held) name texts sources result gathers why = inr (record { texts = texts; sources = sources; gathers = gathers; why = why })
+
+pub program_of_found : (known : Option Folder) (name : List ℕ) (found : TypedSources) → IfSome known (λ held. IsFoundIn held name found) → IfSome known (λ held. IsProgramIn held name found.program)
+program_of_found None name found is = tt
+program_of_found (Some held) name found is = record { texts = found.texts.items; sources = found.sources.items; gathers = is.gathers; is = is.is }
 
 pub ungathered : (known : Option Folder) (name : List ℕ) (error : GatherError) (result : Outcome) → IfSome known (λ held. Unless error (IsRefused held name error)) → result ≡ gather_outcome error
     → IfSome known (λ held. IsNoProgram held name result)

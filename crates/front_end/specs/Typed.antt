@@ -15,7 +15,7 @@ use Rattle.unit_interface.specs.Order.{start_order}
 use Rattle.source_order.specs.Orders.{all_uses}
 use Rattle.tp_check_decl.specs.Units.{view_unit}
 use Rattle.tp_check_decl.specs.Checked.{IsTypedAs}
-use Rattle.source_interfaces.specs.Scopes.{whole_scope, AreThere}
+use Rattle.source_interfaces.specs.Scopes.{outer_units, outer_scope, AreThere, AreFitting}
 use Rattle.source_interfaces.specs.Kinds.{AreOfKinds}
 use Rattle.source_interfaces.specs.Interfaces.{AreInterfaces, IsAcyclic}
 
@@ -28,10 +28,12 @@ sources_at sources (place ∷ places) = option_to_list (slice_get sources place)
 abbrev pub in_order : List Source → List Source
 in_order sources = sources_at sources (start_order (all_uses sources) 0)
 
--- The typed unit is that of a source: every rule holds in it, over what is known by the interfaces.
+-- The typed unit is that of a source: every rule holds in it, over what is known to its interface part by the interfaces, and what
+-- they show of the units that its implementation part uses.
 pub record IsUnitOf (have : List Interface) (source : Source) (unit : Unit) : Type 0 where
   pub there : AreThere have (used source.tree)
-  pub typed : IsTypedAs source.name source.says (whole_scope have source) source.tree (view_unit unit)
+  pub fits : AreFitting have source.name (outer_units source)
+  pub typed : IsTypedAs source.name source.says (outer_scope have source) have source.tree (view_unit unit)
 
 -- the units of all sources, in order of initialisation
 pub record AreUnits (sources : List Source) (units : List Unit) : Type 0 where

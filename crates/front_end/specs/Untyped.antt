@@ -22,7 +22,7 @@ use Rattle.outcomes.specs.declared.outcome.Outcome.TheVariants as outcome
 use Rattle.outcomes.specs.declared.refusal.Refusal.TheVariants as refusal
 use Rattle.outcomes.specs.declared.refusal.What.TheVariants as what
 use Rattle.refusals.specs.Outcomes.{gather_outcome, order_outcome, check_outcome, class_outcome}
-use Rattle.source_interfaces.specs.Scopes.{whole_scope, KnowsNothing}
+use Rattle.source_interfaces.specs.Scopes.{outer_units, outer_scope, KnowsNothing}
 use Rattle.source_interfaces.specs.Kinds.{AreOfKinds, IsOfWrongKind}
 use Rattle.source_interfaces.specs.Interfaces.{AreInterfaces, IsAcyclic, LacksInterface}
 use Rattle.front_end.specs.Typed.{AreUnits, AreLawful}
@@ -49,11 +49,16 @@ pub record HaveNoInterfaces (texts : List Text) (sources : List Source) (result 
 -- a rule fails in a source
 pub record FailsInside (texts : List Text) (have : List Interface) (source : Source) (result : Outcome) : Type 0 where
   pub error : CheckError
-  pub tells : Tells (FailsAt source.name source.says (whole_scope have source) source.tree) error
+  pub tells : Tells (FailsAt source.name source.says (outer_scope have source) have source.tree) error
   pub is : result ≡ check_outcome texts error
 
+-- nothing is known to it by all units that it uses, or by those that its interface part uses
+abbrev pub IsIgnorant : List Text → List Interface → Source → Outcome → Type 0
+IsIgnorant texts have source result =
+    KnowsNothing texts have source.name (used source.tree) result ⊎ KnowsNothing texts have source.name (outer_units source) result
+
 abbrev pub IsNoUnit : List Text → List Interface → Source → Outcome → Type 0
-IsNoUnit texts have source result = KnowsNothing texts have source.name (used source.tree) result ⊎ FailsInside texts have source result
+IsNoUnit texts have source result = IsIgnorant texts have source result ⊎ FailsInside texts have source result
 
 -- one of them has no typed unit
 pub record LacksUnit (texts : List Text) (sources : List Source) (have : List Interface) (result : Outcome) : Type 0 where

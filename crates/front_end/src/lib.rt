@@ -4,4 +4,4 @@
 mod program;
 mod units;
 
-pub use program::typed_program;
+pub use program::{TypedSources, typed_program, typed_sources};

@@ -5,6 +5,7 @@ ghost use Rattle.tp_outside.specs.Faults.{HasRisen};
 ghost use Rattle.outcomes.specs.declared.outcome.Outcome.{Outcome};
 ghost use Rattle.outcomes.specs.declared.refusal.Refusal.{Refusal};
 ghost use Rattle.outcomes.specs.declared.refusal.What.{What};
+ghost use Rattle.front_end.specs.Found.{IsFoundIn};
 ghost use Rattle.front_end.specs.Typed.{IsProgram, IsProgramIn};
 ghost use Rattle.front_end.specs.Untyped.{AreUntyped, IsNoProgram, IsDeclining};
 
@@ -68,9 +69,46 @@ fn typed(alloc: Global, texts: &[Text], sources: &[Source]) -> Result<Program, O
     program_of(units)
 }
 
-/// The typed program of this name: its source and those of all units that it uses, gathered from their files, in order, and checked. An
-/// error is the outcome of a command that asks for it: the first refusal in the order of the phases, a fault of the files, or want of
-/// memory.
+/// The texts that were read for a program, its sources, the program's own first, and the typed program that they are.
+#[derive(Drop)]
+pub struct TypedSources {
+    pub texts: Vec<Text>,
+    pub sources: Vec<Source>,
+    pub program: Program,
+}
+
+/// The sources of the program of this name, its own and those of all units that it uses, gathered from their files, in order, and
+/// checked, with the typed program that they are. An error is the outcome of a command that asks for it: the first refusal in the
+/// order of the phases, a fault of the files, or want of memory.
+pub fn typed_sources<F: Files>(
+    alloc: Global,
+    name: &Name,
+    files: &mut F,
+) -> Result<TypedSources, Outcome>
+    ensures found { IfSome (F.folder files.old) (λ held. IfOk result (IsFoundIn held name.now)) }
+    ensures cause { IfSome (F.folder files.old) (λ held. IfErr result (IsNoProgram held name.now)) }
+    ensures declines { IfErr result IsDeclining }
+    ensures unchanged { F.folder files.new ≡ F.folder files.old }
+    ensures counted { F.faults files.old ≤ F.faults files.new }
+    ensures failed { result ≡ Err Outcome.FilesFault → HasRisen (F.faults files.old) (F.faults files.new) }
+{
+    match gather(alloc, name, files) {
+        Ok(gathered) => {
+            let Gathered { texts, sources } = gathered;
+            match typed(alloc, texts.as_slice(), sources.as_slice()) {
+                Ok(program) => Ok(TypedSources {
+                    texts,
+                    sources,
+                    program,
+                }),
+                Err(outcome) => Err(outcome),
+            }
+        }
+        Err(error) => Err(gather_outcome(error)),
+    }
+}
+
+/// The typed program of this name, without its sources.
 pub fn typed_program<F: Files>(
     alloc: Global,
     name: &Name,
@@ -83,11 +121,11 @@ pub fn typed_program<F: Files>(
     ensures counted { F.faults files.old ≤ F.faults files.new }
     ensures failed { result ≡ Err Outcome.FilesFault → HasRisen (F.faults files.old) (F.faults files.new) }
 {
-    match gather(alloc, name, files) {
-        Ok(gathered) => {
-            let Gathered { texts, sources } = gathered;
-            typed(alloc, texts.as_slice(), sources.as_slice())
+    match typed_sources(alloc, name, files) {
+        Ok(found) => {
+            let TypedSources { program, .. } = found;
+            Ok(program)
         }
-        Err(error) => Err(gather_outcome(error)),
+        Err(outcome) => Err(outcome),
     }
 }

@@ -2,21 +2,45 @@
 
 ghost use Rattle.std.specs.Prelude.{◌≡◌, ◌≤◌, ◌+◌, Contains, IfOk, IfErr, OnOk, length};
 ghost use Rattle.std.specs.List.{AllZip};
+ghost use Rattle.source_tree.specs.Sources.{used};
+ghost use Rattle.source_interfaces.specs.Scopes.{outer_units, outer_scope, AreThere, AreFitting};
 ghost use Rattle.source_interfaces.specs.Interfaces.{AreInterfaces};
 ghost use Rattle.front_end.specs.Typed.{sources_at, IsUnitOf, AreLawful};
-ghost use Rattle.front_end.specs.Untyped.{IsNoUnit, LacksUnit, HasWrongClass};
+ghost use Rattle.front_end.specs.Untyped.{IsIgnorant, IsNoUnit, LacksUnit, HasWrongClass};
 
 use object_vmt::classes;
 use outcomes::Outcome;
 use refusals::{check_outcome, class_outcome};
+use scopes::Scope;
 use source_gathering::Source;
-use source_interfaces::scope_of;
+use source_interfaces::{outer_units, scope_of};
 use source_tree::uses_of;
 use std::alloc::Global;
 use tp_check_decl::check;
 use tp_lexer::Text;
 use typed_tree::{Unit, Units};
 use unit_interface::Interface;
+
+// What is known to the interface part of a source. All units that the source uses are there, and their types fit.
+fn outer_scope(
+    alloc: Global,
+    texts: &[Text],
+    source: &Source,
+    have: &[Interface],
+) -> Result<Scope, Outcome>
+    ensures ok { IfOk result (λ scope. scope ≡ outer_scope have.now source.now) }
+    ensures there { OnOk result (AreThere have.now (used source.now.tree)) }
+    ensures fits { OnOk result (AreFitting have.now source.now.name (outer_units source.now)) }
+    ensures cause { IfErr result (IsIgnorant texts.now have.now source.now) }
+{
+    let uses = uses_of(&source.tree);
+    let whole = scope_of(alloc, texts, &source.name, uses, have)?;
+    let outer = outer_units(source);
+    if outer.len() == uses.len() {
+        return Ok(whole);
+    }
+    scope_of(alloc, texts, &source.name, outer, have)
+}
 
 // The typed unit of a source, over these interfaces.
 fn unit_of(
@@ -28,8 +52,15 @@ fn unit_of(
     ensures unit { IfOk result (IsUnitOf have.now source.now) }
     ensures cause { IfErr result (IsNoUnit texts.now have.now source.now) }
 {
-    let scope = scope_of(alloc, texts, &source.name, uses_of(&source.tree), have)?;
-    match check(alloc, &source.name, &source.tree, &source.says, &scope) {
+    let scope = outer_scope(alloc, texts, source, have)?;
+    match check(
+        alloc,
+        &source.name,
+        &source.tree,
+        &source.says,
+        &scope,
+        have,
+    ) {
         Ok(unit) => Ok(unit),
         Err(error) => Err(check_outcome(texts, error)),
     }

@@ -11,7 +11,7 @@ use type_layout::Name;
 use typed_tree::Program;
 
 /// A folder, and the typed units of program P in order of initialisation, or the line of the refusal.
-const PROGRAMS: [(Held, &str); 17] = [
+const PROGRAMS: [(Held, &str); 18] = [
     // The units stand in another order than that in which they are named, and each sees those that it uses.
     (
         &[
@@ -59,6 +59,24 @@ const PROGRAMS: [(Held, &str); 17] = [
             (
                 "b.pas",
                 "unit B; interface procedure Pong(n: Byte); implementation uses A; procedure Pong(n: Byte); begin if n > 0 then Ping(n - 1) end; end.",
+            ),
+        ],
+        "B A P ",
+    ),
+    // Types of a unit come back to it by one that its implementation part uses.
+    (
+        &[
+            (
+                "p.pas",
+                "program P; uses A, B; var x: Link; begin New(x, Init); Walk(x); Dispose(x) end.",
+            ),
+            (
+                "a.pas",
+                "unit A; interface type Link = ^Node; Node = object next: Link; constructor Init; procedure Show; virtual; end; implementation uses B; constructor Node.Init; begin next := last; last := nil end; procedure Node.Show; begin Walk(next) end; end.",
+            ),
+            (
+                "b.pas",
+                "unit B; interface uses A; var last: Link; procedure Walk(from: Link); implementation procedure Walk; begin if from <> nil then from^.Show end; end.",
             ),
         ],
         "B A P ",

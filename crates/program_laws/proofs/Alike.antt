@@ -1,10 +1,13 @@
 -- A source shows one interface, whatever interfaces are there besides.
-use Rattle.std.proofs.Common.{◌≡◌, ◌⊎◌, ℕ, zero, suc, ◌+◌, ◌<◌, ◌≤◌, Bool, true, false, ◌||◌, cond, List, [], ◌∷◌, ◌++◌, length, Option, Some, None, refl, sym, ap, ◌∙◌, subst, arith, inl, inr, nat_eq}
+use Rattle.std.proofs.Common.{◌≡◌, ◌⊎◌, ℕ, zero, suc, ◌<◌, Bool, true, false, ◌||◌, cond, List, [], ◌∷◌, drop, length, Option, Some, None, refl, sym, ap, ◌∙◌, subst, arith, inl, inr, nat_eq}
 use Rattle.std.specs.Prelude.{slice_get, is_some}
 use Rattle.std.specs.List.{list_any}
 use Rattle.std.proofs.lemmas.Option.{slice_get_within}
-use Rattle.type_layout.specs.Words.{same_bytes}
 use Rattle.syntax_tree.specs.declared.identifier.Identifier.{Identifier}
+use Rattle.source_directives.specs.declared.collected.Directives.{Directives}
+use Rattle.source_tree.specs.declared.source.Tree.{Tree}
+use Rattle.source_tree.specs.declared.source.Tree.TheVariants as t
+use Rattle.source_tree.specs.Sources.{used}
 use Rattle.scopes.specs.Environment.{Environment}
 use Rattle.scopes.specs.Predeclared.{first}
 use Rattle.source_gathering.specs.declared.sources.Source.{Source}
@@ -12,10 +15,13 @@ use Rattle.source_gathering.specs.Whole.{AreNew}
 use Rattle.typing_rules.proofs.JudgementLaws.{exact}
 use Rattle.unit_interface.specs.declared.interfaces.Interface.{Interface}
 use Rattle.unit_interface.specs.Uses.{place_of, listed, places_of, interface_edges}
-use Rattle.unit_interface.specs.Resolve.{is_overlay, interface_named, with_overlay, with_found, with_use, with_uses, is_there, IsMissing}
+use Rattle.unit_interface.specs.Resolve.{is_overlay, interface_named, with_overlay, with_found, with_use, with_uses, is_there}
 use Rattle.unit_interface.proofs.ShownLaws.{one_interface}
 use Rattle.source_order.specs.Orders.{names_of, all_uses}
+use Rattle.unit_interface.specs.Fitting.{found_fits, use_fits}
 use Rattle.tp_check_decl.specs.Units.{Whole}
+use Rattle.tp_check_decl.specs.Interfaces.{all_used}
+use Rattle.tp_check_decl.specs.Checked.{judged}
 use Rattle.tp_check_decl.specs.Shown.{IsShownAs, Shows, outlined, with_nothing_else}
 use Rattle.tp_check_decl.proofs.CheckLaws.{lawful_outlined}
 use Rattle.source_interfaces.specs.Scopes.{outer_units, known, outer_scope, is_shown, AreThere}
@@ -49,6 +55,48 @@ uses_alike a b g (name ∷ names) alike =
 
 pub known_alike : (a b : List Interface) (name : List ℕ) (uses : List Identifier) → AreAlike a b (names_of uses) → known a name uses ≡ known b name uses
 known_alike a b name uses alike = uses_alike a b (first name) (names_of uses) alike
+
+-- what a unit shows fits, or does not, by both
+fit_alike : (a b : List Interface) (g : Environment) (name : List ℕ) → IsAlike a b name → use_fits a g name ≡ use_fits b g name
+fit_alike a b g name (inl overlay) =
+    ap (λ (o : Bool). o || found_fits g (interface_named a name)) overlay
+    ∙ sym (ap (λ (o : Bool). o || found_fits g (interface_named b name)) overlay)
+fit_alike a b g name (inr same) = ap (λ (i : Option Interface). is_overlay name || found_fits g i) same
+
+further_alike : (a b : List Interface) (g : Environment) (uses : List Identifier) → AreAlike a b (names_of uses) → (h : Environment) → (all_used a g uses).holds h → (all_used b g uses).holds h
+further_alike a b g [] alike h e = e
+further_alike a b g (one ∷ rest) alike h e = record {
+  part = e.part;
+  holds = record { asked = sym (fit_alike a b g one.name alike.0) ∙ e.holds.asked; made = e.holds.made ∙ use_alike a b g one.name alike.0 };
+  made = further_alike a b e.part rest alike.1 h e.made;
+}
+
+-- the last of units that are told of alike are so too
+last_alike : (a b : List Interface) (n : ℕ) (uses : List Identifier) → AreAlike a b (names_of uses) → AreAlike a b (names_of (drop n uses))
+last_alike a b zero uses alike = alike
+last_alike a b (suc n) [] alike = alike
+last_alike a b (suc n) (one ∷ rest) alike = last_alike a b n rest alike.1
+
+-- a source has the same unit by interfaces that tell alike of all that it uses
+pub judged_alike : (a b : List Interface) (name : List ℕ) (says : Directives) (g : Environment) (tree : Tree) → AreAlike a b (names_of (used tree)) → (unit : Whole) → (judged name says g a tree).holds unit
+    → (judged name says g b tree).holds unit
+judged_alike a b name says g (t.Program heading uses all body) alike unit h = h
+judged_alike a b name says g (t.Unit here own uses outer interface all body) alike unit h =
+    let i = h.made in
+    let u = i.made in
+    record {
+      part = h.part;
+      holds = h.holds;
+      made = record {
+        part = i.part;
+        holds = i.holds;
+        made = record {
+          part = u.part;
+          holds = further_alike a b i.part.scope (drop outer uses.items) (last_alike a b outer uses.items alike) u.part u.holds;
+          made = u.made;
+        };
+      };
+    }
 
 -- ---- units that are there
 

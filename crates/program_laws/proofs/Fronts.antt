@@ -1,5 +1,5 @@
 -- In a source that is typed no unit is used twice.
-use Rattle.std.proofs.Common.{◌≡◌, ℕ, zero, suc, Bool, true, false, List, [], ◌∷◌, ◌++◌, take, Some, sym, ap, ◌∙◌, subst, refl, append_assoc, append-nil}
+use Rattle.std.proofs.Common.{◌≡◌, ℕ, zero, suc, true, false, List, [], ◌∷◌, ◌++◌, take, Some, sym, ap, subst, refl, append_assoc, append-nil}
 use Rattle.std.specs.Prelude.{slice_get}
 use Rattle.syntax_tree.specs.declared.identifier.Identifier.{Identifier}
 use Rattle.source_directives.specs.declared.collected.Directives.{Directives}
@@ -9,6 +9,7 @@ use Rattle.source_tree.specs.Sources.{used}
 use Rattle.scopes.specs.Environment.{Environment}
 use Rattle.typing_rules.specs.declared.faults.Fault.{Fault}
 use Rattle.typing_rules.specs.Judgements.{Judgement}
+use Rattle.unit_interface.specs.declared.interfaces.Interface.{Interface}
 use Rattle.unit_interface.specs.Resolve.{is_repeated}
 use Rattle.source_order.specs.Orders.{names_of}
 use Rattle.tp_check_decl.specs.Units.{Whole}
@@ -37,17 +38,17 @@ front_once : (says : Directives) (all : List Identifier) → IsHeld (front_judge
 unfolding front_judged
 front_once says all held name d = contrary (is_repeated (take d.place (names_of all)) name) d.repeated (uses_once [] all held.holds.part held.holds.holds d.place name d.used)
 
-unit_once : (name : List ℕ) (says : Directives) (g : Environment) (own : Identifier) (uses : List Identifier) (outer : ℕ) → IsHeld (unit_front name says g own uses outer) → AreOnce (names_of uses)
+unit_once : (name : List ℕ) (says : Directives) (own : Identifier) (uses : List Identifier) → IsHeld (unit_front name says own uses) → AreOnce (names_of uses)
 unfolding unit_front
-unit_once name says g own uses outer held = front_once says uses (record { node = held.node; holds = held.holds.made.made })
+unit_once name says own uses held = front_once says uses (record { node = held.node; holds = held.holds.made })
 
 pub outlined_once : (name : List ℕ) (says : Directives) (g : Environment) (tree : Tree) (unit : Whole) → (outlined name says g tree).holds unit → AreOnce (names_of (used tree))
 outlined_once name says g (t.Program heading uses all body) unit holds = front_once says uses.items (record { node = holds.part; holds = holds.holds })
-outlined_once name says g (t.Unit here own uses outer interface all body) unit holds = unit_once name says g own uses.items outer (record { node = holds.part; holds = holds.holds })
+outlined_once name says g (t.Unit here own uses outer interface all body) unit holds = unit_once name says own uses.items (record { node = holds.part; holds = holds.holds })
 
-pub judged_once : (name : List ℕ) (says : Directives) (g : Environment) (tree : Tree) (unit : Whole) → (judged name says g tree).holds unit → AreOnce (names_of (used tree))
-judged_once name says g (t.Program heading uses all body) unit holds = front_once says uses.items (record { node = holds.made.part; holds = holds.made.holds })
-judged_once name says g (t.Unit here own uses outer interface all body) unit holds = unit_once name says g own uses.items outer (record { node = holds.part; holds = holds.holds })
+pub judged_once : (name : List ℕ) (says : Directives) (g : Environment) (have : List Interface) (tree : Tree) (unit : Whole) → (judged name says g have tree).holds unit → AreOnce (names_of (used tree))
+judged_once name says g have (t.Program heading uses all body) unit holds = front_once says uses.items (record { node = holds.made.part; holds = holds.made.holds })
+judged_once name says g have (t.Unit here own uses outer interface all body) unit holds = unit_once name says own uses.items (record { node = holds.part; holds = holds.holds })
 
 -- ---- the first of some uses
 

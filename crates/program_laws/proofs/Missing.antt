@@ -1,7 +1,7 @@
 -- All that sources use was gathered with them, so no file is missing.
-use Rattle.std.proofs.Common.{◌≡◌, ◌⊎◌, ℕ, zero, suc, Bool, true, false, ◌||◌, List, [], ◌∷◌, map, take, Some, Contains, refl, sym, ap, ◌∙◌, subst, inl, inr, codes}
+use Rattle.std.proofs.Common.{◌≡◌, ◌⊎◌, ℕ, zero, suc, Bool, true, false, ◌||◌, List, [], ◌∷◌, map, take, Some, Contains, refl, sym, ap, subst, inl, inr, codes}
 use Rattle.std.specs.Prelude.{slice_get, is_some}
-use Rattle.std.specs.List.{All, list_any}
+use Rattle.std.specs.List.{list_any}
 use Rattle.std.proofs.lemmas.List.Elements.{All-contains, All-head, All-tail}
 use Rattle.type_layout.specs.Words.{same_bytes}
 use Rattle.tp_outside.specs.Folder.{Folder}
@@ -21,13 +21,13 @@ use Rattle.typing_rules.specs.Faults.{error_of}
 use Rattle.unit_interface.specs.declared.interfaces.Interface.{Interface}
 use Rattle.unit_interface.specs.declared.order.OrderError.{OrderError}
 use Rattle.unit_interface.specs.declared.order.OrderError.TheVariants as order
-use Rattle.unit_interface.specs.Resolve.{is_overlay, interface_named, is_there, is_repeated}
+use Rattle.unit_interface.specs.Resolve.{is_overlay, interface_named, is_there}
 use Rattle.source_order.specs.Orders.{names_of}
 use Rattle.outcomes.specs.declared.outcome.Outcome.{Outcome}
 use Rattle.outcomes.specs.declared.outcome.Outcome.TheVariants as outcome
 use Rattle.outcomes.specs.declared.refusal.Refusal.TheVariants as refusal
 use Rattle.refusals.specs.Outcomes.{order_outcome, check_outcome, class_outcome}
-use Rattle.source_interfaces.specs.Scopes.{outer_units, is_shown, AreOnce, IsUnresolved, KnowsNothing}
+use Rattle.source_interfaces.specs.Scopes.{outer_units, is_shown, IsUnresolved, KnowsNothing}
 use Rattle.source_interfaces.specs.Interfaces.{AreInterfaces, is_source, waits}
 use Rattle.source_interfaces.proofs.Uses.{some_is, contrary}
 use Rattle.source_interfaces.proofs.Rounds.{placed}
@@ -137,6 +137,9 @@ module _ (held : Folder) (name : List ℕ) (texts : List Text) (sources : List S
         | inr (inr taken) ↦ inr taken
       ]
 
+  there_outside : (have : List Interface) (s : Source) → IsThereAt have (used s.tree) → IsThereAt have (outer_units s)
+  there_outside have s each place used_name at = each place used_name (outer_get (used_in_interface s.tree) (used s.tree) place used_name at)
+
   none : (file : List ℕ) → AreUntyped texts sources (Missing file) → ⊥
   none file (inl n) = order_not file n.error n.is
   none file (inr (inl w)) = check_not file texts (error_of w.fault) w.is
@@ -149,7 +152,8 @@ module _ (held : Folder) (name : List ℕ) (texts : List Text) (sources : List S
   none file (inr (inr (inr (inl n)))) =
       let l = n.lacks in
       elim l.cause [
-        | inl knows ↦ knows_not file texts n.have l.source.name (used l.source.tree) (there_all n.have l.source l.one n.interfaces) knows
+        | inl (inl knows) ↦ knows_not file texts n.have l.source.name (used l.source.tree) (there_all n.have l.source l.one n.interfaces) knows
+        | inl (inr knows) ↦ knows_not file texts n.have l.source.name (outer_units l.source) (there_outside n.have l.source (there_all n.have l.source l.one n.interfaces)) knows
         | inr fails ↦ check_not file texts fails.error fails.is
       ]
   none file (inr (inr (inr (inr (inl c))))) = class_not file c.wrong.error c.wrong.is

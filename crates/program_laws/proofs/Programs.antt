@@ -1,12 +1,9 @@
 -- Sources are one program at most, and where they are one no rule is told of.
-use Rattle.std.proofs.Common.{◌≡◌, ◌⊎◌, ℕ, zero, suc, ◌+◌, ◌<◌, ◌≤◌, Bool, true, false, not, ◌||◌, ◌&&◌, List, [], ◌∷◌, ◌++◌, length, map, Option, Some, None, Contains, refl, sym, ap, ◌∙◌, subst, arith, inl, inr, nat_eq, eqb-true}
+use Rattle.std.proofs.Common.{◌≡◌, ◌⊎◌, ℕ, zero, suc, Bool, true, false, not, ◌||◌, ◌&&◌, List, [], ◌∷◌, ◌++◌, length, map, Option, Some, None, refl, sym, ap, ◌∙◌, subst, arith, inl, inr, nat_eq, eqb-true}
 use Rattle.std.specs.Prelude.{slice_get, is_some, option_to_list}
-use Rattle.std.specs.List.{All, AllZip, list_any}
-use Rattle.std.proofs.lemmas.List.Elements.{All-contains, All-head, All-tail, All-cons, All-nil}
-use Rattle.std.proofs.lemmas.Option.{slice_get_within}
+use Rattle.std.specs.List.{AllZip, list_any}
+use Rattle.std.proofs.lemmas.List.Elements.{All-contains, All-head, All-tail, All-cons}
 use Rattle.std.proofs.lemmas.Slice.Zip.{AllZip-long}
-use Rattle.std.proofs.lemmas.Slice.Eq.{bytes_eq-Decides}
-use Rattle.type_layout.specs.Words.{same_bytes}
 use Rattle.tp_outside.specs.Folder.{Folder}
 use Rattle.tp_lexer.specs.declared.token.Text.{Text}
 use Rattle.typed_tree.specs.declared.units.Unit.{Unit}
@@ -22,7 +19,6 @@ use Rattle.source_gathering.specs.Whole.{AreNew}
 use Rattle.source_gathering.proofs.WholeLaws.{is_whole}
 use Rattle.scopes.specs.Environment.{Environment}
 use Rattle.typing_rules.specs.declared.faults.CheckError.{CheckError}
-use Rattle.typing_rules.specs.declared.faults.CheckError.TheVariants as check
 use Rattle.typing_rules.specs.declared.faults.Fault.{Fault}
 use Rattle.typing_rules.specs.Faults.{Tells}
 use Rattle.typing_rules.proofs.JudgementLaws.{exact}
@@ -30,27 +26,27 @@ use Rattle.unit_interface.specs.declared.interfaces.Interface.{Interface}
 use Rattle.unit_interface.specs.declared.order.OrderError.{OrderError}
 use Rattle.unit_interface.specs.declared.order.OrderError.TheVariants as order
 use Rattle.unit_interface.specs.Order.{start_order, IsCause as IsOrderCause}
-use Rattle.unit_interface.specs.Resolve.{is_overlay, interface_named, is_there, IsMissing}
+use Rattle.unit_interface.specs.Resolve.{is_overlay, interface_named, is_there}
 use Rattle.source_order.specs.Orders.{names_of, all_uses}
 use Rattle.source_order.proofs.Reached.{in_order as all_in_order}
 use Rattle.tp_check_decl.specs.Units.{Whole, view_unit}
-use Rattle.tp_check_decl.specs.Shown.{IsShownAs, FailsInInterface, outlined}
+use Rattle.tp_check_decl.specs.Shown.{FailsInInterface, outlined}
 use Rattle.tp_check_decl.specs.Checked.{IsTypedAs, FailsAt, judged}
 use Rattle.tp_check_decl.proofs.CheckLaws.{lawful, lawful_outlined}
 use Rattle.outcomes.specs.declared.outcome.Outcome.{Outcome}
 use Rattle.outcomes.specs.declared.outcome.Outcome.TheVariants as outcome
 use Rattle.outcomes.specs.declared.refusal.Refusal.TheVariants as refusal
 use Rattle.refusals.specs.Outcomes.{order_outcome, check_outcome, class_outcome}
-use Rattle.source_interfaces.specs.Scopes.{outer_units, known, outer_scope, whole_scope, is_shown, AreThere, AreOnce, IsUnresolved, KnowsNothing}
+use Rattle.source_interfaces.specs.Scopes.{outer_units, outer_scope, is_shown, AreThere, AreOnce, IsUnresolved, KnowsNothing}
 use Rattle.source_interfaces.specs.Kinds.{is_of_kind}
-use Rattle.source_interfaces.specs.Interfaces.{IsShownIn, AreShown, AreInterfaces, IsAcyclic, is_source, lacks, waits, LacksInterface}
+use Rattle.source_interfaces.specs.Interfaces.{IsShownIn, AreInterfaces, IsAcyclic, is_source, lacks}
 use Rattle.source_interfaces.proofs.Uses.{some_is, contrary}
 use Rattle.front_end.specs.Typed.{sources_at, in_order, IsUnitOf, AreUnits, AreLawful, IsProgram}
-use Rattle.front_end.specs.Untyped.{HaveNoInterfaces, LacksUnit, HaveNoUnits, HaveWrongClass, AreUntyped}
-use Rattle.program_laws.specs.Laws.{IsSame, OneProgram, IsFree, IsComplete}
-use Rattle.program_laws.proofs.Sources.{stands, is_source_at, same_name, named_by, shown_some, some_shown}
-use Rattle.program_laws.proofs.Alike.{AreAlike, IsAlike, known_alike, of_source, alike, there_at, split_there}
-use Rattle.program_laws.proofs.Fronts.{outlined_once, judged_once, outer_once, twice_not}
+use Rattle.front_end.specs.Untyped.{HaveNoInterfaces, HaveNoUnits, HaveWrongClass, AreUntyped}
+use Rattle.program_laws.specs.Laws.{OneProgram, IsFree, IsComplete}
+use Rattle.program_laws.proofs.Sources.{stands, is_source_at, named_by, shown_some}
+use Rattle.program_laws.proofs.Alike.{AreAlike, IsAlike, known_alike, judged_alike, of_source, alike, there_at, split_there}
+use Rattle.program_laws.proofs.Fronts.{outlined_once, judged_once, outer_once, outer_get, twice_not}
 
 -- ---- what is told in its place
 
@@ -112,17 +108,34 @@ unit_in have sources (p ∷ places) units place s all among at =
     unit_head have sources (sources_at sources places) place p s (slice_get sources p) (nat_eq place p) (list_any (nat_eq place) places) units at refl all refl among
     (λ us rest later. unit_in have sources places us place s rest later at)
 
+-- units that are there are so for the interface part
+there_outside : (have : List Interface) (s : Source) → AreThere have (used s.tree) → AreThere have (outer_units s)
+there_outside have s there name m =
+    there name (record { place = m.place; used = outer_get (used_in_interface s.tree) (used s.tree) m.place name m.used; absent = m.absent })
+
 -- ---- two lists of units of the same sources
 
 module _ (sources : List Source) (new : AreNew [] sources) (acyclic : IsAcyclic sources) where
-  whole_alike : (a b : List Interface) (s : Source) → AreInterfaces sources a → AreInterfaces sources b → AreThere a (used s.tree) → whole_scope a s ≡ whole_scope b s
-  whole_alike a b s one other there = known_alike a b s.name (used s.tree) (alike sources new a b one.shown other acyclic (used s.tree) there)
+  -- what both know of a source is alike
+  record IsKnownAlike (a b : List Interface) (s : Source) : Type 0 where
+    pub all : AreAlike a b (names_of (used s.tree))
+    pub scope : outer_scope a s ≡ outer_scope b s
+
+  source_alike : (a b : List Interface) (s : Source) → AreInterfaces sources a → AreInterfaces sources b → AreThere a (used s.tree) → IsKnownAlike a b s
+  source_alike a b s one other there = record {
+    all = alike sources new a b one.shown other acyclic (used s.tree) there;
+    scope = known_alike a b s.name (outer_units s) (alike sources new a b one.shown other acyclic (outer_units s) (there_outside a s there));
+  }
+
+  -- a typed unit by the one is so by the other
+  typed_alike : (a b : List Interface) (s : Source) (unit : Whole) → IsKnownAlike a b s → IsTypedAs s.name s.says (outer_scope a s) a s.tree unit → IsTypedAs s.name s.says (outer_scope b s) b s.tree unit
+  typed_alike a b s unit k typed =
+      judged_alike a b s.name s.says (outer_scope b s) s.tree k.all unit (subst (λ (g : Environment). IsTypedAs s.name s.says g a s.tree unit) k.scope typed)
 
   same_unit : (a b : List Interface) (s : Source) (x y : Unit) → AreInterfaces sources a → AreInterfaces sources b → IsUnitOf a s x → IsUnitOf b s y → view_unit x ≡ view_unit y
   same_unit a b s x y one other of_a of_b =
-      let scope = whole_alike a b s one other of_a.there in
-      let moved = subst (λ (g : Environment). IsTypedAs s.name s.says g s.tree (view_unit x)) scope of_a.typed in
-      let law = exact (judged s.name s.says (whole_scope b s)) (lawful s.name s.says (whole_scope b s)) in
+      let moved = typed_alike a b s (view_unit x) (source_alike a b s one other of_a.there) of_a.typed in
+      let law = exact (judged s.name s.says (outer_scope b s) b) (lawful s.name s.says (outer_scope b s) b) in
       law.one s.tree (view_unit x) (view_unit y) moved of_b.typed
 
   same_units : (a b : List Interface) → AreInterfaces sources a → AreInterfaces sources b → (ss : List Source) (xs ys : List Unit) → AllZip (IsUnitOf a) ss xs → AllZip (IsUnitOf b) ss ys → map view_unit xs ≡ map view_unit ys
@@ -248,16 +261,18 @@ module _ (held : Folder) (name : List ℕ) (texts : List Text) (sources : List S
       let at = stands sources s n.lacks.one in
       let among = all_in_order held name texts sources gathers n.lacks.one.0 n.lacks.one.1 in
       let u = unit_in b sources (start_order (all_uses sources) 0) program.units n.lacks.one.0 s is.units.typed among at in
-      let scope = whole_alike sources new is.units.acyclic b n.have s is.units.interfaces n.interfaces u.is.there in
-      let same = alike sources new b n.have is.units.interfaces.shown n.interfaces is.units.acyclic (used s.tree) u.is.there in
-      let once = judged_once s.name s.says (whole_scope b s) s.tree (view_unit u.unit) u.is.typed in
-      let law = exact (judged s.name s.says (whole_scope b s)) (lawful s.name s.says (whole_scope b s)) in
+      let k = source_alike sources new is.units.acyclic b n.have s is.units.interfaces n.interfaces u.is.there in
+      let once = judged_once s.name s.says (outer_scope b s) b s.tree (view_unit u.unit) u.is.typed in
+      let there = there_too b n.have (used s.tree) k.all u.is.there in
+      let typed = typed_alike sources new is.units.acyclic b n.have s (view_unit u.unit) k u.is.typed in
+      let law = exact (judged s.name s.says (outer_scope n.have s) n.have) (lawful s.name s.says (outer_scope n.have s) n.have) in
       elim n.lacks.cause [
-        | inl knows ↦ knows_free texts n.have s.name (used s.tree) result once (there_too b n.have (used s.tree) same u.is.there) knows
+        | inl (inl knows) ↦ knows_free texts n.have s.name (used s.tree) result once there knows
+        | inl (inr knows) ↦
+            knows_free texts n.have s.name (outer_units s) result (outer_once (used_in_interface s.tree) (used s.tree) once) (there_outside n.have s there) knows
         | inr fails ↦
-            subst IsFree (sym fails.is) (told_free texts (FailsAt s.name s.says (whole_scope b s) s.tree) fails.error
-            (λ fault f. law.excludes s.tree (view_unit u.unit) fault u.is.typed f)
-            (subst (λ (g : Environment). Tells (FailsAt s.name s.says g s.tree) fails.error) (sym scope) fails.tells))
+            subst IsFree (sym fails.is) (told_free texts (FailsAt s.name s.says (outer_scope n.have s) n.have s.tree) fails.error
+            (λ fault f. law.excludes s.tree (view_unit u.unit) fault typed f) fails.tells)
       ]
 
   class_is_free : (result : Outcome) → HaveWrongClass sources result → IsFree result

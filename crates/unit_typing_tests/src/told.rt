@@ -74,8 +74,15 @@ fn answer(found: Result<Unit, CheckError>) -> Told {
 // What a source gives, where these interfaces are there.
 fn checked(alloc: Global, one: &Source, have: &[Interface]) -> Result<Told, AllocError> {
     let uses = all_uses(alloc, &one.tree)?;
-    match resolve(alloc, &one.name, uses.as_slice(), have) {
-        Ok(scope) => Ok(answer(check(alloc, &one.name, &one.tree, &one.says, &scope))),
+    if resolve(alloc, &one.name, uses.as_slice(), have).is_err() {
+        return Ok(Told::Unread);
+    }
+    let outer = outer_uses(alloc, &one.tree)?;
+    match resolve(alloc, &one.name, outer.as_slice(), have) {
+        Ok(scope) => {
+            let found = check(alloc, &one.name, &one.tree, &one.says, &scope, have);
+            Ok(answer(found))
+        }
         Err(_) => Ok(Told::Unread),
     }
 }
@@ -132,9 +139,19 @@ pub(crate) fn beside(
     other: &[u8],
     others: &str,
 ) -> Result<Told, AllocError> {
-    let own = interfaces(alloc, name, text, &[])?;
-    let used = interfaces(alloc, other, others, own.as_slice())?;
-    told_of(alloc, name, text, used.as_slice())
+    beside_older(alloc, (name, text), text, (other, others))
+}
+
+/// What a text gives as a file of this name beside another one, of which the interface was made when the file had an older text.
+pub(crate) fn beside_older(
+    alloc: Global,
+    own: (&[u8], &str),
+    older: &str,
+    other: (&[u8], &str),
+) -> Result<Told, AllocError> {
+    let first = interfaces(alloc, own.0, older, &[])?;
+    let used = interfaces(alloc, other.0, other.1, first.as_slice())?;
+    told_of(alloc, own.0, own.1, used.as_slice())
 }
 
 /// How many items a text shows as a file of this name, if it shows any.
