@@ -1,1 +1,1 @@
-begin { no comment yet } Write('x') end.
+begin { a comment } Write('x') end.

@@ -63,7 +63,7 @@ pub single_asks : (result : Option Command) (words : List Text) (word : Text) �
 single_asks None words word is found = tt
 single_asks (Some commands.Help) words word is found = is ∙ ap (λ (w : Text). w ∷ []) found
 single_asks (Some commands.Version) words word is found = is ∙ ap (λ (w : Text). w ∷ []) found
-single_asks (Some (commands.Go name)) words word is found = absurd found
+single_asks (Some (commands.Go name options)) words word is found = absurd found
 single_asks (Some (commands.Run name options)) words word is found = absurd found
 single_asks (Some (commands.Mean name turns)) words word is found = absurd found
 
@@ -71,7 +71,7 @@ pub single_unfit : (result : Option Command) (words : List Text) (word : Text) �
 single_unfit None words word is found fits = refl
 single_unfit (Some commands.Help) words word is found fits = absurd (help_not words (is ∙ ap (λ (w : Text). w ∷ []) found) fits)
 single_unfit (Some commands.Version) words word is found fits = absurd (version_not words (is ∙ ap (λ (w : Text). w ∷ []) found) fits)
-single_unfit (Some (commands.Go name)) words word is found fits = absurd found
+single_unfit (Some (commands.Go name options)) words word is found fits = absurd found
 single_unfit (Some (commands.Run name options)) words word is found fits = absurd found
 single_unfit (Some (commands.Mean name turns)) words word is found fits = absurd found
 

@@ -44,18 +44,15 @@ pub record AreOptions (rows : List Row) (options : RunOptions) : Type 0 where
   pub limit : IsNumberIn 1000000000000000000 (first_of (codes "limit") rows) options.limit
   pub retry : IsNumberIn 40960 (first_of (codes "retry") rows) options.retry
 
-abbrev pub no_options : RunOptions
-no_options = record { buffer = None; limit = None; retry = None }
-
 -- The number of turns was said, or none.
 abbrev pub AreTurns : List Row → Option ℕ → Type 0
 AreTurns rows turns = IsNumberIn 1000000000000000000 (first_of (codes "turns") rows) turns
 
--- The line says `go` and the name of a program, and no option of `run`. A number of turns has no effect.
-pub record IsGoIn (rows : List Row) (name : List ℕ) : Type 0 where
+-- The line says `go`, the name of a program, and options of its run. A number of turns has no effect.
+pub record IsGoIn (rows : List Row) (name : List ℕ) (options : RunOptions) : Type 0 where
   pub command : first_of (codes "command") rows ≡ Some (codes "go")
   pub named : IsNameIn (first_of (codes "name") rows) name
-  pub alone : AreOptions rows no_options
+  pub are : AreOptions rows options
   pub turns : Option ℕ
   pub unused : AreTurns rows turns
 
@@ -76,15 +73,15 @@ pub record IsMeanIn (rows : List Row) (name : List ℕ) (turns : Option ℕ) : T
   pub unused : AreOptions rows options
 
 abbrev pub IsCommandIn : List Row → Command → Type 0
-IsCommandIn rows (commands.Go name) = IsGoIn rows name
+IsCommandIn rows (commands.Go name options) = IsGoIn rows name options
 IsCommandIn rows (commands.Run name options) = IsRunIn rows name options
 IsCommandIn rows (commands.Mean name turns) = IsMeanIn rows name turns
 IsCommandIn rows other = ⊥
 
 -- The words fit the command line and ask for this.
-pub record IsGo (words : List Text) (name : List ℕ) : Type 0 where
+pub record IsGo (words : List Text) (name : List ℕ) (options : RunOptions) : Type 0 where
   pub fits : faults words ≡ []
-  pub says : IsGoIn (said words) name
+  pub says : IsGoIn (said words) name options
 
 pub record IsRun (words : List Text) (name : List ℕ) (options : RunOptions) : Type 0 where
   pub fits : faults words ≡ []
@@ -108,7 +105,7 @@ IsSingle word commands.Version = word ≡ codes "--version"
 IsSingle word other = ⊥
 
 abbrev pub IsCommand : List Text → Command → Type 0
-IsCommand words (commands.Go name) = IsGo words name
+IsCommand words (commands.Go name options) = IsGo words name options
 IsCommand words (commands.Run name options) = IsRun words name options
 IsCommand words (commands.Mean name turns) = IsMean words name turns
 IsCommand words commands.Help = IsHelp words

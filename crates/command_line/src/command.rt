@@ -2,7 +2,7 @@
 
 use type_layout::Name;
 
-/// What the words of `run` say besides the program's name.
+/// What the words of `run` and `go` say besides the program's name.
 #[derive(Clone, Copy, PartialEq, Eq, Debug)]
 pub struct RunOptions {
     /// The paragraphs of the overlay buffer.
@@ -17,7 +17,7 @@ pub struct RunOptions {
 #[derive(Debug, Drop)]
 pub enum Command {
     /// To read, build, write and run this program.
-    Go { name: Name },
+    Go { name: Name, options: RunOptions },
     /// To run this program from its files.
     Run { name: Name, options: RunOptions },
     /// To show what this program means, within so many turns.

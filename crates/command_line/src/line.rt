@@ -91,7 +91,8 @@ fn single_of(words: &[String]) -> Option<Command>
 /// What the words ask for, or None where they ask for nothing that there is.
 pub fn command_of(alloc: Global, words: &[String]) -> Result<Option<Command>, AllocError>
     ensures found { IfOk result (λ command. IfSome command (IsCommand (map string_bytes words.now))) }
-    ensures go { IfOk result (λ command. (name : List ℕ) → IsGo (map string_bytes words.now) name → command ≡ Some (Command.Go name)) }
+    ensures go { IfOk result (λ command. (name : List ℕ) (options : RunOptions) → IsGo (map string_bytes words.now) name options
+        → command ≡ Some (Command.Go name options)) }
     ensures run { IfOk result (λ command. (name : List ℕ) (options : RunOptions) → IsRun (map string_bytes words.now) name options
         → command ≡ Some (Command.Run name options)) }
     ensures mean { IfOk result (λ command. (name : List ℕ) (turns : Option ℕ) → IsMean (map string_bytes words.now) name turns

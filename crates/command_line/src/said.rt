@@ -1,9 +1,9 @@
 //! What a line that fits says.
 
-ghost use Rattle.std.specs.Prelude.{◌≡◌, ◌↔◌, ℕ, true, List, Option, Some, None, IfSome, option_map};
+ghost use Rattle.std.specs.Prelude.{◌≡◌, ℕ, List, Option, Some, None, IfSome, option_map};
 ghost use Rattle.std.specs.List.{list_all};
 ghost use Rattle.clap.specs.Words.{Row, first_of, found_of, rows_of};
-ghost use Rattle.command_line.specs.Words.{is_identifier_byte, IsNamed, IsNumber, IsNumberIn, IsNameIn, AreOptions, no_options, IsGoIn, IsRunIn, IsMeanIn, IsCommandIn};
+ghost use Rattle.command_line.specs.Words.{is_identifier_byte, IsNamed, IsNumber, IsNumberIn, IsNameIn, AreOptions, IsGoIn, IsRunIn, IsMeanIn, IsCommandIn};
 ghost use Rattle.command_line.specs.declared.command.RunOptions.{RunOptions};
 ghost use Rattle.command_line.specs.declared.command.Command.{Command};
 
@@ -100,7 +100,7 @@ fn paragraphs_in(word: Option<&str>) -> Option<Option<u16>>
     }
 }
 
-/// The options of `run` that were said.
+/// The options of a run that were said.
 fn options_in(matches: &ArgMatches<'_>) -> Option<RunOptions>
     ensures found { IfSome result (AreOptions (rows_of (found_of matches.now))) }
     ensures only { (options : RunOptions) → AreOptions (rows_of (found_of matches.now)) options → result ≡ Some options }
@@ -115,16 +115,10 @@ fn options_in(matches: &ArgMatches<'_>) -> Option<RunOptions>
     })
 }
 
-fn is_none(options: RunOptions) -> bool
-    ensures { result ≡ true ↔ (options ≡ no_options) }
-{
-    options.buffer.is_none() && options.limit.is_none() && options.retry.is_none()
-}
-
 /// What the line says. Options that its command does not use have no effect, but each must be well said.
 pub fn command_in(matches: &ArgMatches<'_>) -> Option<Command>
     ensures found { IfSome result (IsCommandIn (rows_of (found_of matches.now))) }
-    ensures go { (name : List ℕ) → IsGoIn (rows_of (found_of matches.now)) name → result ≡ Some (Command.Go name) }
+    ensures go { (name : List ℕ) (options : RunOptions) → IsGoIn (rows_of (found_of matches.now)) name options → result ≡ Some (Command.Go name options) }
     ensures mean { (name : List ℕ) (turns : Option ℕ) → IsMeanIn (rows_of (found_of matches.now)) name turns → result ≡ Some (Command.Mean name turns) }
     ensures run { (name : List ℕ) (options : RunOptions) → IsRunIn (rows_of (found_of matches.now)) name options → result ≡ Some (Command.Run name options) }
 {
@@ -138,8 +132,8 @@ pub fn command_in(matches: &ArgMatches<'_>) -> Option<Command>
     if command == "mean" {
         return Some(Command::Mean { name, turns });
     }
-    if command == "go" && is_none(options) {
-        return Some(Command::Go { name });
+    if command == "go" {
+        return Some(Command::Go { name, options });
     }
     None
 }

@@ -1,228 +1,184 @@
 -- From what `go` does, and the last line, to what the top call promises.
-use Rattle.std.proofs.Common.{◌≡◌, inl, inr, ℕ, ◌≤◌, List, [], length, Option, Some, None, sym, ap, ◌∙◌, subst, arith}
-use Rattle.std.specs.Prelude.{IfSome, unwrap_or}
+use Rattle.std.proofs.Common.{◌≡◌, ◌⊎◌, inl, inr, refl, ℕ, ◌≤◌, ◌<◌, List, Option, Some, None, sym, ap, ◌∙◌, subst, arith}
+use Rattle.std.specs.Prelude.{IfSome}
 use Rattle.std.specs.Io.KnownBytes.{append_known}
 use Rattle.tp_outside.specs.Faults.{HasRisen}
-use Rattle.tp_outside.specs.Folder.{Folder}
-use Rattle.tp_outside.specs.Streams.{TakesPrefix}
-use Rattle.std.proofs.Math.Seq.{take-length}
+use Rattle.tp_outside.specs.Folder.{Folder, with_known_file}
+use Rattle.behaviour.specs.Seen.{Seen}
+use Rattle.typed_tree.specs.declared.units.Program.{Program}
+use Rattle.front_end.specs.Typed.{IsProgramIn}
+use Rattle.front_end.specs.Untyped.{IsRefusing, IsNoProgram}
+use Rattle.literal_programs.specs.Literals.{IsLiteral}
 use Rattle.dos_runner.specs.declared.runner.RunEnd.{RunEnd}
-use Rattle.tp_outside.proofs.Known.{append_known-nil}
-use Rattle.literal_form.specs.Source.{IsSource}
-use Rattle.literal_form.specs.Statement.{Statement, mean}
 use Rattle.dos_runner.specs.declared.runner.RunEnd.TheVariants as ends
 use Rattle.dos_runner.specs.Outside.{Outside}
-use Rattle.commands.specs.declared.names.FileKind.TheVariants.{Source}
-use Rattle.source_gathering.specs.declared.error.At.{At}
-use Rattle.tp_lexer.specs.declared.token.Feature.{Feature}
+use Rattle.overlay_runner.specs.Event.{Rises}
 use Rattle.outcomes.specs.declared.refusal.Refusal.{Refusal}
 use Rattle.outcomes.specs.declared.refusal.Refusal.TheVariants as refusal
 use Rattle.outcomes.specs.declared.outcome.Outcome.{Outcome}
 use Rattle.outcomes.specs.declared.outcome.Outcome.TheVariants as outcome
-use Rattle.commands.specs.Files.{file_of}
 use Rattle.outcomes.specs.Line.{line_of}
-use Rattle.commands.specs.World.{World, Holds, Lacks, IsUntouched}
-use Rattle.commands.specs.Go.{Goes, Says, Ran, SaysNothing}
-use Rattle.commands.specs.Turbo.{IsAsked, Headline, IsWritten, Written, Complete, Faults, GoRefused, Refuses, Fronts, FilesAfter, TookErrors, EndsWithLine, WroteItsLine, Unchanged}
-use Rattle.commands.proofs.RanLaws.{statements_same, stands_there, concluded, no_limit}
-use Rattle.commands.proofs.WordLaws.{go_once, not_both}
-
--- The world after more was written to the errors.
-abbrev pub told : World → Option (List ℕ) → ℕ → World
-told w errors faults = record w { streams = record w.streams { errors = errors; errors_faults = faults } }
-
-abbrev pub IsFound : Option (List ℕ) → Type 0
-IsFound None = ⊥
-IsFound (Some found) = Unit {0}
-
-abbrev pub IsProgram : Outcome → Type 0
-IsProgram (outcome.Program code) = Unit {0}
-IsProgram other = ⊥
-
-abbrev pub code_in : Outcome → ℕ
-code_in (outcome.Program code) = code
-code_in other = 0
-
--- the first place of a program's source
-abbrev pub front_of : List ℕ → At
-front_of name = record { file = file_of name Source; line = 1; column = 1 }
-
-pub missing_not : (folder : Option Folder) (file text : List ℕ) → Holds folder file text → IfSome folder (λ held. held file ≡ None) → ⊥
-missing_not None file text held lacks = held
-missing_not (Some folder) file text held lacks = let e : Some text ≡ None = sym held ∙ lacks in absurd (subst IsFound e tt)
-
-nothing_not : (folder : Option Folder) (file text : List ℕ) (statements : List Statement) → Holds folder file text → IsSource text statements → SaysNothing folder file → ⊥
-nothing_not None file text statements held source says = held
-nothing_not (Some folder) file text statements held source says =
-    let texts : text ≡ says.0 = ap (λ found. unwrap_or found []) (sym held ∙ says.1) in
-    let P : List ℕ → Type 0 = λ t. IsSource t statements in
-    says.2 statements (subst P texts source)
+use Rattle.command_line.specs.declared.command.RunOptions.{RunOptions}
+use Rattle.command_line.specs.Words.{IsGo}
+use Rattle.commands.specs.declared.names.FileKind.TheVariants.{Source, Executable}
+use Rattle.commands.specs.Ending.{outcome_of}
+use Rattle.commands.specs.Files.{file_of}
+use Rattle.commands.specs.Go.{IsOfOtherForm, IsBuiltFrom, CannotBegin, IsNotBuilt, IsNotGone, GaveNoRun, RanBuilt, WentTo, GoDid}
+use Rattle.commands.specs.Performs.{DidGo}
+use Rattle.commands.specs.Run.{limit_of}
+use Rattle.commands.specs.Turbo.{Headline, HasRun, HoldsExecutable, IsWritten, Written, IsGoEnd, IsFaultOrNoMemory, Complete, Faults, GoRefused, HoldsNoLiteral, IsOutside, Refuses, TookFront, Fronts, FilesAfter, TookErrors, Unchanged, WroteItsLine}
+use Rattle.commands.specs.World.{World, Lacks, IsUntouched}
+use Rattle.commands.proofs.AbsentLaws.{never_gathered, no_source}
+use Rattle.commands.proofs.RanLaws.{told, limited, not_stopped, stands_there, written_there, front_of_output, front_of_errors}
+use Rattle.commands.proofs.WordLaws.{not_both}
 
 pub still_risen : (old mid new : ℕ) → HasRisen old mid → mid ≤ new → HasRisen old new
 still_risen old mid new (inl rose) rises = inl (omega arith)
 still_risen old mid new (inr full) rises = inr (omega arith)
 
-pub headline : (result : Outcome) (words : List (List ℕ)) (old mid : World) (errors : Option (List ℕ)) (faults : ℕ) → Goes result words old mid → Headline words old (told mid errors faults) result
-headline (outcome.Program code) words old mid errors faults did = λ name statements asked run. stands_there (ends.Ended code) words old mid name statements did asked
-headline (outcome.InstructionLimit taken) words old mid errors faults did = λ name statements asked run. stands_there (ends.Limit taken) words old mid name statements did asked
-headline (outcome.Stopped cs ip why) words old mid errors faults did = λ name statements asked run. stands_there (ends.Stopped cs ip why) words old mid name statements did asked
-headline (outcome.Refused r) words old mid errors faults did = λ name statements asked run. absurd run
-headline outcome.InputFault words old mid errors faults did = λ name statements asked run. stands_there ends.InputFault words old mid name statements did asked
-headline outcome.OutputFault words old mid errors faults did = λ name statements asked run. stands_there ends.OutputFault words old mid name statements did asked
-headline outcome.ErrorsFault words old mid errors faults did = λ name statements asked run. absurd run
-headline outcome.FilesFault words old mid errors faults did = λ name statements asked run. absurd run
-headline outcome.TurnLimit words old mid errors faults did = absurd did
-headline (outcome.Undefined act) words old mid errors faults did = absurd did
-headline outcome.Stuck words old mid errors faults did = absurd did
-headline outcome.Done words old mid errors faults did = absurd did
-headline outcome.NoMemory words old mid errors faults did = λ name statements asked run. absurd run
+-- ---- refusals are no ends of runs
 
-ended : (code : ℕ) (words : List (List ℕ)) (old mid : World) (name : List ℕ) (statements : List Statement) → Ran (ends.Ended code) words old mid → IsAsked words old name statements → IsWritten statements code old mid
-ended code words old mid name statements r asked =
-    let same = statements_same (ends.Ended code) words old mid name statements r asked in
-    let told = concluded (ends.Ended code) words old mid r in
-    let P : List Statement → Type 0 = λ s. IsWritten s code old mid in
-    subst P same (record { ended = told.0; output = told.1; errors = told.2 })
+abbrev pub IsRefusal : Outcome → Type 0
+IsRefusal (outcome.Refused r) = Unit {0}
+IsRefusal other = ⊥
 
-written_so : (code : ℕ) (statements : List Statement) (old mid : World) (errors : Option (List ℕ)) (faults : ℕ) → errors ≡ append_known mid.streams.errors [] → IsWritten statements code old mid → IsWritten statements code old (told mid errors faults)
-written_so code statements old mid errors faults line w = record { ended = w.ended; output = w.output; errors = line ∙ append_known-nil mid.streams.errors ∙ w.errors }
+pub no_refusal : (end : RunEnd) → IsRefusal (outcome_of end) → ⊥
+no_refusal (ends.Ended code) is = is
+no_refusal (ends.Limit taken) is = is
+no_refusal (ends.Stopped cs ip why) is = is
+no_refusal ends.InputFault is = is
+no_refusal ends.OutputFault is = is
+no_refusal ends.ErrorsFault is = is
+no_refusal ends.FilesFault is = is
 
-pub written : (result : Outcome) (words : List (List ℕ)) (old mid : World) (errors : Option (List ℕ)) (faults : ℕ) → Goes result words old mid → errors ≡ append_known mid.streams.errors (line_of result) → Written words old (told mid errors faults) result
-written (outcome.Program exit) words old mid errors faults did line = λ name statements code asked is.
-    let same : exit ≡ code = ap code_in is in
-    let P : ℕ → Type 0 = λ c. IsWritten statements c old (told mid errors faults) in
-    subst P same (written_so exit statements old mid errors faults line (ended exit words old mid name statements did asked))
-written (outcome.InstructionLimit taken) words old mid errors faults did line = λ name statements code asked is. absurd (no_limit taken words old mid did)
-written (outcome.Stopped cs ip why) words old mid errors faults did line = λ name statements code asked is. absurd (concluded (ends.Stopped cs ip why) words old mid did)
-written (outcome.Refused r) words old mid errors faults did line = λ name statements code asked is. absurd (subst IsProgram (sym is) tt)
-written outcome.InputFault words old mid errors faults did line = λ name statements code asked is. absurd (subst IsProgram (sym is) tt)
-written outcome.OutputFault words old mid errors faults did line = λ name statements code asked is. absurd (subst IsProgram (sym is) tt)
-written outcome.ErrorsFault words old mid errors faults did line = λ name statements code asked is. absurd (subst IsProgram (sym is) tt)
-written outcome.FilesFault words old mid errors faults did line = λ name statements code asked is. absurd (subst IsProgram (sym is) tt)
-written outcome.TurnLimit words old mid errors faults did line = absurd did
-written (outcome.Undefined act) words old mid errors faults did line = absurd did
-written outcome.Stuck words old mid errors faults did line = absurd did
-written outcome.Done words old mid errors faults did line = absurd did
-written outcome.NoMemory words old mid errors faults did line = λ name statements code asked is. absurd (subst IsProgram (sym is) tt)
+-- ---- the headline
 
--- a source that is asked for gives a program
-never_missing : (words : List (List ℕ)) (old : World) (name : List ℕ) (statements : List Statement) (file : List ℕ) → IsAsked words old name statements → IfSome old.folder (λ held. held (file_of name Source) ≡ None) → ⊥
-never_missing words old name statements file asked lacks = missing_not old.folder (file_of name Source) asked.text asked.held lacks
+gone_not : (result : Outcome) (name : List ℕ) (buffer : Option ℕ) (folder : Option Folder) (old new : ℕ) → IsNotGone result name buffer folder old new → HasRun result → ⊥
+gone_not (outcome.Refused r) name buffer folder old new reason has = has
+gone_not outcome.FilesFault name buffer folder old new reason has = has
+gone_not outcome.NoMemory name buffer folder old new reason has = has
+gone_not other name buffer folder old new reason has = reason
 
-pub complete : (result : Outcome) (words : List (List ℕ)) (old mid : World) (errors : Option (List ℕ)) (faults : ℕ) → Goes result words old mid → old.streams.errors_faults ≤ mid.streams.errors_faults → mid.streams.errors_faults ≤ faults → Complete words old (told mid errors faults) result
-complete (outcome.Program exit) words old mid errors faults did rise rises = λ name statements asked.
-    inl (ap (λ c. outcome.Program c) (ended exit words old mid name statements did asked).ended)
-complete (outcome.InstructionLimit taken) words old mid errors faults did rise rises = λ name statements asked. absurd (no_limit taken words old mid did)
-complete (outcome.Stopped cs ip why) words old mid errors faults did rise rises = λ name statements asked. absurd (concluded (ends.Stopped cs ip why) words old mid did)
-complete (outcome.Refused (refusal.MissingFile file)) words old mid errors faults did rise rises = λ name statements asked.
-    let same = go_once words did.name name did.named asked.named in
-    let P : List ℕ → Type 0 = λ n. IfSome old.folder (λ held. held (file_of n Source) ≡ None) in
-    absurd (never_missing words old name statements file asked (subst P same did.reason.1))
-complete (outcome.Refused (refusal.NotInProfile at feature)) words old mid errors faults did rise rises = λ name statements asked.
-    let same = go_once words did.name name did.named asked.named in
-    let P : List ℕ → Type 0 = λ n. SaysNothing old.folder (file_of n Source) in
-    absurd (nothing_not old.folder (file_of name Source) asked.text statements asked.held asked.source (subst P same did.reason.2))
-complete (outcome.Refused other) words old mid errors faults did rise rises = absurd did.reason
-complete outcome.InputFault words old mid errors faults did rise rises = λ name statements asked. inr did.run.run.rose
-complete outcome.OutputFault words old mid errors faults did rise rises = λ name statements asked. inr did.run.run.rose
-complete outcome.ErrorsFault words old mid errors faults did rise rises = λ name statements asked. inr (still_risen old.streams.errors_faults mid.streams.errors_faults faults did.run.run.rose rises)
-complete outcome.FilesFault words old mid errors faults did rise rises = λ name statements asked. inr did.0
-complete outcome.TurnLimit words old mid errors faults did rise rises = absurd did
-complete (outcome.Undefined act) words old mid errors faults did rise rises = absurd did
-complete outcome.Stuck words old mid errors faults did rise rises = absurd did
-complete outcome.Done words old mid errors faults did rise rises = absurd did
-complete outcome.NoMemory words old mid errors faults did rise rises = λ name statements asked. inr tt
+pub headline : (result : Outcome) (words : List (List ℕ)) (old mid : World) (errors : Option (List ℕ)) (faults : ℕ) → DidGo result words old mid → Headline words old (told mid errors faults) result
+headline result words old mid errors faults went = λ name options asked has. by name options has (went.did name options asked)
+  where
+    by : (name : List ℕ) (options : RunOptions) → HasRun result → GoDid result name options old mid → IfSome old.folder (λ held. HoldsExecutable held mid.folder name)
+    by name options has (inl gave) = absurd (gone_not result name options.buffer old.folder old.files_faults mid.files_faults gave.reason has)
+    by name options has (inr ran) = stands_there old.folder mid.folder ran.0 name ran.2.bytes options old.streams mid.streams ran.2.run ran.2.written
 
-pub fault : (result : Outcome) (words : List (List ℕ)) (old mid : World) (errors : Option (List ℕ)) (faults : ℕ) → Goes result words old mid → mid.streams.errors_faults ≤ faults → Faults old (told mid errors faults) result
-fault outcome.InputFault words old mid errors faults did rises = did.run.run.rose
-fault outcome.OutputFault words old mid errors faults did rises = did.run.run.rose
-fault outcome.ErrorsFault words old mid errors faults did rises = still_risen old.streams.errors_faults mid.streams.errors_faults faults did.run.run.rose rises
-fault outcome.FilesFault words old mid errors faults did rises = did.0
-fault outcome.TurnLimit words old mid errors faults did rises = absurd did
-fault (outcome.Undefined act) words old mid errors faults did rises = absurd did
-fault outcome.Stuck words old mid errors faults did rises = absurd did
-fault outcome.Done words old mid errors faults did rises = absurd did
-fault outcome.NoMemory words old mid errors faults did rises = tt
-fault (outcome.Program exit) words old mid errors faults did rises = tt
-fault (outcome.InstructionLimit taken) words old mid errors faults did rises = tt
-fault (outcome.Stopped cs ip why) words old mid errors faults did rises = tt
-fault (outcome.Refused r) words old mid errors faults did rises = tt
+-- ---- what was written
 
-pub refused : (r : Refusal) (words : List (List ℕ)) (old mid : World) → Goes (outcome.Refused r) words old mid → GoRefused words old r
-refused (refusal.MissingFile file) words old mid did = λ name named.
-    let same = go_once words did.name name did.named named in
-    let P : List ℕ → Type 0 = λ f. IfSome old.folder (λ held. held f ≡ None) in
-    (did.reason.0 ∙ ap (λ n. file_of n Source) same, λ text held. missing_not old.folder file text held (subst P (sym did.reason.0) did.reason.1))
-refused (refusal.NotInProfile at feature) words old mid did = λ name named.
-    let same = go_once words did.name name did.named named in
-    let P : List ℕ → Type 0 = λ n. SaysNothing old.folder (file_of n Source) in
-    (did.reason.0 ∙ ap front_of same, did.reason.1, λ text statements held source. nothing_not old.folder (file_of name Source) text statements held source (subst P same did.reason.2))
-refused other words old mid did = absurd did.reason
+ended : (end : RunEnd) (name : List ℕ) (options : RunOptions) (old mid : World) (errors : Option (List ℕ)) (faults code : ℕ) → WentTo end name options old mid → errors ≡ append_known mid.streams.errors (line_of (outcome_of end))
+    → outcome_of end ≡ outcome.Program code → IfSome old.folder (λ held. IsWritten held name (outcome_of end) old (told mid errors faults))
+ended (ends.Ended exit) name options old mid errors faults code ran line is = written_there old.folder name ran.bytes options old mid errors faults exit ran.run line
+ended (ends.Limit taken) name options old mid errors faults code ran line is = absurd cc
+ended (ends.Stopped cs ip why) name options old mid errors faults code ran line is = absurd cc
+ended ends.InputFault name options old mid errors faults code ran line is = absurd cc
+ended ends.OutputFault name options old mid errors faults code ran line is = absurd cc
+ended ends.ErrorsFault name options old mid errors faults code ran line is = absurd cc
+ended ends.FilesFault name options old mid errors faults code ran line is = absurd cc
 
-pub all_taken : (old new : Option (List ℕ)) (out : List ℕ) → new ≡ append_known old out → TakesPrefix old new out
-all_taken old new out e = record { count = length out; within = omega arith; taken = e ∙ ap (append_known old) (sym (take-length out)) }
+pub written : (result : Outcome) (words : List (List ℕ)) (old mid : World) (errors : Option (List ℕ)) (faults : ℕ) → DidGo result words old mid → errors ≡ append_known mid.streams.errors (line_of result)
+    → Written words old (told mid errors faults) result
+written result words old mid errors faults went line = λ name options code asked is. by name options code is (went.did name options asked)
+  where
+    by : (name : List ℕ) (options : RunOptions) (code : ℕ) → result ≡ outcome.Program code → GoDid result name options old mid → IfSome old.folder (λ held. IsWritten held name result old (told mid errors faults))
+    by name options code is (inl gave) = absurd (subst (λ (o : Outcome). IsNotGone o name options.buffer old.folder old.files_faults mid.files_faults) is gave.reason)
+    by name options code is (inr ran) =
+        subst (λ (o : Outcome). IfSome old.folder (λ held. IsWritten held name o old (told mid errors faults))) (sym ran.1)
+        (ended ran.0 name options old mid errors faults code ran.2 (line ∙ ap (λ (o : Outcome). append_known mid.streams.errors (line_of o)) ran.1) (sym ran.1 ∙ is))
 
--- what both sinks took, before the line
-pub record TookFronts (statements : List Statement) (old mid : World) : Type 0 where
-  pub output : TakesPrefix old.streams.output mid.streams.output (mean statements).out
-  pub errors : TakesPrefix old.streams.errors mid.streams.errors (mean statements).err
+-- ---- how it ends
 
-none_taken : (old new : Option (List ℕ)) (out : List ℕ) → new ≡ old → TakesPrefix old new out
-none_taken old new out e = record { count = 0; within = omega arith; taken = e ∙ sym (append_known-nil old) }
+gone_complete : (folder : Option Folder) (result : Outcome) (name : List ℕ) (options : RunOptions) (old mid : World) (errors : Option (List ℕ)) (faults : ℕ) → IsNotGone result name options.buffer folder old.files_faults mid.files_faults
+    → IfSome folder (λ held. IsGoEnd held name options result ⊎ IsFaultOrNoMemory result old (told mid errors faults))
+gone_complete None result name options old mid errors faults reason = tt
+gone_complete (Some held) (outcome.Refused r) name options old mid errors faults reason = inl reason.1
+gone_complete (Some held) outcome.FilesFault name options old mid errors faults reason = inr reason
+gone_complete (Some held) outcome.NoMemory name options old mid errors faults reason = inr tt
+gone_complete (Some held) other name options old mid errors faults reason = absurd reason
 
-untouched_fronts : (statements : List Statement) (old mid : World) → IsUntouched old mid → TookFronts statements old mid
-untouched_fronts statements old mid same = record {
-  output = none_taken old.streams.output mid.streams.output (mean statements).out (ap (λ (o : Outside). o.output) same.streams);
-  errors = none_taken old.streams.errors mid.streams.errors (mean statements).err (ap (λ (o : Outside). o.errors) same.streams);
-}
+ran_complete : (folder : Option Folder) (end : RunEnd) (name bytes : List ℕ) (options : RunOptions) (old mid : World) (errors : Option (List ℕ)) (faults : ℕ) → IfSome folder (λ held. RanBuilt held end name bytes options old.streams mid.streams)
+    → Rises (Some end) old.streams mid.streams old.files_faults mid.files_faults → mid.streams.errors_faults ≤ faults
+    → IfSome folder (λ held. IsGoEnd held name options (outcome_of end) ⊎ IsFaultOrNoMemory (outcome_of end) old (told mid errors faults))
+ran_complete None end name bytes options old mid errors faults ran rises counted = tt
+ran_complete (Some held) (ends.Ended code) name bytes options old mid errors faults ran rises counted = inl tt
+ran_complete (Some held) (ends.Limit taken) name bytes options old mid errors faults ran rises counted =
+    inl (limited ran.built.program bytes ran.built.does (limit_of options) ran.last old.streams mid.streams taken ran.run)
+ran_complete (Some held) (ends.Stopped cs ip why) name bytes options old mid errors faults ran rises counted =
+    absurd (not_stopped ran.built.program bytes ran.built.does (limit_of options) ran.last old.streams mid.streams cs ip why ran.run)
+ran_complete (Some held) ends.InputFault name bytes options old mid errors faults ran rises counted = inr rises
+ran_complete (Some held) ends.OutputFault name bytes options old mid errors faults ran rises counted = inr rises
+ran_complete (Some held) ends.ErrorsFault name bytes options old mid errors faults ran rises counted = inr (still_risen old.streams.errors_faults mid.streams.errors_faults faults rises counted)
+ran_complete (Some held) ends.FilesFault name bytes options old mid errors faults ran rises counted = absurd ran.run.run.leaves
 
-asked_fronts : (end : RunEnd) (words : List (List ℕ)) (old mid : World) (name : List ℕ) (statements : List Statement) (r : Ran end words old mid) → IsAsked words old name statements → TookFronts r.statements old mid → TookFronts statements old mid
-asked_fronts end words old mid name statements r asked took =
-    let P : List Statement → Type 0 = λ s. TookFronts s old mid in
-    subst P (statements_same end words old mid name statements r asked) took
+pub complete : (result : Outcome) (words : List (List ℕ)) (old mid : World) (errors : Option (List ℕ)) (faults : ℕ) → DidGo result words old mid → mid.streams.errors_faults ≤ faults → Complete words old (told mid errors faults) result
+complete result words old mid errors faults went counted = λ name options asked. by name options (went.did name options asked)
+  where
+    by : (name : List ℕ) (options : RunOptions) → GoDid result name options old mid → IfSome old.folder (λ held. IsGoEnd held name options result ⊎ IsFaultOrNoMemory result old (told mid errors faults))
+    by name options (inl gave) = gone_complete old.folder result name options old mid errors faults gave.reason
+    by name options (inr ran) =
+        subst (λ (o : Outcome). IfSome old.folder (λ held. IsGoEnd held name options o ⊎ IsFaultOrNoMemory o old (told mid errors faults))) (sym ran.1)
+        (ran_complete old.folder ran.0 name ran.2.bytes options old mid errors faults ran.2.run ran.2.rises counted)
 
-pub took : (result : Outcome) (words : List (List ℕ)) (old mid : World) → Goes result words old mid → (name : List ℕ) (statements : List Statement) → IsAsked words old name statements → TookFronts statements old mid
-took (outcome.Program code) words old mid did name statements asked =
-    let all = concluded (ends.Ended code) words old mid did in
-    asked_fronts (ends.Ended code) words old mid name statements did asked (record {
-      output = all_taken old.streams.output mid.streams.output (mean did.statements).out all.1;
-      errors = all_taken old.streams.errors mid.streams.errors (mean did.statements).err all.2;
-    })
-took (outcome.InstructionLimit taken) words old mid did name statements asked = absurd (no_limit taken words old mid did)
-took (outcome.Stopped cs ip why) words old mid did name statements asked = absurd (concluded (ends.Stopped cs ip why) words old mid did)
-took (outcome.Refused (refusal.MissingFile file)) words old mid did name statements asked = untouched_fronts statements old mid did.untouched
-took (outcome.Refused (refusal.NotInProfile at feature)) words old mid did name statements asked = untouched_fronts statements old mid did.untouched
-took (outcome.Refused other) words old mid did name statements asked = absurd did.reason
-took outcome.InputFault words old mid did name statements asked = let f = concluded ends.InputFault words old mid did in asked_fronts ends.InputFault words old mid name statements did asked (record { output = f.output; errors = f.errors })
-took outcome.OutputFault words old mid did name statements asked = let f = concluded ends.OutputFault words old mid did in asked_fronts ends.OutputFault words old mid name statements did asked (record { output = f.output; errors = f.errors })
-took outcome.ErrorsFault words old mid did name statements asked = let f = concluded ends.ErrorsFault words old mid did in asked_fronts ends.ErrorsFault words old mid name statements did asked (record { output = f.output; errors = f.errors })
-took outcome.FilesFault words old mid did name statements asked = untouched_fronts statements old mid did.1
-took outcome.TurnLimit words old mid did name statements asked = absurd did
-took (outcome.Undefined act) words old mid did name statements asked = absurd did
-took outcome.Stuck words old mid did name statements asked = absurd did
-took outcome.Done words old mid did name statements asked = absurd did
-took outcome.NoMemory words old mid did name statements asked = untouched_fronts statements old mid did
+-- ---- faults
 
-pub fronts : (result : Outcome) (words : List (List ℕ)) (old mid : World) (errors : Option (List ℕ)) (faults : ℕ) → Goes result words old mid → Fronts words old (told mid errors faults)
-fronts result words old mid errors faults did = λ name statements asked. (took result words old mid did name statements asked).output
+-- a fault was counted by what it names
+pub ran_fault : (end : RunEnd) (old mid : World) (errors : Option (List ℕ)) (faults : ℕ) → Rises (Some end) old.streams mid.streams old.files_faults mid.files_faults → mid.streams.errors_faults ≤ faults → Faults old (told mid errors faults) (outcome_of end)
+ran_fault (ends.Ended code) old mid errors faults rises counted = tt
+ran_fault (ends.Limit taken) old mid errors faults rises counted = tt
+ran_fault (ends.Stopped cs ip why) old mid errors faults rises counted = tt
+ran_fault ends.InputFault old mid errors faults rises counted = rises
+ran_fault ends.OutputFault old mid errors faults rises counted = rises
+ran_fault ends.ErrorsFault old mid errors faults rises counted = still_risen old.streams.errors_faults mid.streams.errors_faults faults rises counted
+ran_fault ends.FilesFault old mid errors faults rises counted = rises
 
-pub took_errors : (result : Outcome) (words : List (List ℕ)) (old mid : World) → Goes result words old mid → TookErrors words old mid.streams.errors
-took_errors result words old mid did = λ name statements asked. (took result words old mid did name statements asked).errors
+gone_fault : (result : Outcome) (name : List ℕ) (buffer : Option ℕ) (old mid : World) (errors : Option (List ℕ)) (faults : ℕ) → IsNotGone result name buffer old.folder old.files_faults mid.files_faults → Faults old (told mid errors faults) result
+gone_fault (outcome.Refused r) name buffer old mid errors faults reason = tt
+gone_fault outcome.FilesFault name buffer old mid errors faults reason = reason
+gone_fault outcome.NoMemory name buffer old mid errors faults reason = tt
+gone_fault other name buffer old mid errors faults reason = absurd reason
 
-pub ends_with_line : (result : Outcome) (words : List (List ℕ)) (old mid : World) (errors : Option (List ℕ)) (faults : ℕ) → Goes result words old mid → errors ≡ append_known mid.streams.errors (line_of result) → EndsWithLine words old (told mid errors faults) result
-ends_with_line (outcome.Program code) words old mid errors faults did line = (mid.streams.errors, line, took_errors (outcome.Program code) words old mid did)
-ends_with_line (outcome.InstructionLimit taken) words old mid errors faults did line = (mid.streams.errors, line, took_errors (outcome.InstructionLimit taken) words old mid did)
-ends_with_line (outcome.Stopped cs ip why) words old mid errors faults did line = (mid.streams.errors, line, took_errors (outcome.Stopped cs ip why) words old mid did)
-ends_with_line (outcome.Refused r) words old mid errors faults did line = (mid.streams.errors, line, took_errors (outcome.Refused r) words old mid did)
-ends_with_line outcome.InputFault words old mid errors faults did line = (mid.streams.errors, line, took_errors outcome.InputFault words old mid did)
-ends_with_line outcome.OutputFault words old mid errors faults did line = (mid.streams.errors, line, took_errors outcome.OutputFault words old mid did)
-ends_with_line outcome.ErrorsFault words old mid errors faults did line = tt
-ends_with_line outcome.FilesFault words old mid errors faults did line = (mid.streams.errors, line, took_errors outcome.FilesFault words old mid did)
-ends_with_line outcome.TurnLimit words old mid errors faults did line = absurd did
-ends_with_line (outcome.Undefined act) words old mid errors faults did line = absurd did
-ends_with_line outcome.Stuck words old mid errors faults did line = absurd did
-ends_with_line outcome.Done words old mid errors faults did line = absurd did
-ends_with_line outcome.NoMemory words old mid errors faults did line = (mid.streams.errors, line, took_errors outcome.NoMemory words old mid did)
+pub fault : (result : Outcome) (name : List ℕ) (options : RunOptions) (old mid : World) (errors : Option (List ℕ)) (faults : ℕ) → GoDid result name options old mid → mid.streams.errors_faults ≤ faults → Faults old (told mid errors faults) result
+fault result name options old mid errors faults (inl gave) counted = gone_fault result name options.buffer old mid errors faults gave.reason
+fault result name options old mid errors faults (inr ran) counted = subst (λ (o : Outcome). Faults old (told mid errors faults) o) (sym ran.1) (ran_fault ran.0 old mid errors faults ran.2.rises counted)
+
+-- ---- refusals
+
+reason : (r : Refusal) (name : List ℕ) (options : RunOptions) (old mid : World) → GoDid (outcome.Refused r) name options old mid
+    → IsRefusing (outcome.Refused r) × IfSome old.folder (λ held. IsNotBuilt held name options.buffer r)
+reason r name options old mid (inl gave) = gave.reason
+reason r name options old mid (inr ran) = absurd (no_refusal ran.0 (subst IsRefusal ran.1 tt))
+
+pub refused : (r : Refusal) (words : List (List ℕ)) (old mid : World) → DidGo (outcome.Refused r) words old mid → GoRefused words old r
+refused refusal.Usage words old mid went = λ name options asked. (reason refusal.Usage name options old mid (went.did name options asked)).0
+refused r words old mid went = λ name options asked. (reason r name options old mid (went.did name options asked)).1
+
+-- ---- what the sinks took
+
+pub no_output : (folder : Option Folder) (name : List ℕ) (before after : Option (List ℕ)) → after ≡ before → IfSome folder (λ held. TookFront held name (λ (seen : Seen). seen.out) before after)
+no_output None name before after same = tt
+no_output (Some held) name before after same = inl same
+
+pub fronts : (result : Outcome) (words : List (List ℕ)) (old mid : World) (errors : Option (List ℕ)) (faults : ℕ) → DidGo result words old mid → Fronts words old (told mid errors faults)
+fronts result words old mid errors faults went = λ name options asked. by name options (went.did name options asked)
+  where
+    by : (name : List ℕ) (options : RunOptions) → GoDid result name options old mid → IfSome old.folder (λ held. TookFront held name (λ (seen : Seen). seen.out) old.streams.output mid.streams.output)
+    by name options (inl gave) = no_output old.folder name old.streams.output mid.streams.output (ap (λ (o : Outside). o.output) gave.untouched.streams)
+    by name options (inr ran) = front_of_output old.folder ran.0 name ran.2.bytes options old.streams mid.streams ran.2.run
+
+pub no_errors : (folder : Option Folder) (name : List ℕ) (before after : Option (List ℕ)) → after ≡ before → IfSome folder (λ held. TookFront held name (λ (seen : Seen). seen.err) before after)
+no_errors None name before after same = tt
+no_errors (Some held) name before after same = inl same
+
+pub took_errors : (result : Outcome) (words : List (List ℕ)) (old mid : World) → DidGo result words old mid → TookErrors words old mid.streams.errors
+took_errors result words old mid went = λ name options asked. by name options (went.did name options asked)
+  where
+    by : (name : List ℕ) (options : RunOptions) → GoDid result name options old mid → IfSome old.folder (λ held. TookFront held name (λ (seen : Seen). seen.err) old.streams.errors mid.streams.errors)
+    by name options (inl gave) = no_errors old.folder name old.streams.errors mid.streams.errors (ap (λ (o : Outside). o.errors) gave.untouched.streams)
+    by name options (inr ran) = front_of_errors old.folder ran.0 name ran.2.bytes options old.streams mid.streams ran.2.run
+
+-- ---- what is left as it was
 
 pub wrote_its_line : (result : Outcome) (old mid : World) (errors : Option (List ℕ)) (faults : ℕ) → IsUntouched old mid → errors ≡ append_known mid.streams.errors (line_of result) → WroteItsLine old (told mid errors faults) result
 wrote_its_line result old mid errors faults same line = record {
@@ -231,112 +187,125 @@ wrote_its_line result old mid errors faults same line = record {
   errors = line ∙ ap (λ (o : Outside). append_known o.errors (line_of result)) same.streams;
 }
 
-pub unchanged : (result : Outcome) (words : List (List ℕ)) (old mid : World) (errors : Option (List ℕ)) (faults : ℕ) → Goes result words old mid → errors ≡ append_known mid.streams.errors (line_of result) → Unchanged words old (told mid errors faults) result
-unchanged (outcome.Program code) words old mid errors faults did line = tt
-unchanged (outcome.InstructionLimit taken) words old mid errors faults did line = tt
-unchanged (outcome.Stopped cs ip why) words old mid errors faults did line = tt
-unchanged (outcome.Refused (refusal.MissingFile file)) words old mid errors faults did line = wrote_its_line (outcome.Refused (refusal.MissingFile file)) old mid errors faults did.untouched line
-unchanged (outcome.Refused (refusal.NotInProfile at feature)) words old mid errors faults did line = wrote_its_line (outcome.Refused (refusal.NotInProfile at feature)) old mid errors faults did.untouched line
-unchanged (outcome.Refused other) words old mid errors faults did line = absurd did.reason
-unchanged outcome.InputFault words old mid errors faults did line = tt
-unchanged outcome.OutputFault words old mid errors faults did line = tt
-unchanged outcome.ErrorsFault words old mid errors faults did line = tt
-unchanged outcome.FilesFault words old mid errors faults did line = λ name asked. wrote_its_line outcome.FilesFault old mid errors faults did.1 line
-unchanged outcome.TurnLimit words old mid errors faults did line = absurd did
-unchanged (outcome.Undefined act) words old mid errors faults did line = absurd did
-unchanged outcome.Stuck words old mid errors faults did line = absurd did
-unchanged outcome.Done words old mid errors faults did line = absurd did
-unchanged outcome.NoMemory words old mid errors faults did line = wrote_its_line outcome.NoMemory old mid errors faults did line
+gone_unchanged : (result : Outcome) (words : List (List ℕ)) (name : List ℕ) (buffer : Option ℕ) (old mid : World) (errors : Option (List ℕ)) (faults : ℕ) → IsNotGone result name buffer old.folder old.files_faults mid.files_faults → IsUntouched old mid
+    → errors ≡ append_known mid.streams.errors (line_of result) → Unchanged words old (told mid errors faults) result
+gone_unchanged (outcome.Refused r) words name buffer old mid errors faults reason same line = wrote_its_line (outcome.Refused r) old mid errors faults same line
+gone_unchanged outcome.FilesFault words name buffer old mid errors faults reason same line = λ name options asked. wrote_its_line outcome.FilesFault old mid errors faults same line
+gone_unchanged outcome.NoMemory words name buffer old mid errors faults reason same line = wrote_its_line outcome.NoMemory old mid errors faults same line
+gone_unchanged other words name buffer old mid errors faults reason same line = absurd reason
 
-leaves : (end : RunEnd) (words : List (List ℕ)) (old mid : World) (errors : Option (List ℕ)) (faults : ℕ) → Ran end words old mid → FilesAfter words old (told mid errors faults)
-leaves end words old mid errors faults r = inr (record { name = r.name; named = r.named; statements = r.statements; says = r.says; bytes = r.bytes; agrees = r.built.agrees; written = r.written })
+ran_unchanged : (end : RunEnd) (words : List (List ℕ)) (old new : World) → (end ≡ ends.FilesFault → ⊥) → Unchanged words old new (outcome_of end)
+ran_unchanged (ends.Ended code) words old new not = tt
+ran_unchanged (ends.Limit taken) words old new not = tt
+ran_unchanged (ends.Stopped cs ip why) words old new not = tt
+ran_unchanged ends.InputFault words old new not = tt
+ran_unchanged ends.OutputFault words old new not = tt
+ran_unchanged ends.ErrorsFault words old new not = tt
+ran_unchanged ends.FilesFault words old new not = absurd (not refl)
 
-pub files_after : (result : Outcome) (words : List (List ℕ)) (old mid : World) (errors : Option (List ℕ)) (faults : ℕ) → Goes result words old mid → FilesAfter words old (told mid errors faults)
-files_after (outcome.Program code) words old mid errors faults did = leaves (ends.Ended code) words old mid errors faults did
-files_after (outcome.InstructionLimit taken) words old mid errors faults did = leaves (ends.Limit taken) words old mid errors faults did
-files_after (outcome.Stopped cs ip why) words old mid errors faults did = leaves (ends.Stopped cs ip why) words old mid errors faults did
-files_after (outcome.Refused (refusal.MissingFile file)) words old mid errors faults did = inl did.untouched.folder
-files_after (outcome.Refused (refusal.NotInProfile at feature)) words old mid errors faults did = inl did.untouched.folder
-files_after (outcome.Refused other) words old mid errors faults did = absurd did.reason
-files_after outcome.InputFault words old mid errors faults did = leaves ends.InputFault words old mid errors faults did
-files_after outcome.OutputFault words old mid errors faults did = leaves ends.OutputFault words old mid errors faults did
-files_after outcome.ErrorsFault words old mid errors faults did = leaves ends.ErrorsFault words old mid errors faults did
-files_after outcome.FilesFault words old mid errors faults did = inl did.1.folder
-files_after outcome.TurnLimit words old mid errors faults did = absurd did
-files_after (outcome.Undefined act) words old mid errors faults did = absurd did
-files_after outcome.Stuck words old mid errors faults did = absurd did
-files_after outcome.Done words old mid errors faults did = absurd did
-files_after outcome.NoMemory words old mid errors faults did = inl did.folder
+pub unchanged : (result : Outcome) (words : List (List ℕ)) (old mid : World) (errors : Option (List ℕ)) (faults : ℕ) → DidGo result words old mid → errors ≡ append_known mid.streams.errors (line_of result) → Unchanged words old (told mid errors faults) result
+unchanged result words old mid errors faults went line = by (went.did went.name went.options went.asked)
+  where
+    by : GoDid result went.name went.options old mid → Unchanged words old (told mid errors faults) result
+    by (inl gave) = gone_unchanged result words went.name went.options.buffer old mid errors faults gave.reason gave.untouched line
+    by (inr ran) = subst (λ (o : Outcome). Unchanged words old (told mid errors faults) o) (sym ran.1) (ran_unchanged ran.0 words old (told mid errors faults) ran.2.reads)
 
-says_lacks : (folder : Option Folder) (file : List ℕ) (statements : List Statement) → Says folder file statements → Lacks folder file → ⊥
-says_lacks None file statements says lacks = lacks
-says_lacks (Some folder) file statements says lacks = let e : Some says.0 ≡ None = sym says.1 ∙ lacks in absurd (subst IsFound e tt)
+-- ---- the files
 
-says_nothing_lacks : (folder : Option Folder) (file : List ℕ) → SaysNothing folder file → Lacks folder file → ⊥
-says_nothing_lacks None file says lacks = lacks
-says_nothing_lacks (Some folder) file says lacks = let e : Some says.0 ≡ None = sym says.1 ∙ lacks in absurd (subst IsFound e tt)
+built_there : (folder : Option Folder) (end : RunEnd) (name bytes : List ℕ) (options : RunOptions) (o o' : Outside) → IfSome folder (λ held. RanBuilt held end name bytes options o o') → IfSome folder (λ held. IsBuiltFrom held name bytes)
+built_there None end name bytes options o o' ran = tt
+built_there (Some held) end name bytes options o o' ran = ran.built
 
-says_none : (folder : Option Folder) (file text : List ℕ) (statements : List Statement) → Says folder file statements → Holds folder file text → ((others : List Statement) → IsSource text others → ⊥) → ⊥
-says_none None file text statements says held none = held
-says_none (Some folder) file text statements says held none =
-    let texts : says.0 ≡ text = ap (λ found. unwrap_or found []) (sym says.1 ∙ held) in
-    let P : List ℕ → Type 0 = λ t. IsSource t statements in
-    none statements (subst P texts says.2)
+pub files_after : (result : Outcome) (words : List (List ℕ)) (old mid : World) (errors : Option (List ℕ)) (faults : ℕ) → DidGo result words old mid → FilesAfter words old (told mid errors faults)
+files_after result words old mid errors faults went = by (went.did went.name went.options went.asked)
+  where
+    by : GoDid result went.name went.options old mid → FilesAfter words old (told mid errors faults)
+    by (inl gave) = inl gave.untouched.folder
+    by (inr ran) = inr (record {
+      name = went.name;
+      options = went.options;
+      named = went.asked;
+      bytes = ran.2.bytes;
+      built = built_there old.folder ran.0 went.name ran.2.bytes went.options old.streams mid.streams ran.2.run;
+      written = ran.2.written;
+    })
 
--- a program that has run had none of the causes
-ran_causes : (end : RunEnd) (result : Outcome) (words : List (List ℕ)) (old mid new : World) → Ran end words old mid → Refuses words old new result
-ran_causes end result words old mid new r = record {
-  usage = λ none. absurd (none.go r.name r.named);
-  missing = λ name named lacks.
-      let P : List ℕ → Type 0 = λ n. Says old.folder (file_of n Source) r.statements in
-      absurd (says_lacks old.folder (file_of name Source) r.statements (subst P (go_once words r.name name r.named named) r.says) lacks);
-  outside = λ name text named held none.
-      let P : List ℕ → Type 0 = λ n. Says old.folder (file_of n Source) r.statements in
-      absurd (says_none old.folder (file_of name Source) text r.statements (subst P (go_once words r.name name r.named named) r.says) held none);
-  absent = λ name options asked lacks. absurd (not_both words r.name name options r.named asked);
-  unopened = λ name options error asked has why. absurd (not_both words r.name name options r.named asked);
+-- ---- causes
+
+lacks_built : (held : Folder) (name bytes : List ℕ) → held (file_of name Source) ≡ None → IsBuiltFrom held name bytes → ⊥
+lacks_built held name bytes lacks built = never_gathered held name lacks built.is.texts built.is.sources built.is.gathers
+
+missing_so : (held : Folder) (name : List ℕ) (buffer : Option ℕ) (r : Refusal) → held (file_of name Source) ≡ None → IsNotBuilt held name buffer r → r ≡ refusal.MissingFile (file_of name Source)
+missing_so held name buffer r lacks (inl none) = no_source held name lacks r none
+missing_so held name buffer r lacks (inr (inl other)) = absurd (never_gathered held name lacks other.texts other.sources other.gathers)
+missing_so held name buffer r lacks (inr (inr cannot)) = absurd (lacks_built held name cannot.bytes lacks cannot.built)
+
+gone_missing : (result : Outcome) (name : List ℕ) (buffer : Option ℕ) (folder : Option Folder) (old mid : World) (errors : Option (List ℕ)) (faults : ℕ) → Lacks folder (file_of name Source)
+    → IsNotGone result name buffer folder old.files_faults mid.files_faults → (result ≡ outcome.Refused (refusal.MissingFile (file_of name Source))) ⊎ IsFaultOrNoMemory result old (told mid errors faults)
+gone_missing result name buffer None old mid errors faults lacks reason = absurd lacks
+gone_missing (outcome.Refused r) name buffer (Some held) old mid errors faults lacks reason = inl (ap (λ (r : Refusal). outcome.Refused r) (missing_so held name buffer r lacks reason.1))
+gone_missing outcome.FilesFault name buffer (Some held) old mid errors faults lacks reason = inr reason
+gone_missing outcome.NoMemory name buffer (Some held) old mid errors faults lacks reason = inr tt
+gone_missing other name buffer (Some held) old mid errors faults lacks reason = absurd reason
+
+ran_missing : (folder : Option Folder) (end : RunEnd) (name bytes : List ℕ) (options : RunOptions) (o o' : Outside) → Lacks folder (file_of name Source) → IfSome folder (λ held. RanBuilt held end name bytes options o o') → ⊥
+ran_missing None end name bytes options o o' lacks ran = lacks
+ran_missing (Some held) end name bytes options o o' lacks ran = lacks_built held name bytes lacks ran.built
+
+outside_so : (held : Folder) (name : List ℕ) (buffer : Option ℕ) (r : Refusal) → HoldsNoLiteral (Some held) name → IsNotBuilt held name buffer r → IsOutside (Some held) name r
+outside_so held name buffer r lacking (inl none) = inl none
+outside_so held name buffer r lacking (inr (inl other)) = inr other
+outside_so held name buffer r lacking (inr (inr cannot)) = absurd (lacking cannot.built.program cannot.built.is cannot.built.does.literal)
+
+gone_outside : (result : Outcome) (name : List ℕ) (buffer : Option ℕ) (folder : Option Folder) (old mid : World) (errors : Option (List ℕ)) (faults : ℕ) → HoldsNoLiteral folder name
+    → IsNotGone result name buffer folder old.files_faults mid.files_faults → ((r : Refusal) × (result ≡ outcome.Refused r) × IsOutside folder name r) ⊎ IsFaultOrNoMemory result old (told mid errors faults)
+gone_outside result name buffer None old mid errors faults lacking reason = absurd lacking
+gone_outside (outcome.Refused r) name buffer (Some held) old mid errors faults lacking reason = inl (r, refl, outside_so held name buffer r lacking reason.1)
+gone_outside outcome.FilesFault name buffer (Some held) old mid errors faults lacking reason = inr reason
+gone_outside outcome.NoMemory name buffer (Some held) old mid errors faults lacking reason = inr tt
+gone_outside other name buffer (Some held) old mid errors faults lacking reason = absurd reason
+
+ran_outside : (folder : Option Folder) (end : RunEnd) (name bytes : List ℕ) (options : RunOptions) (o o' : Outside) → HoldsNoLiteral folder name → IfSome folder (λ held. RanBuilt held end name bytes options o o') → ⊥
+ran_outside None end name bytes options o o' lacking ran = lacking
+ran_outside (Some held) end name bytes options o o' lacking ran = lacking ran.built.program ran.built.is ran.built.does.literal
+
+pub causes : (result : Outcome) (words : List (List ℕ)) (old mid : World) (errors : Option (List ℕ)) (faults : ℕ) → DidGo result words old mid → Refuses words old (told mid errors faults) result
+causes result words old mid errors faults went = record {
+  usage = λ none. absurd (none.go went.name went.options went.asked);
+  missing = λ name options asked lacks. missing name options lacks (went.did name options asked);
+  outside = λ name options asked lacking. outside name options lacking (went.did name options asked);
+  absent = λ name options asked lacks. absurd (not_both words went.name name went.options options went.asked asked);
+  unopened = λ name options error asked has why. absurd (not_both words went.name name went.options options went.asked asked);
 }
+  where
+    missing : (name : List ℕ) (options : RunOptions) → Lacks old.folder (file_of name Source) → GoDid result name options old mid
+        → (result ≡ outcome.Refused (refusal.MissingFile (file_of name Source))) ⊎ IsFaultOrNoMemory result old (told mid errors faults)
+    missing name options lacks (inl gave) = gone_missing result name options.buffer old.folder old mid errors faults lacks gave.reason
+    missing name options lacks (inr ran) = absurd (ran_missing old.folder ran.0 name ran.2.bytes options old.streams mid.streams lacks ran.2.run)
 
-pub causes : (result : Outcome) (words : List (List ℕ)) (old mid : World) (errors : Option (List ℕ)) (faults : ℕ) → Goes result words old mid → Refuses words old (told mid errors faults) result
-causes (outcome.Program code) words old mid errors faults did = ran_causes (ends.Ended code) (outcome.Program code) words old mid (told mid errors faults) did
-causes (outcome.InstructionLimit taken) words old mid errors faults did = ran_causes (ends.Limit taken) (outcome.InstructionLimit taken) words old mid (told mid errors faults) did
-causes (outcome.Stopped cs ip why) words old mid errors faults did = ran_causes (ends.Stopped cs ip why) (outcome.Stopped cs ip why) words old mid (told mid errors faults) did
-causes outcome.InputFault words old mid errors faults did = ran_causes ends.InputFault outcome.InputFault words old mid (told mid errors faults) did
-causes outcome.OutputFault words old mid errors faults did = ran_causes ends.OutputFault outcome.OutputFault words old mid (told mid errors faults) did
-causes outcome.ErrorsFault words old mid errors faults did = ran_causes ends.ErrorsFault outcome.ErrorsFault words old mid (told mid errors faults) did
-causes outcome.FilesFault words old mid errors faults did = record { usage = λ none. inr did.0; missing = λ name named lacks. inr did.0; outside = λ name text named held none. inr did.0; absent = λ name options asked lacks. inr did.0; unopened = λ name options error asked has why. inr did.0 }
-causes outcome.TurnLimit words old mid errors faults did = absurd did
-causes (outcome.Undefined act) words old mid errors faults did = absurd did
-causes outcome.Stuck words old mid errors faults did = absurd did
-causes outcome.Done words old mid errors faults did = absurd did
-causes outcome.NoMemory words old mid errors faults did = record { usage = λ none. inr tt; missing = λ name named lacks. inr tt; outside = λ name text named held none. inr tt; absent = λ name options asked lacks. inr tt; unopened = λ name options error asked has why. inr tt }
-causes (outcome.Refused (refusal.MissingFile file)) words old mid errors faults did = record {
-  usage = λ none. absurd (none.go did.name did.named);
-  missing = λ name named lacks. inl (ap (λ f. outcome.Refused (refusal.MissingFile f)) (did.reason.0 ∙ ap (λ n. file_of n Source) (go_once words did.name name did.named named)));
-  outside = λ name text named held none.
-      let P : List ℕ → Type 0 = λ n. IfSome old.folder (λ folder. folder (file_of n Source) ≡ None) in
-      absurd (missing_not old.folder (file_of name Source) text held (subst P (go_once words did.name name did.named named) did.reason.1));
-  absent = λ name options asked lacks. absurd (not_both words did.name name options did.named asked);
-  unopened = λ name options error asked has why. absurd (not_both words did.name name options did.named asked);
-}
-causes (outcome.Refused (refusal.NotInProfile at f)) words old mid errors faults did = record {
-  usage = λ none. absurd (none.go did.name did.named);
-  missing = λ name named lacks.
-      let P : List ℕ → Type 0 = λ n. SaysNothing old.folder (file_of n Source) in
-      absurd (says_nothing_lacks old.folder (file_of name Source) (subst P (go_once words did.name name did.named named) did.reason.2) lacks);
-  outside = λ name text named held none. inl (ap (λ a. outcome.Refused (refusal.NotInProfile a f)) (did.reason.0 ∙ ap front_of (go_once words did.name name did.named named))
-      ∙ ap (λ (g : Feature). outcome.Refused (refusal.NotInProfile (front_of name) g)) did.reason.1);
-  absent = λ name options asked lacks. absurd (not_both words did.name name options did.named asked);
-  unopened = λ name options error asked has why. absurd (not_both words did.name name options did.named asked);
-}
-causes (outcome.Refused other) words old mid errors faults did = absurd did.reason
+    outside : (name : List ℕ) (options : RunOptions) → HoldsNoLiteral old.folder name → GoDid result name options old mid
+        → ((r : Refusal) × (result ≡ outcome.Refused r) × IsOutside old.folder name r) ⊎ IsFaultOrNoMemory result old (told mid errors faults)
+    outside name options lacking (inl gave) = gone_outside result name options.buffer old.folder old mid errors faults lacking gave.reason
+    outside name options lacking (inr ran) = absurd (ran_outside old.folder ran.0 name ran.2.bytes options old.streams mid.streams lacking ran.2.run)
+
+-- ---- the line failed
 
 pub still_rising : (old mid new : ℕ) → old ≤ mid → HasRisen mid new → HasRisen old new
 still_rising old mid new counted (inl rose) = inl (omega arith)
 still_rising old mid new counted (inr full) = inr (omega arith)
 
--- the line failed
 pub line_failed : (words : List (List ℕ)) (old new : World) (mid : ℕ) → old.streams.errors_faults ≤ mid → HasRisen mid new.streams.errors_faults → Refuses words old new outcome.ErrorsFault
 line_failed words old new mid counted rose =
     let all = still_rising old.streams.errors_faults mid new.streams.errors_faults counted rose in
-    record { usage = λ none. inr all; missing = λ name named lacks. inr all; outside = λ name text named held none. inr all; absent = λ name options asked lacks. inr all; unopened = λ name options error asked has why. inr all }
+    record { usage = λ none. inr all; missing = λ name options asked lacks. inr all; outside = λ name options asked lacking. inr all; absent = λ name options asked lacks. inr all; unopened = λ name options error asked has why. inr all }
+
+failing : (folder : Option Folder) (result : Outcome) (name : List ℕ) (options : RunOptions) (old new : World) → IsFaultOrNoMemory result old new → IfSome folder (λ held. IsGoEnd held name options result ⊎ IsFaultOrNoMemory result old new)
+failing None result name options old new fails = tt
+failing (Some held) result name options old new fails = inr fails
+
+pub complete_failed : (words : List (List ℕ)) (old new : World) (mid : ℕ) → old.streams.errors_faults ≤ mid → HasRisen mid new.streams.errors_faults → Complete words old new outcome.ErrorsFault
+complete_failed words old new mid counted rose = λ name options asked.
+    failing old.folder outcome.ErrorsFault name options old new (still_rising old.streams.errors_faults mid new.streams.errors_faults counted rose)
+
+pub complete_out : (result : Outcome) (words : List (List ℕ)) (old new : World) → result ≡ outcome.NoMemory → Complete words old new result
+complete_out result words old new is = λ name options asked. failing old.folder result name options old new (subst (λ (o : Outcome). IsFaultOrNoMemory o old new) (sym is) tt)

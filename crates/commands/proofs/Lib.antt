@@ -1,7 +1,10 @@
 pub mod FileLaws
 pub mod WordLaws
+pub mod AbsentLaws
+pub mod BuildLaws
 pub mod RanLaws
 pub mod GoLaws
+pub mod WentLaws
 pub mod RunLaws
 pub mod TextLaws
 pub mod MeanLaws

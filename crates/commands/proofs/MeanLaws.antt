@@ -24,7 +24,8 @@ use Rattle.commands.specs.Performs.{DidMean}
 use Rattle.commands.specs.Texts.{IsTextOf}
 use Rattle.commands.specs.Turbo.{Faults, HasNoMeaning, MeanRefused, Unchanged, WroteItsLine, AfterLine, MeansFiles, MeantFiles}
 use Rattle.commands.specs.World.{World}
-use Rattle.commands.proofs.GoLaws.{told, still_risen, wrote_its_line}
+use Rattle.commands.proofs.GoLaws.{still_risen, wrote_its_line}
+use Rattle.commands.proofs.RanLaws.{told}
 use Rattle.commands.proofs.WordLaws.{not_go_and_mean}
 use Rattle.command_line.proofs.LineLaws.{help_not, version_not}
 
@@ -160,7 +161,7 @@ quiet_line result old mid errors faults quiet line = record {
 quiet_unchanged : (result : Outcome) (words : List (List ℕ)) (old mid : World) (errors : Option (List ℕ)) (faults : ℕ) → IsQuiet result old mid → errors ≡ append_known mid.streams.errors (line_of result)
     → Unchanged words old (told mid errors faults) result
 quiet_unchanged (outcome.Refused r) words old mid errors faults quiet line = quiet_line (outcome.Refused r) old mid errors faults quiet line
-quiet_unchanged outcome.FilesFault words old mid errors faults quiet line = λ name asked. quiet_line outcome.FilesFault old mid errors faults quiet line
+quiet_unchanged outcome.FilesFault words old mid errors faults quiet line = λ name options asked. quiet_line outcome.FilesFault old mid errors faults quiet line
 quiet_unchanged outcome.NoMemory words old mid errors faults quiet line = quiet_line outcome.NoMemory old mid errors faults quiet line
 quiet_unchanged other words old mid errors faults quiet line = tt
 

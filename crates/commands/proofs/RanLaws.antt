@@ -1,113 +1,176 @@
 -- What a run of the executable shows.
-use Rattle.std.proofs.Common.{◌≡◌, ℕ, ◌≤◌, List, [], ◌∷◌, Option, Some, None, sym, ap, ◌∙◌, subst, arith}
-use Rattle.std.specs.Prelude.{unwrap_or, IfSome}
+use Rattle.std.proofs.Common.{◌≡◌, ℕ, ◌≤◌, ◌<◌, ◌+◌, List, [], length, Option, Some, None, refl, inl, inr, sym, ap, ◌∙◌, subst, arith}
+use Rattle.std.specs.Prelude.{IfSome}
+use Rattle.std.proofs.lemmas.List.{take_all}
+use Rattle.std.specs.Io.KnownBytes.{append_known}
 use Rattle.tp_outside.specs.Folder.{Folder, with_known_file, bytes_of}
+use Rattle.tp_outside.specs.Streams.{TakesPrefix}
 use Rattle.tp_outside.proofs.FolderLaws.{with_file-same}
+use Rattle.tp_outside.proofs.Known.{append_known-nil}
+use Rattle.behaviour.specs.Seen.{Seen}
+use Rattle.typed_tree.specs.declared.units.Program.{Program}
+use Rattle.meaning.specs.Meaning.{mean}
+use Rattle.cpu_8086.specs.declared.process.Why.{Why}
 use Rattle.cpu_8086.specs.State.{State}
-use Rattle.cpu_8086.specs.Run.{Runs}
-use Rattle.literal_form.specs.Source.{IsSource}
-use Rattle.literal_form.specs.Statement.{Statement, mean}
-use Rattle.literal_form.proofs.Run.{source_same}
-use Rattle.literal_code.specs.Agrees.{Agrees}
+use Rattle.mz_file.specs.Format.{exe_of}
+use Rattle.mz_file.specs.Load.{loaded}
+use Rattle.literal_code.specs.Statement.{Statement, written, code_of}
+use Rattle.literal_programs.proofs.Meant.{means}
+use Rattle.literal_programs.proofs.Known.{known}
 use Rattle.dos_runner.specs.declared.runner.RunEnd.{RunEnd}
 use Rattle.dos_runner.specs.declared.runner.RunEnd.TheVariants as ends
 use Rattle.dos_runner.specs.Run.{process_of}
-use Rattle.dos_runner.specs.Outside.{Outside}
+use Rattle.dos_runner.specs.Outside.{Outside, RunsTo}
 use Rattle.dos_runner.proofs.Composition.{risen_later}
+use Rattle.dos_runner.proofs.Conclusion.{Ends, TakesFronts, Concludes, concludes}
 use Rattle.overlay_manager.specs.Manager.{Manager}
 use Rattle.overlay_runner.specs.declared.runner.Runner.{Runner}
 use Rattle.overlay_runner.specs.Event.{Rises}
 use Rattle.overlay_runner.specs.Runner.{with_retry, RunsOn}
-use Rattle.dos_runner.proofs.Conclusion.{Ends, Concludes, concludes}
-use Rattle.commands.specs.declared.names.FileKind.TheVariants.{Source, Executable, Overlays}
+use Rattle.outcomes.specs.declared.outcome.Outcome.{Outcome}
+use Rattle.outcomes.specs.declared.outcome.Outcome.TheVariants as outcome
+use Rattle.mean_program.specs.Shown.{WritesAll, outcome_of}
 use Rattle.command_line.specs.declared.command.RunOptions.{RunOptions}
-use Rattle.commands.specs.Run.{limit_of, retry_of, BeginsNamed, RunsFrom}
+use Rattle.commands.specs.declared.names.FileKind.TheVariants.{Executable, Overlays}
 use Rattle.commands.specs.Files.{file_of}
-use Rattle.command_line.specs.Words.{IsGo}
+use Rattle.commands.specs.Go.{DoesSoon, RanBuilt}
+use Rattle.commands.specs.Mean.{sinks_of}
+use Rattle.commands.specs.Run.{limit_of, retry_of, BeginsNamed, RunsFrom}
+use Rattle.commands.specs.Turbo.{HoldsExecutable, IsWritten, TookFront}
 use Rattle.commands.specs.World.{World, Holds}
-use Rattle.commands.specs.Ending.{outcome_of}
-use Rattle.commands.specs.Go.{Says, SaysNothing, IsBuilt, Ran, Goes}
-use Rattle.commands.specs.Turbo.{IsAsked}
-use Rattle.commands.proofs.WordLaws.{go_once}
 
--- a source says one list of statements
-says_same : (folder : Option Folder) (file text : List ℕ) (a b : List Statement) → Says folder file a → Holds folder file text → IsSource text b → a ≡ b
-says_same None file text a b says held source = absurd held
-says_same (Some folder) file text a b says held source =
-    let texts : says.0 ≡ text = ap (λ found. unwrap_or found []) (sym says.1 ∙ held) in
-    let P : List ℕ → Type 0 = λ t. IsSource t a in
-    source_same text a b (subst P texts says.2) source
+-- The world after more was written to the errors.
+abbrev pub told : World → Option (List ℕ) → ℕ → World
+told w errors faults = record w { streams = record w.streams { errors = errors; errors_faults = faults } }
 
--- what a file was given is what it holds
-holds_written : (folder : Option Folder) (file text name bytes : List ℕ) → Holds folder file text → Holds (with_known_file folder name bytes) name bytes
-holds_written None file text name bytes held = absurd held
-holds_written (Some folder) file text name bytes held = with_file-same folder name bytes
+-- ---- the process of an executable that was built
 
--- the run of a program that the words name is the one that was asked for
-pub name_same : (end : RunEnd) (words : List (List ℕ)) (old new : World) (name : List ℕ) (statements : List Statement) (r : Ran end words old new) → IsAsked words old name statements → r.name ≡ name
-name_same end words old new name statements r asked = go_once words r.name name r.named asked.named
-
-pub statements_same : (end : RunEnd) (words : List (List ℕ)) (old new : World) (name : List ℕ) (statements : List Statement) (r : Ran end words old new) → IsAsked words old name statements → r.statements ≡ statements
-statements_same end words old new name statements r asked =
-    let P : List ℕ → Type 0 = λ n. Says old.folder (file_of n Source) r.statements in
-    says_same old.folder (file_of name Source) asked.text r.statements statements (subst P (name_same end words old new name statements r asked) r.says) asked.held asked.source
-
--- the executable stands there, and does what is meant
-pub stands_there : (end : RunEnd) (words : List (List ℕ)) (old new : World) (name : List ℕ) (statements : List Statement) → Ran end words old new → IsAsked words old name statements → (bytes : List ℕ) × Holds new.folder (file_of name Executable) bytes × Agrees statements bytes
-stands_there end words old new name statements r asked =
-    let names = name_same end words old new name statements r asked in
-    let said = statements_same end words old new name statements r asked in
-    let H : List ℕ → Type 0 = λ n. Holds new.folder (file_of n Executable) r.bytes in
-    let F : Option Folder → Type 0 = λ f. Holds f (file_of r.name Executable) r.bytes in
-    let A : List Statement → Type 0 = λ s. Agrees s r.bytes in
-    let held = holds_written old.folder (file_of name Source) asked.text (file_of r.name Executable) r.bytes asked.held in
-    (r.bytes, subst H names (subst F (sym r.written) held), subst A said r.built.agrees)
-
--- with every input the process comes to the end that is meant
-abbrev pub known : (statements : List Statement) (bytes : List ℕ) (start : State) → IsBuilt statements bytes start → (input : List ℕ) → Ends (process_of start input) (mean statements).code (mean statements).out (mean statements).err
-known statements bytes start built input = record {
-  events = (built.soon input).run.events;
-  last = (built.soon input).run.last;
-  runs = subst {A = State} (λ m. Runs (built.soon input).run.events (process_of m input) (built.soon input).run.last) (sym built.starts) (built.soon input).run.runs;
-  status = (built.soon input).run.ends;
-  wrote = (built.soon input).run.out;
-  told = (built.soon input).run.err;
+-- with every input it comes to the end that is meant
+abbrev known_end : (program : Program) (bytes : List ℕ) (does : DoesSoon program bytes) (input : List ℕ) → Ends (process_of (loaded (exe_of bytes)) input) (code_of does.literal.statements) (written does.literal.statements) []
+known_end program bytes does input = record {
+  events = (does.soon input 0).run.events;
+  last = (does.soon input 0).run.last;
+  runs = (does.soon input 0).run.runs;
+  status = (known program does.literal bytes input 0 (does.soon input 0).run).0;
+  wrote = (known program does.literal bytes input 0 (does.soon input 0).run).1;
+  told = (known program does.literal bytes input 0 (does.soon input 0).run).2;
 }
 
-pub concluded : (end : RunEnd) (words : List (List ℕ)) (old new : World) (r : Ran end words old new) → Concludes end 1000000000 r.start (mean r.statements).code (mean r.statements).out (mean r.statements).err (known r.statements r.bytes r.start r.built) old.streams new.streams
-concluded end words old new r =
-    concludes end 1000000000 r.start r.last (mean r.statements).code (mean r.statements).out (mean r.statements).err (known r.statements r.bytes r.start r.built) old.streams new.streams r.run
+whole_prefix : (old new : Option (List ℕ)) (xs : List ℕ) → new ≡ append_known old xs → TakesPrefix old new xs
+whole_prefix old new xs all = record { count = length xs; within = omega arith; taken = all ∙ ap (append_known old) (sym (take_all (length xs) xs (omega arith))) }
 
--- the limit is not reached
-pub no_limit : (taken : ℕ) (words : List (List ℕ)) (old new : World) → Ran (ends.Limit taken) words old new → ⊥
-no_limit taken words old new r =
-    let told = concluded (ends.Limit taken) words old new r in
-    let few = (r.built.soon told.1.0).few in
-    let many = told.1.1 in
-    omega arith
+module _ (program : Program) (bytes : List ℕ) (does : DoesSoon program bytes) (limit : ℕ) (last : State) (o o' : Outside) where
+  abbrev start : State
+  start = loaded (exe_of bytes)
 
--- what was read says statements, or none
-pub says_from : (folder : Option Folder) (file name text shown : List ℕ) (statements : List Statement) → name ≡ file → shown ≡ text → IfSome folder (λ held. Some text ≡ held name) → IsSource shown statements → Says folder file statements
-says_from None file name text shown statements names texts told source = tt
-says_from (Some held) file name text shown statements names texts told source =
-    let P : List ℕ → Type 0 = λ t. IsSource t statements in
-    (text, sym (told ∙ ap held names), subst P texts source)
+  abbrev statements : List Statement
+  statements = does.literal.statements
 
-pub says_nothing_from : (folder : Option Folder) (file name text shown : List ℕ) → name ≡ file → shown ≡ text → IfSome folder (λ held. Some text ≡ held name) → ((statements : List Statement) → IsSource shown statements → ⊥) → SaysNothing folder file
-says_nothing_from None file name text shown names texts told none = tt
-says_nothing_from (Some held) file name text shown names texts told none =
-    let P : List ℕ → Type 0 = λ t. (statements : List Statement) → IsSource t statements → ⊥ in
-    (text, sym (told ∙ ap held names), subst P texts none)
+  concluded : (end : RunEnd) → RunsTo end limit start last o o' → Concludes end limit start (code_of statements) (written statements) [] (known_end program bytes does) o o'
+  concluded end run = concludes end limit start last (code_of statements) (written statements) [] (known_end program bytes does) o o' run
 
--- a run that ended so performs its outcome
-pub performs_ran : (end : RunEnd) (words : List (List ℕ)) (old new : World) → Ran end words old new → Goes (outcome_of end) words old new
-performs_ran (ends.Ended code) words old new r = r
-performs_ran (ends.Limit taken) words old new r = r
-performs_ran (ends.Stopped cs ip why) words old new r = r
-performs_ran ends.InputFault words old new r = r
-performs_ran ends.OutputFault words old new r = r
-performs_ran ends.ErrorsFault words old new r = r
-performs_ran ends.FilesFault words old new r = absurd r.run.run.leaves
+  -- a limit that is reached is less than all that the program takes
+  pub limited : (taken : ℕ) → RunsTo (ends.Limit taken) limit start last o o' → (taken ≡ limit) × (limit < 16389)
+  limited taken run =
+      let told = concluded (ends.Limit taken) run in
+      let few = (does.soon told.1.0 0).few in
+      let many = told.1.1 in
+      let below : limit < 16389 = omega arith in
+      (told.0, below)
+
+  pub not_stopped : (cs ip : ℕ) (why : Why) → RunsTo (ends.Stopped cs ip why) limit start last o o' → ⊥
+  not_stopped cs ip why run = concluded (ends.Stopped cs ip why) run
+
+  -- the sinks took fronts of what the statements say
+  took_all : (code : ℕ) → RunsTo (ends.Ended code) limit start last o o' → TakesFronts (written statements) [] o o'
+  took_all code run =
+      let all = concluded (ends.Ended code) run in
+      record { output = whole_prefix o.output o'.output (written statements) all.1; errors = whole_prefix o.errors o'.errors [] all.2 }
+
+  -- a run that a limit cuts short took no less than one that a fault of the input cuts short there
+  took_some : (taken : ℕ) → RunsTo (ends.Limit taken) limit start last o o' → TakesFronts (written statements) [] o o'
+  took_some taken run =
+      let failed : Outside = record o' { input_faults = o.input_faults + 1 } in
+      let cut : RunsTo ends.InputFault limit start last o failed = record {
+        events = run.events;
+        bound = run.bound;
+        exhausted = run.exhausted;
+        run = record {
+          progress = run.run.progress;
+          does = run.run.does;
+          leaves = run.run.leaves.1;
+          reads = tt;
+          wrote = run.run.wrote;
+          told = run.run.told;
+          rose = inl (omega arith);
+        };
+        limited = tt;
+      } in
+      let fronts = concludes ends.InputFault limit start last (code_of statements) (written statements) [] (known_end program bytes does) o failed cut in
+      record { output = fronts.output; errors = fronts.errors }
+
+  took : (end : RunEnd) → RunsTo end limit start last o o' → TakesFronts (written statements) [] o o'
+  took (ends.Ended code) run = took_all code run
+  took (ends.Limit taken) run = took_some taken run
+  took (ends.Stopped cs ip why) run = absurd (concluded (ends.Stopped cs ip why) run)
+  took ends.InputFault run = concluded ends.InputFault run
+  took ends.OutputFault run = concluded ends.OutputFault run
+  took ends.ErrorsFault run = concluded ends.ErrorsFault run
+  took ends.FilesFault run = absurd run.run.leaves
+
+  pub took_output : (end : RunEnd) → RunsTo end limit start last o o' → (input : List ℕ) (turns : ℕ) → TakesPrefix o.output o'.output (mean program input turns).out
+  took_output end run input turns = subst (λ (x : Seen). TakesPrefix o.output o'.output x.out) (sym (means statements program input turns does.literal.says)) (took end run).output
+
+  pub took_errors : (end : RunEnd) → RunsTo end limit start last o o' → (input : List ℕ) (turns : ℕ) → TakesPrefix o.errors o'.errors (mean program input turns).err
+  took_errors end run input turns = subst (λ (x : Seen). TakesPrefix o.errors o'.errors x.err) (sym (means statements program input turns does.literal.says)) (took end run).errors
+
+-- output and errors took just what the program means
+wrote_all : (program : Program) (bytes : List ℕ) (does : DoesSoon program bytes) (limit : ℕ) (last : State) (old mid : World) (errors : Option (List ℕ)) (faults code : ℕ)
+    → RunsTo (ends.Ended code) limit (loaded (exe_of bytes)) last old.streams mid.streams → errors ≡ append_known mid.streams.errors []
+    → (input : List ℕ) (turns : ℕ) → WritesAll (mean program input turns) (outcome.Program code) (sinks_of old.streams) (sinks_of (told mid errors faults).streams)
+wrote_all program bytes does limit last old mid errors faults code run line input turns =
+    let all = concluded program bytes does limit last old.streams mid.streams (ends.Ended code) run in
+    let meant = means does.literal.statements program input turns does.literal.says in
+    record {
+      output = all.1 ∙ ap (λ (x : Seen). append_known old.streams.output x.out) (sym meant);
+      errors = line ∙ append_known-nil mid.streams.errors ∙ all.2 ∙ ap (λ (x : Seen). append_known old.streams.errors x.err) (sym meant);
+      stands = ap (λ (c : ℕ). outcome.Program c) all.0 ∙ ap (λ (x : Seen). outcome_of x.end) (sym meant);
+    }
+
+-- ---- where the folder is told
+
+pub stands_there : (folder now : Option Folder) (end : RunEnd) (name bytes : List ℕ) (options : RunOptions) (o o' : Outside) → IfSome folder (λ held. RanBuilt held end name bytes options o o')
+    → now ≡ with_known_file folder (file_of name Executable) bytes → IfSome folder (λ held. HoldsExecutable held now name)
+stands_there None now end name bytes options o o' ran is = tt
+stands_there (Some held) now end name bytes options o o' ran is = record {
+  program = ran.built.program;
+  is = ran.built.is;
+  bytes = bytes;
+  there = subst (λ (f : Option Folder). Holds f (file_of name Executable) bytes) (sym is) (with_file-same held (file_of name Executable) bytes);
+  agrees = ran.built.does.agrees;
+}
+
+pub written_there : (folder : Option Folder) (name bytes : List ℕ) (options : RunOptions) (old mid : World) (errors : Option (List ℕ)) (faults code : ℕ)
+    → IfSome folder (λ held. RanBuilt held (ends.Ended code) name bytes options old.streams mid.streams) → errors ≡ append_known mid.streams.errors []
+    → IfSome folder (λ held. IsWritten held name (outcome.Program code) old (told mid errors faults))
+written_there None name bytes options old mid errors faults code ran line = tt
+written_there (Some held) name bytes options old mid errors faults code ran line = record {
+  program = ran.built.program;
+  is = ran.built.is;
+  all = wrote_all ran.built.program bytes ran.built.does (limit_of options) ran.last old mid errors faults code ran.run line;
+}
+
+pub front_of_output : (folder : Option Folder) (end : RunEnd) (name bytes : List ℕ) (options : RunOptions) (o o' : Outside) → IfSome folder (λ held. RanBuilt held end name bytes options o o')
+    → IfSome folder (λ held. TookFront held name (λ (seen : Seen). seen.out) o.output o'.output)
+front_of_output None end name bytes options o o' ran = tt
+front_of_output (Some held) end name bytes options o o' ran = inr (ran.built.program, ran.built.is, took_output ran.built.program bytes ran.built.does (limit_of options) ran.last o o' end ran.run)
+
+pub front_of_errors : (folder : Option Folder) (end : RunEnd) (name bytes : List ℕ) (options : RunOptions) (o o' : Outside) → IfSome folder (λ held. RanBuilt held end name bytes options o o')
+    → IfSome folder (λ held. TookFront held name (λ (seen : Seen). seen.err) o.errors o'.errors)
+front_of_errors None end name bytes options o o' ran = tt
+front_of_errors (Some held) end name bytes options o o' ran = inr (ran.built.program, ran.built.is, took_errors ran.built.program bytes ran.built.does (limit_of options) ran.last o o' end ran.run)
+
+-- ---- programs that were opened
 
 -- a run of a program that was opened
 pub ran_from : (known now_known : Option Folder) (end : RunEnd) (name : List ℕ) (options : RunOptions) (opened first last : Runner) (retry limit : ℕ) (o o' : Outside) → now_known ≡ known → first ≡ with_retry opened retry

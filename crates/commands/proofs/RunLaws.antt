@@ -24,18 +24,9 @@ use Rattle.commands.specs.Run.{refused_as, HasNoStart, IsUnopened, IsOfRun, IsNo
 use Rattle.commands.specs.Turbo.{IsFaultOrNoMemory, Faults, RunRefused, Refuses, Unchanged, AfterLine, RunsFiles, RanFiles}
 use Rattle.command_line.specs.Words.{IsGo}
 use Rattle.commands.specs.World.{World, Lacks}
-use Rattle.commands.proofs.GoLaws.{told, still_risen, wrote_its_line}
+use Rattle.commands.proofs.GoLaws.{IsRefusal, no_refusal, ran_fault, wrote_its_line}
+use Rattle.commands.proofs.RanLaws.{told}
 use Rattle.commands.proofs.WordLaws.{not_both}
-
--- a fault was counted by what it names
-ran-fault : (end : RunEnd) (old mid : World) (errors : Option (List ℕ)) (faults : ℕ) → Rises (Some end) old.streams mid.streams old.files_faults mid.files_faults → mid.streams.errors_faults ≤ faults → Faults old (told mid errors faults) (outcome_of end)
-ran-fault (ends.Ended code) old mid errors faults rises counted = tt
-ran-fault (ends.Limit taken) old mid errors faults rises counted = tt
-ran-fault (ends.Stopped cs ip why) old mid errors faults rises counted = tt
-ran-fault ends.InputFault old mid errors faults rises counted = rises
-ran-fault ends.OutputFault old mid errors faults rises counted = rises
-ran-fault ends.ErrorsFault old mid errors faults rises counted = still_risen old.streams.errors_faults mid.streams.errors_faults faults rises counted
-ran-fault ends.FilesFault old mid errors faults rises counted = rises
 
 gave-up-fault : (result : Outcome) (name : List ℕ) (buffer : Option ℕ) (old mid : World) (errors : Option (List ℕ)) (faults : ℕ) → IsNotRun result name buffer old.folder old.files_faults mid.files_faults → Faults old (told mid errors faults) result
 gave-up-fault (outcome.Refused r) name buffer old mid errors faults reason = tt
@@ -46,27 +37,13 @@ gave-up-fault other name buffer old mid errors faults reason = absurd reason
 pub fault : (result : Outcome) (name : List ℕ) (options : RunOptions) (old mid : World) (errors : Option (List ℕ)) (faults : ℕ) → RunDid result name options old mid → mid.streams.errors_faults ≤ faults → Faults old (told mid errors faults) result
 fault result name options old mid errors faults (inl gave) counted = gave-up-fault result name options.buffer old mid errors faults gave.reason
 fault result name options old mid errors faults (inr ran) counted =
-    subst (λ (o : Outcome). Faults old (told mid errors faults) o) (sym ran.1) (ran-fault ran.0 old mid errors faults ran.2.rises counted)
-
--- the end of a run is no refusal
-abbrev IsRefusal : Outcome → Type 0
-IsRefusal (outcome.Refused r) = Unit {0}
-IsRefusal other = ⊥
-
-no-refusal : (end : RunEnd) → IsRefusal (outcome_of end) → ⊥
-no-refusal (ends.Ended code) is = is
-no-refusal (ends.Limit taken) is = is
-no-refusal (ends.Stopped cs ip why) is = is
-no-refusal ends.InputFault is = is
-no-refusal ends.OutputFault is = is
-no-refusal ends.ErrorsFault is = is
-no-refusal ends.FilesFault is = is
+    subst (λ (o : Outcome). Faults old (told mid errors faults) o) (sym ran.1) (ran_fault ran.0 old mid errors faults ran.2.rises counted)
 
 -- refusals
 reason-told : (r : Refusal) (name : List ℕ) (options : RunOptions) (old mid : World) → RunDid (outcome.Refused r) name options old mid
     → IsOfRun r × IfSome old.folder (λ held. HasNoStart held (outcome.Refused r) name options.buffer)
 reason-told r name options old mid (inl gave) = gave.reason
-reason-told r name options old mid (inr ran) = absurd (no-refusal ran.0 (subst IsRefusal ran.1 tt))
+reason-told r name options old mid (inr ran) = absurd (no_refusal ran.0 (subst IsRefusal ran.1 tt))
 
 pub refused : (r : Refusal) (words : List (List ℕ)) (old mid : World) → DidRun (outcome.Refused r) words old mid → RunRefused words old r
 refused refusal.Usage words old mid ran = λ name options asked. (reason-told refusal.Usage name options old mid (ran.did name options asked)).0
@@ -130,8 +107,8 @@ ran-unopened end name options (Some held) o o' error has why run =
 pub causes : (result : Outcome) (words : List (List ℕ)) (old mid : World) (errors : Option (List ℕ)) (faults : ℕ) → DidRun result words old mid → Refuses words old (told mid errors faults) result
 causes result words old mid errors faults ran = record {
   usage = λ none. absurd (none.run ran.name ran.options ran.asked);
-  missing = λ name asked lacks. absurd (not_both words name ran.name ran.options asked ran.asked);
-  outside = λ name text asked held none. absurd (not_both words name ran.name ran.options asked ran.asked);
+  missing = λ name options asked lacks. absurd (not_both words name ran.name options ran.options asked ran.asked);
+  outside = λ name options asked lacking. absurd (not_both words name ran.name options ran.options asked ran.asked);
   absent = λ name options asked lacks. by name options lacks (ran.did name options asked);
   unopened = λ name options error asked has why. not-opened name options error has why (ran.did name options asked);
 }
@@ -147,28 +124,28 @@ causes result words old mid errors faults ran = record {
     not-opened name options error has why (inr went) = absurd (ran-unopened went.0 name options old.folder old.streams mid.streams error has why went.2.run)
 
 -- what is left as it was
-gave-up-unchanged : (result : Outcome) (name : List ℕ) (buffer : Option ℕ) (words : List (List ℕ)) (old mid : World) (errors : Option (List ℕ)) (faults : ℕ) → ((other : List ℕ) → IsGo words other → ⊥) → GaveUp result name buffer old mid
+gave-up-unchanged : (result : Outcome) (name : List ℕ) (buffer : Option ℕ) (words : List (List ℕ)) (old mid : World) (errors : Option (List ℕ)) (faults : ℕ) → ((other : List ℕ) (gone : RunOptions) → IsGo words other gone → ⊥) → GaveUp result name buffer old mid
     → errors ≡ append_known mid.streams.errors (line_of result) → Unchanged words old (told mid errors faults) result
 gave-up-unchanged (outcome.Refused r) name buffer words old mid errors faults not gave line = wrote_its_line (outcome.Refused r) old mid errors faults gave.untouched line
-gave-up-unchanged outcome.FilesFault name buffer words old mid errors faults not gave line = λ other asked. absurd (not other asked)
+gave-up-unchanged outcome.FilesFault name buffer words old mid errors faults not gave line = λ other gone asked. absurd (not other gone asked)
 gave-up-unchanged outcome.NoMemory name buffer words old mid errors faults not gave line = wrote_its_line outcome.NoMemory old mid errors faults gave.untouched line
 gave-up-unchanged other name buffer words old mid errors faults not gave line = tt
 
-ran-unchanged : (end : RunEnd) (words : List (List ℕ)) (old new : World) → ((other : List ℕ) → IsGo words other → ⊥) → Unchanged words old new (outcome_of end)
+ran-unchanged : (end : RunEnd) (words : List (List ℕ)) (old new : World) → ((other : List ℕ) (gone : RunOptions) → IsGo words other gone → ⊥) → Unchanged words old new (outcome_of end)
 ran-unchanged (ends.Ended code) words old new not = tt
 ran-unchanged (ends.Limit taken) words old new not = tt
 ran-unchanged (ends.Stopped cs ip why) words old new not = tt
 ran-unchanged ends.InputFault words old new not = tt
 ran-unchanged ends.OutputFault words old new not = tt
 ran-unchanged ends.ErrorsFault words old new not = tt
-ran-unchanged ends.FilesFault words old new not = λ other asked. absurd (not other asked)
+ran-unchanged ends.FilesFault words old new not = λ other gone asked. absurd (not other gone asked)
 
 pub unchanged : (result : Outcome) (words : List (List ℕ)) (old mid : World) (errors : Option (List ℕ)) (faults : ℕ) → DidRun result words old mid → errors ≡ append_known mid.streams.errors (line_of result)
     → Unchanged words old (told mid errors faults) result
 unchanged result words old mid errors faults ran line = by (ran.did ran.name ran.options ran.asked)
   where
-    not : (other : List ℕ) → IsGo words other → ⊥
-    not other asked = not_both words other ran.name ran.options asked ran.asked
+    not : (other : List ℕ) (gone : RunOptions) → IsGo words other gone → ⊥
+    not other gone asked = not_both words other ran.name gone ran.options asked ran.asked
 
     by : RunDid result ran.name ran.options old mid → Unchanged words old (told mid errors faults) result
     by (inl gave) = gave-up-unchanged result ran.name ran.options.buffer words old mid errors faults not gave line

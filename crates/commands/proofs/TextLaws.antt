@@ -14,11 +14,11 @@ use Rattle.commands.specs.Performs.{Shown, DidShow}
 use Rattle.commands.specs.Texts.{IsTextOf}
 use Rattle.commands.specs.Turbo.{IsFault, Faults, Unchanged, Told}
 use Rattle.commands.specs.World.{World}
-use Rattle.commands.proofs.GoLaws.{told}
+use Rattle.commands.proofs.RanLaws.{told}
 
-pub not_go : (words : List (List ℕ)) (text name : List ℕ) → IsTextOf words text → IsGo words name → ⊥
-not_go words text name (inl help) go = help_not words help.0 go.fits
-not_go words text name (inr version) go = version_not words version.0 go.fits
+pub not_go : (words : List (List ℕ)) (text name : List ℕ) (options : RunOptions) → IsTextOf words text → IsGo words name options → ⊥
+not_go words text name options (inl help) go = help_not words help.0 go.fits
+not_go words text name options (inr version) go = version_not words version.0 go.fits
 
 pub not_run : (words : List (List ℕ)) (text name : List ℕ) (options : RunOptions) → IsTextOf words text → IsRun words name options → ⊥
 not_run words text name options (inl help) run = help_not words help.0 run.fits

@@ -8,12 +8,15 @@ use Rattle.outcomes.specs.declared.refusal.Refusal.TheVariants as refusal
 use Rattle.outcomes.specs.declared.outcome.Outcome.{Outcome}
 use Rattle.outcomes.specs.declared.outcome.Outcome.TheVariants as outcome
 use Rattle.outcomes.specs.Line.{line_of}
+use Rattle.dos_runner.specs.Outside.{Outside}
 use Rattle.commands.specs.Performs.{Performs}
-use Rattle.commands.specs.Turbo.{Headline, Written, Complete, Faults, GoRefused, RunRefused, Refused, Refuses, Fronts, FilesAfter, TookErrors, EndsWithLine, Unchanged, AfterLine, RanFiles, MeanRefused, MeantFiles, Tells}
+use Rattle.commands.specs.Turbo.{Headline, HasRun, Written, Complete, Faults, GoRefused, RunRefused, Refused, Refuses, Fronts, FilesAfter, TookErrors, EndsWithLine, Unchanged, AfterLine, WentFiles, RanFiles, MeanRefused, MeantFiles, Tells}
 use Rattle.commands.specs.World.{World}
-use Rattle.commands.proofs.GoLaws.{told, wrote_its_line}
+use Rattle.commands.proofs.GoLaws.{no_output, no_errors, wrote_its_line}
+use Rattle.commands.proofs.RanLaws.{told}
 use Rattle.commands.proofs.GoLaws as go
 use Rattle.commands.proofs.RunLaws as run
+use Rattle.commands.proofs.WentLaws as went
 use Rattle.commands.proofs.MeanLaws as mean
 use Rattle.commands.proofs.MeanLaws.{not_mean}
 use Rattle.commands.proofs.TextLaws as text
@@ -21,32 +24,35 @@ use Rattle.commands.proofs.TextLaws.{not_go, not_run}
 use Rattle.commands.proofs.WordLaws.{not_both, not_go_and_mean, not_run_and_mean}
 
 pub headline : (result : Outcome) (words : List (List ℕ)) (old mid : World) (errors : Option (List ℕ)) (faults : ℕ) → Performs result words old mid → Headline words old (told mid errors faults) result
-headline result words old mid errors faults (inl misused) = λ name statements asked has. absurd (misused.none.go name asked.named)
-headline result words old mid errors faults (inr (inl went)) = go.headline result words old mid errors faults went.goes
-headline result words old mid errors faults (inr (inr (inl ran))) = λ name statements asked has. absurd (not_both words name ran.name ran.options asked.named ran.asked)
-headline result words old mid errors faults (inr (inr (inr (inl out)))) = subst (λ (o : Outcome). Headline words old (told mid errors faults) o) (sym out.is) (go.headline outcome.NoMemory words old mid errors faults out.untouched)
-headline result words old mid errors faults (inr (inr (inr (inr (inl shown))))) = λ name statements asked has. absurd (not_go words shown.text name shown.asked asked.named)
-headline result words old mid errors faults (inr (inr (inr (inr (inr meant))))) = λ name statements asked has. absurd (not_go_and_mean words name meant.name meant.turns asked.named meant.asked)
+headline result words old mid errors faults (inl misused) = λ name options asked has. absurd (misused.none.go name options asked)
+headline result words old mid errors faults (inr (inl went)) = go.headline result words old mid errors faults went
+headline result words old mid errors faults (inr (inr (inl ran))) = λ name options asked has. absurd (not_both words name ran.name options ran.options asked ran.asked)
+headline result words old mid errors faults (inr (inr (inr (inl out)))) = λ name options asked has. absurd (subst HasRun out.is has)
+headline result words old mid errors faults (inr (inr (inr (inr (inl shown))))) = λ name options asked has. absurd (not_go words shown.text name options shown.asked asked)
+headline result words old mid errors faults (inr (inr (inr (inr (inr meant))))) = λ name options asked has. absurd (not_go_and_mean words name meant.name options meant.turns asked meant.asked)
+
+no_program : (result : Outcome) (code : ℕ) → result ≡ outcome.NoMemory → result ≡ outcome.Program code → ⊥
+no_program result code none is = let bad = sym none ∙ is in cc
 
 pub written : (result : Outcome) (words : List (List ℕ)) (old mid : World) (errors : Option (List ℕ)) (faults : ℕ) → Performs result words old mid → errors ≡ append_known mid.streams.errors (line_of result) → Written words old (told mid errors faults) result
-written result words old mid errors faults (inl misused) line = λ name statements code asked is. absurd (misused.none.go name asked.named)
-written result words old mid errors faults (inr (inl went)) line = go.written result words old mid errors faults went.goes line
-written result words old mid errors faults (inr (inr (inl ran))) line = λ name statements code asked is. absurd (not_both words name ran.name ran.options asked.named ran.asked)
-written result words old mid errors faults (inr (inr (inr (inl out)))) line = subst (λ (o : Outcome). Written words old (told mid errors faults) o) (sym out.is) (go.written outcome.NoMemory words old mid errors faults out.untouched (line ∙ ap (λ (o : Outcome). append_known mid.streams.errors (line_of o)) out.is))
-written result words old mid errors faults (inr (inr (inr (inr (inl shown))))) line = λ name statements code asked is. absurd (not_go words shown.text name shown.asked asked.named)
-written result words old mid errors faults (inr (inr (inr (inr (inr meant))))) line = λ name statements code asked is. absurd (not_go_and_mean words name meant.name meant.turns asked.named meant.asked)
+written result words old mid errors faults (inl misused) line = λ name options code asked is. absurd (misused.none.go name options asked)
+written result words old mid errors faults (inr (inl went)) line = go.written result words old mid errors faults went line
+written result words old mid errors faults (inr (inr (inl ran))) line = λ name options code asked is. absurd (not_both words name ran.name options ran.options asked ran.asked)
+written result words old mid errors faults (inr (inr (inr (inl out)))) line = λ name options code asked is. absurd (no_program result code out.is is)
+written result words old mid errors faults (inr (inr (inr (inr (inl shown))))) line = λ name options code asked is. absurd (not_go words shown.text name options shown.asked asked)
+written result words old mid errors faults (inr (inr (inr (inr (inr meant))))) line = λ name options code asked is. absurd (not_go_and_mean words name meant.name options meant.turns asked meant.asked)
 
-pub complete : (result : Outcome) (words : List (List ℕ)) (old mid : World) (errors : Option (List ℕ)) (faults : ℕ) → Performs result words old mid → old.streams.errors_faults ≤ mid.streams.errors_faults → mid.streams.errors_faults ≤ faults → Complete words old (told mid errors faults) result
-complete result words old mid errors faults (inl misused) rise rises = λ name statements asked. absurd (misused.none.go name asked.named)
-complete result words old mid errors faults (inr (inl went)) rise rises = go.complete result words old mid errors faults went.goes rise rises
-complete result words old mid errors faults (inr (inr (inl ran))) rise rises = λ name statements asked. absurd (not_both words name ran.name ran.options asked.named ran.asked)
-complete result words old mid errors faults (inr (inr (inr (inl out)))) rise rises = subst (λ (o : Outcome). Complete words old (told mid errors faults) o) (sym out.is) (go.complete outcome.NoMemory words old mid errors faults out.untouched rise rises)
-complete result words old mid errors faults (inr (inr (inr (inr (inl shown))))) rise rises = λ name statements asked. absurd (not_go words shown.text name shown.asked asked.named)
-complete result words old mid errors faults (inr (inr (inr (inr (inr meant))))) rise rises = λ name statements asked. absurd (not_go_and_mean words name meant.name meant.turns asked.named meant.asked)
+pub complete : (result : Outcome) (words : List (List ℕ)) (old mid : World) (errors : Option (List ℕ)) (faults : ℕ) → Performs result words old mid → mid.streams.errors_faults ≤ faults → Complete words old (told mid errors faults) result
+complete result words old mid errors faults (inl misused) counted = λ name options asked. absurd (misused.none.go name options asked)
+complete result words old mid errors faults (inr (inl went)) counted = go.complete result words old mid errors faults went counted
+complete result words old mid errors faults (inr (inr (inl ran))) counted = λ name options asked. absurd (not_both words name ran.name options ran.options asked ran.asked)
+complete result words old mid errors faults (inr (inr (inr (inl out)))) counted = go.complete_out result words old (told mid errors faults) out.is
+complete result words old mid errors faults (inr (inr (inr (inr (inl shown))))) counted = λ name options asked. absurd (not_go words shown.text name options shown.asked asked)
+complete result words old mid errors faults (inr (inr (inr (inr (inr meant))))) counted = λ name options asked. absurd (not_go_and_mean words name meant.name options meant.turns asked meant.asked)
 
 pub fault : (result : Outcome) (words : List (List ℕ)) (old mid : World) (errors : Option (List ℕ)) (faults : ℕ) → Performs result words old mid → mid.streams.errors_faults ≤ faults → Faults old (told mid errors faults) result
 fault result words old mid errors faults (inl misused) rises = subst (λ (o : Outcome). Faults old (told mid errors faults) o) (sym misused.is) tt
-fault result words old mid errors faults (inr (inl went)) rises = go.fault result words old mid errors faults went.goes rises
+fault result words old mid errors faults (inr (inl went)) rises = go.fault result went.name went.options old mid errors faults (went.did went.name went.options went.asked) rises
 fault result words old mid errors faults (inr (inr (inl ran))) rises = run.fault result ran.name ran.options old mid errors faults (ran.did ran.name ran.options ran.asked) rises
 fault result words old mid errors faults (inr (inr (inr (inl out)))) rises = subst (λ (o : Outcome). Faults old (told mid errors faults) o) (sym out.is) tt
 fault result words old mid errors faults (inr (inr (inr (inr (inl shown))))) rises = text.fault result shown.text old mid errors faults shown.shown
@@ -54,15 +60,15 @@ fault result words old mid errors faults (inr (inr (inr (inr (inr meant))))) ris
 
 refuses-so : (r : Refusal) (words : List (List ℕ)) (old mid : World) → Performs (outcome.Refused r) words old mid → Refused words old (outcome.Refused r)
 refuses-so r words old mid (inl misused) = subst (λ (o : Outcome). Refused words old o) (sym misused.is) (misused.none.go, misused.none.run, misused.none.mean, misused.none.text)
-refuses-so r words old mid (inr (inl went)) = (go.refused r words old mid went.goes, other r, mean_other r, λ text asked. not_go words text went.name asked went.asked)
+refuses-so r words old mid (inr (inl went)) = (go.refused r words old mid went, other r, mean_other r, λ text asked. not_go words text went.name went.options asked went.asked)
   where
     mean_other : (r : Refusal) → MeanRefused words old r
-    mean_other refusal.Usage = λ name turns asked. not_go_and_mean words went.name name turns went.asked asked
-    mean_other r = λ name turns asked. absurd (not_go_and_mean words went.name name turns went.asked asked)
+    mean_other refusal.Usage = λ name turns asked. not_go_and_mean words went.name name went.options turns went.asked asked
+    mean_other r = λ name turns asked. absurd (not_go_and_mean words went.name name went.options turns went.asked asked)
 
     other : (r : Refusal) → RunRefused words old r
-    other refusal.Usage = λ name options asked. not_both words went.name name options went.asked asked
-    other r = λ name options asked. absurd (not_both words went.name name options went.asked asked)
+    other refusal.Usage = λ name options asked. not_both words went.name name went.options options went.asked asked
+    other r = λ name options asked. absurd (not_both words went.name name went.options options went.asked asked)
 refuses-so r words old mid (inr (inr (inl ran))) = (other r, run.refused r words old mid ran, mean_other r, λ text asked. not_run words text ran.name ran.options asked ran.asked)
   where
     mean_other : (r : Refusal) → MeanRefused words old r
@@ -70,17 +76,15 @@ refuses-so r words old mid (inr (inr (inl ran))) = (other r, run.refused r words
     mean_other r = λ name turns asked. absurd (not_run_and_mean words ran.name name ran.options turns ran.asked asked)
 
     other : (r : Refusal) → GoRefused words old r
-    other (refusal.MissingFile file) = λ name asked. absurd (not_both words name ran.name ran.options asked ran.asked)
-    other (refusal.NotInProfile at feature) = λ name asked. absurd (not_both words name ran.name ran.options asked ran.asked)
-    other r = λ name asked. not_both words name ran.name ran.options asked ran.asked
+    other refusal.Usage = λ name options asked. not_both words name ran.name options ran.options asked ran.asked
+    other r = λ name options asked. absurd (not_both words name ran.name options ran.options asked ran.asked)
 refuses-so r words old mid (inr (inr (inr (inl out)))) = absurd (let is = out.is in cc)
 refuses-so r words old mid (inr (inr (inr (inr (inl shown))))) = absurd shown.shown
 refuses-so r words old mid (inr (inr (inr (inr (inr meant))))) = (go_other r, run_other r, mean.refused r words old mid meant, λ text asked. not_mean words text meant.name meant.turns asked meant.asked)
   where
     go_other : (r : Refusal) → GoRefused words old r
-    go_other (refusal.MissingFile file) = λ name asked. absurd (not_go_and_mean words name meant.name meant.turns asked meant.asked)
-    go_other (refusal.NotInProfile at feature) = λ name asked. absurd (not_go_and_mean words name meant.name meant.turns asked meant.asked)
-    go_other r = λ name asked. not_go_and_mean words name meant.name meant.turns asked meant.asked
+    go_other refusal.Usage = λ name options asked. not_go_and_mean words name meant.name options meant.turns asked meant.asked
+    go_other r = λ name options asked. absurd (not_go_and_mean words name meant.name options meant.turns asked meant.asked)
 
     run_other : (r : Refusal) → RunRefused words old r
     run_other refusal.Usage = λ name options asked. not_run_and_mean words name meant.name options meant.turns asked meant.asked
@@ -102,20 +106,20 @@ refused (outcome.Undefined act) words old mid did = tt
 refused outcome.Stuck words old mid did = tt
 
 pub fronts : (result : Outcome) (words : List (List ℕ)) (old mid : World) (errors : Option (List ℕ)) (faults : ℕ) → Performs result words old mid → Fronts words old (told mid errors faults)
-fronts result words old mid errors faults (inl misused) = λ name statements asked. absurd (misused.none.go name asked.named)
-fronts result words old mid errors faults (inr (inl went)) = go.fronts result words old mid errors faults went.goes
-fronts result words old mid errors faults (inr (inr (inl ran))) = λ name statements asked. absurd (not_both words name ran.name ran.options asked.named ran.asked)
-fronts result words old mid errors faults (inr (inr (inr (inl out)))) = go.fronts outcome.NoMemory words old mid errors faults out.untouched
-fronts result words old mid errors faults (inr (inr (inr (inr (inl shown))))) = λ name statements asked. absurd (not_go words shown.text name shown.asked asked.named)
-fronts result words old mid errors faults (inr (inr (inr (inr (inr meant))))) = λ name statements asked. absurd (not_go_and_mean words name meant.name meant.turns asked.named meant.asked)
+fronts result words old mid errors faults (inl misused) = λ name options asked. absurd (misused.none.go name options asked)
+fronts result words old mid errors faults (inr (inl went)) = go.fronts result words old mid errors faults went
+fronts result words old mid errors faults (inr (inr (inl ran))) = λ name options asked. absurd (not_both words name ran.name options ran.options asked ran.asked)
+fronts result words old mid errors faults (inr (inr (inr (inl out)))) = λ name options asked. no_output old.folder name old.streams.output mid.streams.output (ap (λ (o : Outside). o.output) out.untouched.streams)
+fronts result words old mid errors faults (inr (inr (inr (inr (inl shown))))) = λ name options asked. absurd (not_go words shown.text name options shown.asked asked)
+fronts result words old mid errors faults (inr (inr (inr (inr (inr meant))))) = λ name options asked. absurd (not_go_and_mean words name meant.name options meant.turns asked meant.asked)
 
 took_errors : (result : Outcome) (words : List (List ℕ)) (old mid : World) → Performs result words old mid → TookErrors words old mid.streams.errors
-took_errors result words old mid (inl misused) = λ name statements asked. absurd (misused.none.go name asked.named)
-took_errors result words old mid (inr (inl went)) = go.took_errors result words old mid went.goes
-took_errors result words old mid (inr (inr (inl ran))) = λ name statements asked. absurd (not_both words name ran.name ran.options asked.named ran.asked)
-took_errors result words old mid (inr (inr (inr (inl out)))) = go.took_errors outcome.NoMemory words old mid out.untouched
-took_errors result words old mid (inr (inr (inr (inr (inl shown))))) = λ name statements asked. absurd (not_go words shown.text name shown.asked asked.named)
-took_errors result words old mid (inr (inr (inr (inr (inr meant))))) = λ name statements asked. absurd (not_go_and_mean words name meant.name meant.turns asked.named meant.asked)
+took_errors result words old mid (inl misused) = λ name options asked. absurd (misused.none.go name options asked)
+took_errors result words old mid (inr (inl went)) = go.took_errors result words old mid went
+took_errors result words old mid (inr (inr (inl ran))) = λ name options asked. absurd (not_both words name ran.name options ran.options asked ran.asked)
+took_errors result words old mid (inr (inr (inr (inl out)))) = λ name options asked. no_errors old.folder name old.streams.errors mid.streams.errors (ap (λ (o : Outside). o.errors) out.untouched.streams)
+took_errors result words old mid (inr (inr (inr (inr (inl shown))))) = λ name options asked. absurd (not_go words shown.text name options shown.asked asked)
+took_errors result words old mid (inr (inr (inr (inr (inr meant))))) = λ name options asked. absurd (not_go_and_mean words name meant.name options meant.turns asked meant.asked)
 
 pub ends_with_line : (result : Outcome) (words : List (List ℕ)) (old mid : World) (errors : Option (List ℕ)) (faults : ℕ) → Performs result words old mid → errors ≡ append_known mid.streams.errors (line_of result) → EndsWithLine words old (told mid errors faults) result
 ends_with_line (outcome.Program code) words old mid errors faults did line = (mid.streams.errors, line, took_errors (outcome.Program code) words old mid did)
@@ -137,15 +141,15 @@ unchanged result words old mid errors faults (inl misused) line =
     let usage : Outcome = outcome.Refused refusal.Usage in
     subst (λ (o : Outcome). Unchanged words old (told mid errors faults) o) (sym misused.is)
     (wrote_its_line usage old mid errors faults misused.untouched (line ∙ ap (λ (o : Outcome). append_known mid.streams.errors (line_of o)) misused.is))
-unchanged result words old mid errors faults (inr (inl went)) line = go.unchanged result words old mid errors faults went.goes line
+unchanged result words old mid errors faults (inr (inl went)) line = go.unchanged result words old mid errors faults went line
 unchanged result words old mid errors faults (inr (inr (inl ran))) line = run.unchanged result words old mid errors faults ran line
-unchanged result words old mid errors faults (inr (inr (inr (inl out)))) line = subst (λ (o : Outcome). Unchanged words old (told mid errors faults) o) (sym out.is) (go.unchanged outcome.NoMemory words old mid errors faults out.untouched (line ∙ ap (λ (o : Outcome). append_known mid.streams.errors (line_of o)) out.is))
+unchanged result words old mid errors faults (inr (inr (inr (inl out)))) line = subst (λ (o : Outcome). Unchanged words old (told mid errors faults) o) (sym out.is) (wrote_its_line outcome.NoMemory old mid errors faults out.untouched (line ∙ ap (λ (o : Outcome). append_known mid.streams.errors (line_of o)) out.is))
 unchanged result words old mid errors faults (inr (inr (inr (inr (inl shown))))) line = text.unchanged result words shown.text old mid errors faults shown.shown
 unchanged result words old mid errors faults (inr (inr (inr (inr (inr meant))))) line = mean.unchanged result words old mid errors faults meant line
 
 pub files_after : (result : Outcome) (words : List (List ℕ)) (old mid : World) (errors : Option (List ℕ)) (faults : ℕ) → Performs result words old mid → FilesAfter words old (told mid errors faults)
 files_after result words old mid errors faults (inl misused) = inl misused.untouched.folder
-files_after result words old mid errors faults (inr (inl went)) = go.files_after result words old mid errors faults went.goes
+files_after result words old mid errors faults (inr (inl went)) = go.files_after result words old mid errors faults went
 files_after result words old mid errors faults (inr (inr (inl ran))) = inl (run.folder_kept result words old mid ran)
 files_after result words old mid errors faults (inr (inr (inr (inl out)))) = inl out.untouched.folder
 files_after result words old mid errors faults (inr (inr (inr (inr (inl shown))))) = inl shown.folder
@@ -154,33 +158,54 @@ files_after result words old mid errors faults (inr (inr (inr (inr (inr meant)))
 pub causes : (result : Outcome) (words : List (List ℕ)) (old mid : World) (errors : Option (List ℕ)) (faults : ℕ) → Performs result words old mid → Refuses words old (told mid errors faults) result
 causes result words old mid errors faults (inl misused) = record {
   usage = λ none. inl misused.is;
-  missing = λ name asked lacks. absurd (misused.none.go name asked);
-  outside = λ name text asked held none. absurd (misused.none.go name asked);
+  missing = λ name options asked lacks. absurd (misused.none.go name options asked);
+  outside = λ name options asked lacking. absurd (misused.none.go name options asked);
   absent = λ name options asked lacks. absurd (misused.none.run name options asked);
   unopened = λ name options error asked has why. absurd (misused.none.run name options asked);
 }
-causes result words old mid errors faults (inr (inl went)) = go.causes result words old mid errors faults went.goes
+causes result words old mid errors faults (inr (inl went)) = go.causes result words old mid errors faults went
 causes result words old mid errors faults (inr (inr (inl ran))) = run.causes result words old mid errors faults ran
-causes result words old mid errors faults (inr (inr (inr (inl out)))) = subst (λ (o : Outcome). Refuses words old (told mid errors faults) o) (sym out.is) (go.causes outcome.NoMemory words old mid errors faults out.untouched)
+causes result words old mid errors faults (inr (inr (inr (inl out)))) = subst (λ (o : Outcome). Refuses words old (told mid errors faults) o) (sym out.is) (record {
+  usage = λ none. inr tt;
+  missing = λ name options asked lacks. inr tt;
+  outside = λ name options asked lacking. inr tt;
+  absent = λ name options asked lacks. inr tt;
+  unopened = λ name options error asked has why. inr tt;
+})
 causes result words old mid errors faults (inr (inr (inr (inr (inl shown))))) = record {
   usage = λ none. absurd (none.text shown.text shown.asked);
-  missing = λ name asked lacks. absurd (not_go words shown.text name shown.asked asked);
-  outside = λ name text asked held none. absurd (not_go words shown.text name shown.asked asked);
+  missing = λ name options asked lacks. absurd (not_go words shown.text name options shown.asked asked);
+  outside = λ name options asked lacking. absurd (not_go words shown.text name options shown.asked asked);
   absent = λ name options asked lacks. absurd (not_run words shown.text name options shown.asked asked);
   unopened = λ name options error asked has why. absurd (not_run words shown.text name options shown.asked asked);
 }
 causes result words old mid errors faults (inr (inr (inr (inr (inr meant))))) = record {
   usage = λ none. absurd (none.mean meant.name meant.turns meant.asked);
-  missing = λ name asked lacks. absurd (not_go_and_mean words name meant.name meant.turns asked meant.asked);
-  outside = λ name text asked held none. absurd (not_go_and_mean words name meant.name meant.turns asked meant.asked);
+  missing = λ name options asked lacks. absurd (not_go_and_mean words name meant.name options meant.turns asked meant.asked);
+  outside = λ name options asked lacking. absurd (not_go_and_mean words name meant.name options meant.turns asked meant.asked);
   absent = λ name options asked lacks. absurd (not_run_and_mean words name meant.name options meant.turns asked meant.asked);
   unopened = λ name options error asked has why. absurd (not_run_and_mean words name meant.name options meant.turns asked meant.asked);
 }
 
+-- what was built and run, with the line after it or a front of the line
+went-files : (inner result : Outcome) (words : List (List ℕ)) (old mid : World) (errors : Option (List ℕ)) (faults : ℕ) → Performs inner words old mid → AfterLine result inner mid.streams.errors errors → WentFiles words old (told mid errors faults) result
+went-files inner result words old mid errors faults (inl misused) line = λ name options asked. absurd (misused.none.go name options asked)
+went-files inner result words old mid errors faults (inr (inl did)) line = went.went inner result words old mid errors faults did line
+went-files inner result words old mid errors faults (inr (inr (inl ran))) line = λ name options asked. absurd (not_both words name ran.name options ran.options asked ran.asked)
+went-files inner result words old mid errors faults (inr (inr (inr (inl out)))) line = λ name options asked. went.ran_out old.folder inner result name options old mid errors faults out.is out.untouched.streams line
+went-files inner result words old mid errors faults (inr (inr (inr (inr (inl shown))))) line = λ name options asked. absurd (not_go words shown.text name options shown.asked asked)
+went-files inner result words old mid errors faults (inr (inr (inr (inr (inr meant))))) line = λ name options asked. absurd (not_go_and_mean words name meant.name options meant.turns asked meant.asked)
+
+pub went_with_line : (result : Outcome) (words : List (List ℕ)) (old mid : World) (errors : Option (List ℕ)) (faults : ℕ) → Performs result words old mid → errors ≡ append_known mid.streams.errors (line_of result) → WentFiles words old (told mid errors faults) result
+went_with_line result words old mid errors faults did line = went-files result result words old mid errors faults did (inl (refl, line))
+
+pub went_without_line : (inner : Outcome) (words : List (List ℕ)) (old mid : World) (errors : Option (List ℕ)) (faults : ℕ) → Performs inner words old mid → TakesPrefix mid.streams.errors errors (line_of inner) → WentFiles words old (told mid errors faults) outcome.ErrorsFault
+went_without_line inner words old mid errors faults did front = went-files inner outcome.ErrorsFault words old mid errors faults did (inr (refl, front))
+
 -- what was run, with the line after it or a front of the line
 ran-files : (inner result : Outcome) (words : List (List ℕ)) (old mid : World) (errors : Option (List ℕ)) (faults : ℕ) → Performs inner words old mid → AfterLine result inner mid.streams.errors errors → RanFiles words old (told mid errors faults) result
 ran-files inner result words old mid errors faults (inl misused) line = λ name options asked. absurd (misused.none.run name options asked)
-ran-files inner result words old mid errors faults (inr (inl went)) line = λ name options asked. absurd (not_both words went.name name options went.asked asked)
+ran-files inner result words old mid errors faults (inr (inl went)) line = λ name options asked. absurd (not_both words went.name name went.options options went.asked asked)
 ran-files inner result words old mid errors faults (inr (inr (inl ran))) line = run.ran inner result words old mid errors faults ran line
 ran-files inner result words old mid errors faults (inr (inr (inr (inl out)))) line = λ name options asked. run.ran_out old.folder inner result name options old mid errors faults out.is out.untouched.streams line
 ran-files inner result words old mid errors faults (inr (inr (inr (inr (inl shown))))) line = λ name options asked. absurd (not_run words shown.text name options shown.asked asked)
@@ -195,7 +220,7 @@ ran_without_line inner words old mid errors faults did front = ran-files inner o
 -- what was shown of a meaning, with the line after it or a front of the line
 means-files : (inner result : Outcome) (words : List (List ℕ)) (old mid : World) (errors : Option (List ℕ)) (faults : ℕ) → Performs inner words old mid → AfterLine result inner mid.streams.errors errors → MeantFiles words old (told mid errors faults) result
 means-files inner result words old mid errors faults (inl misused) line = λ name turns asked. absurd (misused.none.mean name turns asked)
-means-files inner result words old mid errors faults (inr (inl went)) line = λ name turns asked. absurd (not_go_and_mean words went.name name turns went.asked asked)
+means-files inner result words old mid errors faults (inr (inl went)) line = λ name turns asked. absurd (not_go_and_mean words went.name name went.options turns went.asked asked)
 means-files inner result words old mid errors faults (inr (inr (inl ran))) line = λ name turns asked. absurd (not_run_and_mean words ran.name name ran.options turns ran.asked asked)
 means-files inner result words old mid errors faults (inr (inr (inr (inl out)))) line = λ name turns asked. mean.ran_out old.folder inner result name turns old mid errors faults out.is out.untouched.streams line
 means-files inner result words old mid errors faults (inr (inr (inr (inr (inl shown))))) line = λ name turns asked. absurd (not_mean words shown.text name turns shown.asked asked)
@@ -210,10 +235,13 @@ meant_without_line inner words old mid errors faults did front = means-files inn
 pub line_failed : (words : List (List ℕ)) (old new : World) (mid : ℕ) → old.streams.errors_faults ≤ mid → HasRisen mid new.streams.errors_faults → Refuses words old new outcome.ErrorsFault
 line_failed words old new mid counted rose = go.line_failed words old new mid counted rose
 
+pub complete_failed : (words : List (List ℕ)) (old new : World) (mid : ℕ) → old.streams.errors_faults ≤ mid → HasRisen mid new.streams.errors_faults → Complete words old new outcome.ErrorsFault
+complete_failed words old new mid counted rose = go.complete_failed words old new mid counted rose
+
 -- what a text's output took, with the line after it or without
 pub tells_with_line : (result : Outcome) (words : List (List ℕ)) (old mid : World) (errors : Option (List ℕ)) (faults : ℕ) → Performs result words old mid → errors ≡ append_known mid.streams.errors (line_of result) → Tells words old (told mid errors faults) result
 tells_with_line result words old mid errors faults (inl misused) line = λ t asked. absurd (misused.none.text t asked)
-tells_with_line result words old mid errors faults (inr (inl went)) line = λ t asked. absurd (not_go words t went.name asked went.asked)
+tells_with_line result words old mid errors faults (inr (inl went)) line = λ t asked. absurd (not_go words t went.name went.options asked went.asked)
 tells_with_line result words old mid errors faults (inr (inr (inl ran))) line = λ t asked. absurd (not_run words t ran.name ran.options asked ran.asked)
 tells_with_line result words old mid errors faults (inr (inr (inr (inl out)))) line = λ t asked. absurd (out.none t asked)
 tells_with_line result words old mid errors faults (inr (inr (inr (inr (inl shown))))) line = λ t asked. text.tells_with_line result words old mid errors faults t shown line asked
@@ -222,7 +250,7 @@ tells_with_line result words old mid errors faults (inr (inr (inr (inr (inr mean
 pub tells_without_line : (inner : Outcome) (words : List (List ℕ)) (old mid : World) (errors : Option (List ℕ)) (faults : ℕ) → Performs inner words old mid → old.streams.errors_faults ≤ mid.streams.errors_faults → HasRisen mid.streams.errors_faults faults
     → Tells words old (told mid errors faults) outcome.ErrorsFault
 tells_without_line inner words old mid errors faults (inl misused) counted rose = λ t asked. absurd (misused.none.text t asked)
-tells_without_line inner words old mid errors faults (inr (inl went)) counted rose = λ t asked. absurd (not_go words t went.name asked went.asked)
+tells_without_line inner words old mid errors faults (inr (inl went)) counted rose = λ t asked. absurd (not_go words t went.name went.options asked went.asked)
 tells_without_line inner words old mid errors faults (inr (inr (inl ran))) counted rose = λ t asked. absurd (not_run words t ran.name ran.options asked ran.asked)
 tells_without_line inner words old mid errors faults (inr (inr (inr (inl out)))) counted rose = λ t asked. absurd (out.none t asked)
 tells_without_line inner words old mid errors faults (inr (inr (inr (inr (inl shown))))) counted rose = λ t asked.

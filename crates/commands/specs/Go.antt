@@ -1,80 +1,132 @@
--- What a command does before its last line, by its outcome.
-use Rattle.std.specs.Prelude.{◌≡◌, ℕ, List, Option, Some, None, IfSome}
+-- What `go` does before its last line.
+use Rattle.std.specs.Prelude.{◌≡◌, ◌⊎◌, ℕ, List, [], ◌∷◌, Option, Some, IfSome}
 use Rattle.tp_outside.specs.Faults.{HasRisen}
 use Rattle.tp_outside.specs.Folder.{Folder, with_known_file}
-use Rattle.cpu_8086.specs.State.{State}
-use Rattle.literal_form.specs.Source.{IsSource}
-use Rattle.literal_form.specs.Statement.{Statement, mean}
+use Rattle.type_layout.specs.declared.texts.Place.{Place}
+use Rattle.tp_lexer.specs.declared.token.Text.{Text}
 use Rattle.tp_lexer.specs.declared.token.Feature.TheVariants.{NotYet}
+use Rattle.source_gathering.specs.declared.sources.Source.{Source}
+use Rattle.source_gathering.specs.Texts.{at}
+use Rattle.source_gathering.specs.Walk.{Gathers}
+use Rattle.typed_tree.specs.declared.units.Program.{Program}
+use Rattle.meaning.specs.Meaning.{mean}
+use Rattle.front_end.specs.declared.program.TypedSources.{TypedSources}
+use Rattle.front_end.specs.Typed.{IsProgram, IsProgramIn}
+use Rattle.front_end.specs.Untyped.{IsNoProgram, IsRefusing}
+use Rattle.literal_programs.specs.Literals.{IsLiteral}
+use Rattle.literal_programs.specs.Agrees.{Agrees}
+use Rattle.literal_programs.specs.Memory.{HasMemoryOf}
+use Rattle.literal_code.specs.Ends.{EndsWithin}
+use Rattle.literal_places.specs.Places.{place_outside}
+use Rattle.cpu_8086.specs.State.{State}
 use Rattle.mz_file.specs.Format.{exe_of}
 use Rattle.mz_file.specs.Load.{loaded}
-use Rattle.literal_code.specs.Agrees.{Agrees, EndsWithin}
 use Rattle.dos_runner.specs.declared.runner.RunEnd.{RunEnd}
 use Rattle.dos_runner.specs.declared.runner.RunEnd.TheVariants as ends
-use Rattle.dos_runner.specs.Outside.{RunsTo}
-use Rattle.commands.specs.declared.names.FileKind.TheVariants.{Source, Executable}
+use Rattle.dos_runner.specs.Outside.{Outside, RunsTo}
+use Rattle.opened_program.specs.declared.error.OpenError.{OpenError}
+use Rattle.opened_program.specs.Opening.{IsRefused}
+use Rattle.overlay_runner.specs.Event.{Rises}
+use Rattle.command_line.specs.declared.command.RunOptions.{RunOptions}
+use Rattle.outcomes.specs.declared.refusal.Refusal.{Refusal}
 use Rattle.outcomes.specs.declared.refusal.Refusal.TheVariants as refusal
 use Rattle.outcomes.specs.declared.outcome.Outcome.{Outcome}
 use Rattle.outcomes.specs.declared.outcome.Outcome.TheVariants as outcome
+use Rattle.commands.specs.declared.names.FileKind.TheVariants.{Executable, Overlays}
 use Rattle.commands.specs.Files.{file_of}
-use Rattle.command_line.specs.Words.{IsGo}
+use Rattle.commands.specs.Ending.{outcome_of}
+use Rattle.commands.specs.Run.{refused_as, limit_of}
 use Rattle.commands.specs.World.{World, IsUntouched}
 
--- Where the folder is told, the file is a source that says these statements.
-abbrev pub Says : Option Folder → List ℕ → List Statement → Type 0
-Says folder file statements = IfSome folder (λ held. (text : List ℕ) × (held file ≡ Some text) × IsSource text statements)
+-- ---- programs of literals
 
--- Where the folder is told, the file is there, and is no source.
-abbrev pub SaysNothing : Option Folder → List ℕ → Type 0
-SaysNothing folder file = IfSome folder (λ held. (text : List ℕ) × (held file ≡ Some text) × ((statements : List Statement) → IsSource text statements → ⊥))
+-- where sources leave the literal form: in the first of them, which is the program's own
+abbrev pub place_of_first : List Source → Program → Place
+place_of_first [] program = record { text = 0; line = 1; column = 1 }
+place_of_first (source ∷ sources) program = place_outside source.tree program
 
--- Why a source gave no program.
-abbrev pub ReadsNot : Outcome → List ℕ → Option Folder → ℕ → ℕ → Type 0
-ReadsNot (outcome.Refused (refusal.MissingFile name)) file folder old new = (name ≡ file) × IfSome folder (λ held. held file ≡ None)
-ReadsNot (outcome.Refused (refusal.NotInProfile at feature)) file folder old new =
-    (at ≡ record { file = file; line = 1; column = 1 }) × (feature ≡ NotYet) × SaysNothing folder file
-ReadsNot outcome.FilesFault file folder old new = HasRisen old new
-ReadsNot outcome.NoMemory file folder old new = Unit {0}
-ReadsNot other file folder old new = ⊥
+-- what is said of sources that leave it
+abbrev pub other_form : TypedSources → Refusal
+other_form found = refusal.NotInProfile (at found.texts.items (place_of_first found.sources.items found.program)) NotYet
 
--- These bytes do what the statements mean, soon, and the machine is as they start.
-pub record IsBuilt (statements : List Statement) (bytes : List ℕ) (machine : State) : Type 0 where
-  pub agrees : Agrees statements bytes
-  pub soon : (input : List ℕ) → EndsWithin 16389 bytes input (mean statements)
-  pub starts : machine ≡ loaded (exe_of bytes)
+-- The files hold a program of this name that is not of the literal form; it is not built yet at the first node that the form lacks.
+pub record IsOfOtherForm (held : Folder) (name : List ℕ) (r : Refusal) : Type 0 where
+  pub texts : List Text
+  pub sources : List Source
+  pub gathers : Gathers held name texts sources
+  pub program : Program
+  pub is : IsProgram sources program
+  pub other : IsLiteral program → ⊥
+  pub refused : r ≡ refusal.NotInProfile (at texts (place_of_first sources program)) NotYet
 
--- The executable of the program that the words name was written, and run with this end.
-pub record Ran (end : RunEnd) (words : List (List ℕ)) (old new : World) : Type 0 where
-  pub name : List ℕ
-  pub named : IsGo words name
-  pub statements : List Statement
-  pub says : Says old.folder (file_of name Source) statements
+-- A program is of the literal form, and these bytes do what it means, soon, in the memory that it asks for.
+pub record DoesSoon (program : Program) (bytes : List ℕ) : Type 0 where
+  pub literal : IsLiteral program
+  pub memory : HasMemoryOf program (exe_of bytes)
+  pub agrees : Agrees program bytes
+  pub soon : (input : List ℕ) (turns : ℕ) → EndsWithin 16389 bytes input (mean program input turns)
+
+-- Why it was not made to an executable: it is of another form.
+abbrev pub IsNotMade : TypedSources → Outcome → Type 0
+IsNotMade found (outcome.Refused r) = (IsLiteral found.program → ⊥) × (r ≡ other_form found)
+IsNotMade found outcome.NoMemory = Unit {0}
+IsNotMade found other = ⊥
+
+-- The files hold such a program, and these bytes do what it means.
+pub record IsBuiltFrom (held : Folder) (name bytes : List ℕ) : Type 0 where
+  pub program : Program
+  pub is : IsProgramIn held name program
+  pub does : DoesSoon program bytes
+
+-- The executable of such a program would not begin, for the reason for which `run` would not open it.
+pub record CannotBegin (held : Folder) (name : List ℕ) (buffer : Option ℕ) (r : Refusal) : Type 0 where
   pub bytes : List ℕ
-  pub start : State
-  pub built : IsBuilt statements bytes start
-  pub written : new.folder ≡ with_known_file old.folder (file_of name Executable) bytes
-  pub last : State
-  pub run : RunsTo end 1000000000 start last old.streams new.streams
+  pub built : IsBuiltFrom held name bytes
+  pub error : OpenError
+  pub is : outcome.Refused r ≡ refused_as error
+  pub cause : IsRefused bytes (file_of name Overlays) (held (file_of name Overlays)) buffer error
 
--- The words name a program whose source gave none, for this reason.
-pub record GivesUp (result : Outcome) (words : List (List ℕ)) (old new : World) : Type 0 where
-  pub name : List ℕ
-  pub named : IsGo words name
-  pub reason : ReadsNot result (file_of name Source) old.folder old.files_faults new.files_faults
+-- ---- refusals
+
+-- Why the program of this name is refused that is to be built and run.
+abbrev pub IsNotBuilt : Folder → List ℕ → Option ℕ → Refusal → Type 0
+IsNotBuilt held name buffer r = IsNoProgram held name (outcome.Refused r) ⊎ (IsOfOtherForm held name r ⊎ CannotBegin held name buffer r)
+
+-- Why it was not run. Faults and want of memory have no cause there.
+abbrev pub HasNoRun : Folder → Outcome → List ℕ → Option ℕ → Type 0
+HasNoRun held (outcome.Refused r) name buffer = IsNotBuilt held name buffer r
+HasNoRun held outcome.FilesFault name buffer = Unit {0}
+HasNoRun held outcome.NoMemory name buffer = Unit {0}
+HasNoRun held other name buffer = ⊥
+
+-- The same, also where the folder isn't told.
+abbrev pub IsNotGone : Outcome → List ℕ → Option ℕ → Option Folder → ℕ → ℕ → Type 0
+IsNotGone (outcome.Refused r) name buffer folder old new = IsRefusing (outcome.Refused r) × IfSome folder (λ held. IsNotBuilt held name buffer r)
+IsNotGone outcome.FilesFault name buffer folder old new = HasRisen old new
+IsNotGone outcome.NoMemory name buffer folder old new = Unit {0}
+IsNotGone other name buffer folder old new = ⊥
+
+-- Nothing was written, for this reason.
+pub record GaveNoRun (result : Outcome) (name : List ℕ) (buffer : Option ℕ) (old new : World) : Type 0 where
+  pub reason : IsNotGone result name buffer old.folder old.files_faults new.files_faults
   pub untouched : IsUntouched old new
 
--- What `go` does, by its outcome.
-abbrev pub Goes : Outcome → List (List ℕ) → World → World → Type 0
-Goes outcome.Done words old new = ⊥
-Goes outcome.TurnLimit words old new = ⊥
-Goes (outcome.Undefined act) words old new = ⊥
-Goes outcome.Stuck words old new = ⊥
-Goes (outcome.Refused r) words old new = GivesUp (outcome.Refused r) words old new
-Goes outcome.FilesFault words old new = HasRisen old.files_faults new.files_faults × IsUntouched old new
-Goes outcome.NoMemory words old new = IsUntouched old new
-Goes (outcome.Program code) words old new = Ran (ends.Ended code) words old new
-Goes (outcome.InstructionLimit taken) words old new = Ran (ends.Limit taken) words old new
-Goes (outcome.Stopped cs ip why) words old new = Ran (ends.Stopped cs ip why) words old new
-Goes outcome.InputFault words old new = Ran ends.InputFault words old new
-Goes outcome.OutputFault words old new = Ran ends.OutputFault words old new
-Goes outcome.ErrorsFault words old new = Ran ends.ErrorsFault words old new
+-- ---- runs
+
+-- The process of an executable that was built from what the files hold came to this end.
+pub record RanBuilt (held : Folder) (end : RunEnd) (name bytes : List ℕ) (options : RunOptions) (o o' : Outside) : Type 0 where
+  pub built : IsBuiltFrom held name bytes
+  pub last : State
+  pub run : RunsTo end (limit_of options) (loaded (exe_of bytes)) last o o'
+
+-- The executable was written, and run with this end. The run reads no file.
+pub record WentTo (end : RunEnd) (name : List ℕ) (options : RunOptions) (old new : World) : Type 0 where
+  pub bytes : List ℕ
+  pub run : IfSome old.folder (λ held. RanBuilt held end name bytes options old.streams new.streams)
+  pub rises : Rises (Some end) old.streams new.streams old.files_faults new.files_faults
+  pub reads : end ≡ ends.FilesFault → ⊥
+  pub written : new.folder ≡ with_known_file old.folder (file_of name Executable) bytes
+
+abbrev pub GoDid : Outcome → List ℕ → RunOptions → World → World → Type 0
+GoDid result name options old new =
+    GaveNoRun result name options.buffer old new ⊎ ((end : RunEnd) × (result ≡ outcome_of end) × WentTo end name options old new)

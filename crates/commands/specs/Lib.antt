@@ -3,6 +3,7 @@ pub mod Files
 pub mod Go
 pub mod Mean
 pub mod Performs
+pub mod Prepared
 pub mod Run
 pub mod Texts
 pub mod Turbo

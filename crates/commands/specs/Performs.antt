@@ -7,7 +7,7 @@ use Rattle.outcomes.specs.declared.outcome.Outcome.{Outcome}
 use Rattle.outcomes.specs.declared.outcome.Outcome.TheVariants as outcome
 use Rattle.outcomes.specs.declared.refusal.Refusal.TheVariants as refusal
 use Rattle.command_line.specs.declared.command.RunOptions.{RunOptions}
-use Rattle.commands.specs.Go.{Goes}
+use Rattle.commands.specs.Go.{GoDid}
 use Rattle.commands.specs.Mean.{MeanDid}
 use Rattle.commands.specs.Run.{RunDid}
 use Rattle.commands.specs.Texts.{IsTextOf}
@@ -16,7 +16,7 @@ use Rattle.commands.specs.World.{World, IsUntouched}
 
 -- The words name no command.
 pub record NamesNone (words : List (List ℕ)) : Type 0 where
-  pub go : (name : List ℕ) → IsGo words name → ⊥
+  pub go : (name : List ℕ) (options : RunOptions) → IsGo words name options → ⊥
   pub run : (name : List ℕ) (options : RunOptions) → IsRun words name options → ⊥
   pub mean : (name : List ℕ) (turns : Option ℕ) → IsMean words name turns → ⊥
   pub text : (text : List ℕ) → IsTextOf words text → ⊥
@@ -26,11 +26,12 @@ pub record Misused (result : Outcome) (words : List (List ℕ)) (old new : World
   pub none : NamesNone words
   pub untouched : IsUntouched old new
 
--- They name `go` and a program.
+-- They name `go`, a program and options.
 pub record DidGo (result : Outcome) (words : List (List ℕ)) (old new : World) : Type 0 where
   pub name : List ℕ
-  pub asked : IsGo words name
-  pub goes : Goes result words old new
+  pub options : RunOptions
+  pub asked : IsGo words name options
+  pub did : (name : List ℕ) (options : RunOptions) → IsGo words name options → GoDid result name options old new
 
 -- They name `run`, a program and options.
 pub record DidRun (result : Outcome) (words : List (List ℕ)) (old new : World) : Type 0 where

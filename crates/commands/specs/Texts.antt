@@ -4,12 +4,12 @@ use Rattle.command_line.specs.Words.{IsHelp, IsVersion}
 
 unfoldable pub help_text : List ℕ
 help_text =
-    codes "Usage: tp go NAME\n"
+    codes "Usage: tp go NAME [--buffer P] [--limit N] [--retry P]\n"
     ++ codes "       tp mean NAME [--turns N]\n"
     ++ codes "       tp run NAME [--buffer P] [--limit N] [--retry P]\n"
     ++ codes "       tp --help\n"
     ++ codes "       tp --version\n\n"
-    ++ codes "go   reads name.pas, writes name.exe, and runs it\n"
+    ++ codes "go   reads name.pas and its units, writes name.exe, and runs it\n"
     ++ codes "mean reads name.pas and its units, and shows what the program means\n"
     ++ codes "run  runs name.exe, with name.ovr if it has overlays\n\n"
     ++ codes "--buffer P  the overlay buffer in paragraphs of 16 bytes, up to 40960\n"

@@ -1,24 +1,24 @@
 -- What the top call promises. Its clauses cite these.
-use Rattle.std.specs.Prelude.{◌≡◌, ◌⊎◌, ℕ, List, Option, IfSome}
+use Rattle.std.specs.Prelude.{◌≡◌, ◌⊎◌, ◌<◌, ℕ, List, Option, Some, None, IfSome}
 use Rattle.std.specs.Io.KnownBytes.{append_known}
 use Rattle.tp_outside.specs.Faults.{HasRisen}
 use Rattle.tp_outside.specs.Folder.{Folder, with_known_file}
 use Rattle.tp_outside.specs.Streams.{TakesPrefix}
+use Rattle.behaviour.specs.Seen.{Seen}
 use Rattle.typed_tree.specs.declared.units.Program.{Program}
+use Rattle.meaning.specs.Meaning.{mean}
 use Rattle.whole_input.specs.Input.{HasMore}
 use Rattle.front_end.specs.Typed.{IsProgramIn}
 use Rattle.front_end.specs.Untyped.{IsNoProgram}
-use Rattle.mean_program.specs.Shown.{Shows}
-use Rattle.literal_form.specs.Source.{IsSource}
-use Rattle.literal_form.specs.Statement.{Statement, mean}
-use Rattle.literal_code.specs.Agrees.{Agrees}
+use Rattle.mean_program.specs.Shown.{WritesAll, Shows}
+use Rattle.literal_programs.specs.Literals.{IsLiteral}
+use Rattle.literal_programs.specs.Agrees.{Agrees}
 use Rattle.dos_runner.specs.declared.runner.RunEnd.{RunEnd}
 use Rattle.dos_runner.specs.Outside.{Outside}
 use Rattle.opened_program.specs.declared.error.OpenError.{OpenError}
 use Rattle.opened_program.specs.Opening.{HasReason}
 use Rattle.commands.specs.declared.names.FileKind.TheVariants.{Source, Executable}
 use Rattle.command_line.specs.declared.command.RunOptions.{RunOptions}
-use Rattle.tp_lexer.specs.declared.token.Feature.TheVariants.{NotYet}
 use Rattle.outcomes.specs.declared.refusal.Refusal.{Refusal}
 use Rattle.outcomes.specs.declared.refusal.Refusal.TheVariants as refusal
 use Rattle.outcomes.specs.declared.refusal.What.TheVariants as what
@@ -28,20 +28,12 @@ use Rattle.commands.specs.Files.{file_of}
 use Rattle.outcomes.specs.Line.{line_of}
 use Rattle.command_line.specs.Words.{IsGo, IsRun, IsMean}
 use Rattle.commands.specs.World.{World, Holds, Lacks}
-use Rattle.commands.specs.Go.{Says}
+use Rattle.commands.specs.Go.{IsOfOtherForm, IsBuiltFrom, IsNotBuilt, HasNoRun, RanBuilt}
 use Rattle.commands.specs.Mean.{turns_of, sinks_of}
 use Rattle.commands.specs.Performs.{NamesNone}
 use Rattle.commands.specs.Texts.{IsTextOf}
-use Rattle.commands.specs.Run.{refused_as, HasNoStart, IsUnopened, RunsFrom}
+use Rattle.commands.specs.Run.{refused_as, limit_of, HasNoStart, IsUnopened, RunsFrom}
 use Rattle.commands.specs.Ending.{outcome_of}
-
--- The words are `go` and a program's name, the files tell what they hold, and the program's source says these
--- statements.
-pub record IsAsked (words : List (List ℕ)) (old : World) (name : List ℕ) (statements : List Statement) : Type 0 where
-  pub named : IsGo words name
-  pub text : List ℕ
-  pub held : Holds old.folder (file_of name Source) text
-  pub source : IsSource text statements
 
 -- Outcomes with which the executable has been written and run.
 abbrev pub HasRun : Outcome → Type 0
@@ -52,25 +44,31 @@ HasRun outcome.InputFault = Unit {0}
 HasRun outcome.OutputFault = Unit {0}
 HasRun other = ⊥
 
--- The headline: the executable that stands in the folder afterwards does what the source means.
+-- A file now holds an executable that does what the program means which the files held.
+pub record HoldsExecutable (held : Folder) (now : Option Folder) (name : List ℕ) : Type 0 where
+  pub program : Program
+  pub is : IsProgramIn held name program
+  pub bytes : List ℕ
+  pub there : Holds now (file_of name Executable) bytes
+  pub agrees : Agrees program bytes
+
+-- The headline: where the files told what they held, the executable that stands in the folder afterwards does what their program means.
 abbrev pub Headline : List (List ℕ) → World → World → Outcome → Type 0
 Headline words old new result =
-    (name : List ℕ) (statements : List Statement) → IsAsked words old name statements → HasRun result →
-    (bytes : List ℕ) × Holds new.folder (file_of name Executable) bytes × Agrees statements bytes
+    (name : List ℕ) (options : RunOptions) → IsGo words name options → HasRun result → IfSome old.folder (λ held. HoldsExecutable held new.folder name)
 
--- What was written: where the outcome is the program's end, its code is the one that is meant, the output took just
--- what is meant, and so did the errors.
-pub record IsWritten (statements : List Statement) (code : ℕ) (old new : World) : Type 0 where
-  pub ended : code ≡ (mean statements).code
-  pub output : new.streams.output ≡ append_known old.streams.output (mean statements).out
-  pub errors : new.streams.errors ≡ append_known old.streams.errors (mean statements).err
+-- What was written: where the outcome is the program's end, output and errors took just what the program of the files means, on every
+-- input and within any number of turns, since a program of this form reads nothing and never turns; and the outcome is its end.
+pub record IsWritten (held : Folder) (name : List ℕ) (result : Outcome) (old new : World) : Type 0 where
+  pub program : Program
+  pub is : IsProgramIn held name program
+  pub all : (input : List ℕ) (turns : ℕ) → WritesAll (mean program input turns) result (sinks_of old.streams) (sinks_of new.streams)
 
 abbrev pub Written : List (List ℕ) → World → World → Outcome → Type 0
 Written words old new result =
-    (name : List ℕ) (statements : List Statement) (code : ℕ) → IsAsked words old name statements → result ≡ outcome.Program code →
-    IsWritten statements code old new
+    (name : List ℕ) (options : RunOptions) (code : ℕ) → IsGo words name options → result ≡ outcome.Program code → IfSome old.folder (λ held. IsWritten held name result old new)
 
--- The outcome of a program of literals, but for faults and want of memory, is its end.
+-- Faults, each counted by the object that is named, and want of memory.
 abbrev pub IsFaultOrNoMemory : Outcome → World → World → Type 0
 IsFaultOrNoMemory outcome.InputFault old new = HasRisen old.streams.input_faults new.streams.input_faults
 IsFaultOrNoMemory outcome.OutputFault old new = HasRisen old.streams.output_faults new.streams.output_faults
@@ -84,11 +82,18 @@ abbrev pub IsFault : Outcome → World → World → Type 0
 IsFault outcome.NoMemory old new = ⊥
 IsFault result old new = IsFaultOrNoMemory result old new
 
--- A source of the form gives the program's end, or there was a fault of the object that is named, or no memory.
+-- How `go` ends: with the program's end; with the limit that was asked for, which is less than all that the program may take; or refused, for
+-- a cause that the files give.
+abbrev pub IsGoEnd : Folder → List ℕ → RunOptions → Outcome → Type 0
+IsGoEnd held name options (outcome.Program code) = Unit {0}
+IsGoEnd held name options (outcome.InstructionLimit taken) = (taken ≡ limit_of options) × (limit_of options < 16389)
+IsGoEnd held name options (outcome.Refused r) = IsNotBuilt held name options.buffer r
+IsGoEnd held name options other = ⊥
+
+-- It ends so, or there was a fault of the object that is named, or no memory. The machine never stops.
 abbrev pub Complete : List (List ℕ) → World → World → Outcome → Type 0
 Complete words old new result =
-    (name : List ℕ) (statements : List Statement) → IsAsked words old name statements →
-    (result ≡ outcome.Program (mean statements).code) ⊎ IsFaultOrNoMemory result old new
+    (name : List ℕ) (options : RunOptions) → IsGo words name options → IfSome old.folder (λ held. IsGoEnd held name options result ⊎ IsFaultOrNoMemory result old new)
 
 -- A fault is answered only where the count of the object that is named rose.
 abbrev pub Faults : World → World → Outcome → Type 0
@@ -98,14 +103,11 @@ Faults old new outcome.ErrorsFault = HasRisen old.streams.errors_faults new.stre
 Faults old new outcome.FilesFault = HasRisen old.files_faults new.files_faults
 Faults old new other = Unit {0}
 
--- Each refusal of `go` has its cause. It meets no other refusals.
+-- Each refusal of `go` has its cause in the files.
 abbrev pub GoRefused : List (List ℕ) → World → Refusal → Type 0
-GoRefused words old (refusal.MissingFile file) =
-    (name : List ℕ) → IsGo words name → (file ≡ file_of name Source) × ((text : List ℕ) → Holds old.folder file text → ⊥)
-GoRefused words old (refusal.NotInProfile at feature) =
-    (name : List ℕ) → IsGo words name → (at ≡ record { file = file_of name Source; line = 1; column = 1 })
-    × (feature ≡ NotYet) × ((text : List ℕ) (statements : List Statement) → Holds old.folder (file_of name Source) text → IsSource text statements → ⊥)
-GoRefused words old other = (name : List ℕ) → IsGo words name → ⊥
+GoRefused words old refusal.Usage = (name : List ℕ) (options : RunOptions) → IsGo words name options → ⊥
+GoRefused words old r =
+    (name : List ℕ) (options : RunOptions) → IsGo words name options → IfSome old.folder (λ held. IsNotBuilt held name options.buffer r)
 
 -- So has each refusal of `run`, in the files of the program that the words name.
 abbrev pub RunRefused : List (List ℕ) → World → Refusal → Type 0
@@ -136,13 +138,23 @@ abbrev pub Refused : List (List ℕ) → World → Outcome → Type 0
 Refused words old (outcome.Refused r) = GoRefused words old r × RunRefused words old r × MeanRefused words old r × ((text : List ℕ) → IsTextOf words text → ⊥)
 Refused words old other = Unit {0}
 
+-- A folder is told, and no program of this name that it holds is of the literal form.
+abbrev pub HoldsNoLiteral : Option Folder → List ℕ → Type 0
+HoldsNoLiteral None name = ⊥
+HoldsNoLiteral (Some held) name = (program : Program) → IsProgramIn held name program → IsLiteral program → ⊥
+
+-- A program of this name is none, or it is of another form.
+abbrev pub IsOutside : Option Folder → List ℕ → Refusal → Type 0
+IsOutside None name r = ⊥
+IsOutside (Some held) name r = IsNoProgram held name (outcome.Refused r) ⊎ IsOfOtherForm held name r
+
 -- Each cause gives its refusal, or there was a fault of the object that is named, or no memory.
 pub record Refuses (words : List (List ℕ)) (old new : World) (result : Outcome) : Type 0 where
   pub usage : NamesNone words → (result ≡ outcome.Refused refusal.Usage) ⊎ IsFaultOrNoMemory result old new
-  pub missing : (name : List ℕ) → IsGo words name → Lacks old.folder (file_of name Source) →
+  pub missing : (name : List ℕ) (options : RunOptions) → IsGo words name options → Lacks old.folder (file_of name Source) →
       (result ≡ outcome.Refused (refusal.MissingFile (file_of name Source))) ⊎ IsFaultOrNoMemory result old new
-  pub outside : (name text : List ℕ) → IsGo words name → Holds old.folder (file_of name Source) text → ((statements : List Statement) → IsSource text statements → ⊥) →
-      (result ≡ outcome.Refused (refusal.NotInProfile (record { file = file_of name Source; line = 1; column = 1 }) NotYet)) ⊎ IsFaultOrNoMemory result old new
+  pub outside : (name : List ℕ) (options : RunOptions) → IsGo words name options → HoldsNoLiteral old.folder name →
+      ((r : Refusal) × (result ≡ outcome.Refused r) × IsOutside old.folder name r) ⊎ IsFaultOrNoMemory result old new
   pub absent : (name : List ℕ) (options : RunOptions) → IsRun words name options → Lacks old.folder (file_of name Executable) →
       (result ≡ outcome.Refused (refusal.MissingFile (file_of name Executable))) ⊎ IsFaultOrNoMemory result old new
   pub unopened : (name : List ℕ) (options : RunOptions) (error : OpenError) → IsRun words name options → HasReason error → IsUnopened old.folder name options.buffer error →
@@ -173,6 +185,22 @@ abbrev pub RanFiles : List (List ℕ) → World → World → Outcome → Type 0
 RanFiles words old new result =
     (name : List ℕ) (options : RunOptions) → IsRun words name options → IfSome old.folder (λ held. RunsFiles held result name options old new)
 
+-- What `go` did with the files that a folder holds: nothing was written, and nothing was read or written besides; or the process of an
+-- executable that does what their program means came to an end, and the outcome is that end's; then came the line.
+pub record GoesFiles (held : Folder) (result : Outcome) (name : List ℕ) (options : RunOptions) (old new : World) : Type 0 where
+  pub inner : Outcome
+  pub before : Option (List ℕ)
+  pub before_faults : ℕ
+  pub did : (HasNoRun held inner name options.buffer × (streams_before new before before_faults ≡ old.streams))
+      ⊎ ((end : RunEnd) × (bytes : List ℕ) × (inner ≡ outcome_of end) × RanBuilt held end name bytes options old.streams (streams_before new before before_faults))
+  pub line : AfterLine result inner before new.streams.errors
+
+-- Where the words ask for it and the files tell what they hold, output and errors grew by the run of the executable, and the outcome is its
+-- end.
+abbrev pub WentFiles : List (List ℕ) → World → World → Outcome → Type 0
+WentFiles words old new result =
+    (name : List ℕ) (options : RunOptions) → IsGo words name options → IfSome old.folder (λ held. GoesFiles held result name options old new)
+
 -- What `mean` did with the files that a folder holds: there is no program of this name, and nothing was read or written; or what it
 -- means was shown, its input read to the end; then came the line.
 pub record MeansFiles (held : Folder) (result : Outcome) (name : List ℕ) (turns : Option ℕ) (old new : World) : Type 0 where
@@ -197,34 +225,37 @@ pub record WroteItsLine (old new : World) (result : Outcome) : Type 0 where
 -- A refused command and one that had no memory did nothing but write their line, and so did `go` where files failed.
 abbrev pub Unchanged : List (List ℕ) → World → World → Outcome → Type 0
 Unchanged words old new (outcome.Refused r) = WroteItsLine old new (outcome.Refused r)
-Unchanged words old new outcome.FilesFault = (name : List ℕ) → IsGo words name → WroteItsLine old new outcome.FilesFault
+Unchanged words old new outcome.FilesFault = (name : List ℕ) (options : RunOptions) → IsGo words name options → WroteItsLine old new outcome.FilesFault
 Unchanged words old new outcome.NoMemory = WroteItsLine old new outcome.NoMemory
 Unchanged words old new other = Unit {0}
 
--- Where a source was asked for, the errors took a front of what it means for them, before the line.
+-- A stream is as it was, or took the first of what the program of the files means for it, on every input and within any number of turns.
+abbrev pub TookFront : Folder → List ℕ → (Seen → List ℕ) → Option (List ℕ) → Option (List ℕ) → Type 0
+TookFront held name part before after =
+    (after ≡ before) ⊎ ((program : Program) × IsProgramIn held name program × ((input : List ℕ) (turns : ℕ) → TakesPrefix before after (part (mean program input turns))))
+
+-- What the errors took of `go` before the line.
 abbrev pub TookErrors : List (List ℕ) → World → Option (List ℕ) → Type 0
-TookErrors words old before = (name : List ℕ) (statements : List Statement) → IsAsked words old name statements → TakesPrefix old.streams.errors before (mean statements).err
+TookErrors words old before = (name : List ℕ) (options : RunOptions) → IsGo words name options → IfSome old.folder (λ held. TookFront held name (λ (seen : Seen). seen.err) old.streams.errors before)
 
 -- The errors end with the line that is due.
 abbrev pub EndsWithLine : List (List ℕ) → World → World → Outcome → Type 0
 EndsWithLine words old new outcome.ErrorsFault = Unit {0}
 EndsWithLine words old new result = (before : Option (List ℕ)) × (new.streams.errors ≡ append_known before (line_of result)) × TookErrors words old before
 
--- What the output took, whatever the outcome: the first of the bytes that are meant.
+-- What the output took of `go`, whatever the outcome.
 abbrev pub Fronts : List (List ℕ) → World → World → Type 0
 Fronts words old new =
-    (name : List ℕ) (statements : List Statement) → IsAsked words old name statements →
-    TakesPrefix old.streams.output new.streams.output (mean statements).out
+    (name : List ℕ) (options : RunOptions) → IsGo words name options → IfSome old.folder (λ held. TookFront held name (λ (seen : Seen). seen.out) old.streams.output new.streams.output)
 
--- The files afterwards: as they were, also after each run; or with the executable of the source that the words name, as a run without any
--- fault leaves them.
+-- The files afterwards: as they were, also after each run; or with an executable that agrees with the program that they held, as `go`
+-- leaves them.
 pub record Leaves (words : List (List ℕ)) (old new : World) : Type 0 where
   pub name : List ℕ
-  pub named : IsGo words name
-  pub statements : List Statement
-  pub says : Says old.folder (file_of name Source) statements
+  pub options : RunOptions
+  pub named : IsGo words name options
   pub bytes : List ℕ
-  pub agrees : Agrees statements bytes
+  pub built : IfSome old.folder (λ held. IsBuiltFrom held name bytes)
   pub written : new.folder ≡ with_known_file old.folder (file_of name Executable) bytes
 
 abbrev pub FilesAfter : List (List ℕ) → World → World → Type 0

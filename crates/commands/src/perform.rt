@@ -33,7 +33,9 @@ pub fn perform<F: Files, S: Source, K: Sink, E: Sink>(
     ensures errors_counted { E.faults errors.old ≤ E.faults errors.new }
 {
     match command_of(alloc, words) {
-        Ok(Some(Command::Go { name })) => go(alloc, &name, files, input, output, errors),
+        Ok(Some(Command::Go { name, options })) => {
+            go(alloc, &name, options, files, input, output, errors)
+        }
         Ok(Some(Command::Run { name, options })) => {
             run_program(alloc, &name, options, files, input, output, errors)
         }

@@ -18,7 +18,7 @@ use tp_outside::{self, Files, Sink, Source, read_file};
 use type_layout::{FileName, Name};
 
 /// How many instructions a program may take where the words don't say it.
-const LIMIT: u64 = 1_000_000_000;
+pub(crate) const LIMIT: u64 = 1_000_000_000;
 
 /// The bytes of an executable file.
 fn read_executable<F: Files>(
@@ -43,7 +43,7 @@ fn read_executable<F: Files>(
 }
 
 /// The outcome of a program that was not opened.
-fn refused_as(error: OpenError) -> Outcome
+pub(crate) fn refused_as(error: OpenError) -> Outcome
     ensures { result ≡ refused_as error }
 {
     match error {

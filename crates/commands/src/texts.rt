@@ -13,12 +13,12 @@ use tp_outside::{Sink, write_all};
 pub fn help_text() -> &'static str
     ensures { result.now ≡ help_text }
 {
-    "Usage: tp go NAME\n\
+    "Usage: tp go NAME [--buffer P] [--limit N] [--retry P]\n\
      \x20      tp mean NAME [--turns N]\n\
      \x20      tp run NAME [--buffer P] [--limit N] [--retry P]\n\
      \x20      tp --help\n\
      \x20      tp --version\n\n\
-     go   reads name.pas, writes name.exe, and runs it\n\
+     go   reads name.pas and its units, writes name.exe, and runs it\n\
      mean reads name.pas and its units, and shows what the program means\n\
      run  runs name.exe, with name.ovr if it has overlays\n\n\
      --buffer P  the overlay buffer in paragraphs of 16 bytes, up to 40960\n\

@@ -1,7 +1,7 @@
 //! The top call.
 
 ghost use Rattle.std.specs.Prelude.{map, string_bytes};
-ghost use Rattle.commands.specs.Turbo.{Headline, Written, Complete, Fronts, FilesAfter, Faults, Refused, Refuses, Unchanged, RanFiles, MeantFiles, Tells, EndsWithLine};
+ghost use Rattle.commands.specs.Turbo.{Headline, Written, Complete, Fronts, FilesAfter, Faults, Refused, Refuses, Unchanged, WentFiles, RanFiles, MeantFiles, Tells, EndsWithLine};
 ghost use Rattle.commands.specs.World.{world};
 
 use crate::perform::perform;
@@ -9,7 +9,7 @@ use outcomes::{Outcome, write_line};
 use std::alloc::Global;
 use tp_outside::{Files, Sink, Source};
 
-/// Does what the words say, after the program's own name: `go NAME` reads the program's source, writes its
+/// Does what the words say, after the program's own name: `go NAME` reads the program's sources, writes its
 /// executable, and runs that; `run NAME` runs the program that stands in its executable and its overlay file; `mean NAME` shows what the
 /// program's sources mean; `--help` and `--version` write a text. Where the outcome is not the
 /// program's own end, nor that of a text, the errors then end with a line that says what it is.
@@ -65,6 +65,11 @@ pub fn turbo<F: Files, S: Source, K: Sink, E: Sink>(
         (world (F.folder files.new) (F.faults files.new) (S.remaining input.new) (K.contents output.new)
         (E.contents errors.new) (S.faults input.new) (K.faults output.new) (E.faults errors.new)) result }
     ensures ran { RanFiles (map string_bytes words.now)
+        (world (F.folder files.old) (F.faults files.old) (S.remaining input.old) (K.contents output.old)
+        (E.contents errors.old) (S.faults input.old) (K.faults output.old) (E.faults errors.old))
+        (world (F.folder files.new) (F.faults files.new) (S.remaining input.new) (K.contents output.new)
+        (E.contents errors.new) (S.faults input.new) (K.faults output.new) (E.faults errors.new)) result }
+    ensures went { WentFiles (map string_bytes words.now)
         (world (F.folder files.old) (F.faults files.old) (S.remaining input.old) (K.contents output.old)
         (E.contents errors.old) (S.faults input.old) (K.faults output.old) (E.faults errors.old))
         (world (F.folder files.new) (F.faults files.new) (S.remaining input.new) (K.contents output.new)

@@ -40,13 +40,45 @@ const TAKEN_ROWS: [Row; 12] = [
 const REFUSED: &[u8] = b"begin Write(1) end.";
 
 const REFUSED_ROWS: [Row; 7] = [
-    (0, 0, 0, 252, Old, "", "tp: NotInProfile a.pas:1:1 NotYet\n"),
+    (
+        0,
+        0,
+        0,
+        252,
+        Old,
+        "",
+        "tp: NotInProfile a.pas:1:13 NotYet\n",
+    ),
     (1, 0, 0, 254, Old, "", "tp: FilesFault\n"),
     (2, 0, 0, 254, Old, "", "tp: FilesFault\n"),
-    (3, 0, 0, 252, Old, "", "tp: NotInProfile a.pas:1:1 NotYet\n"),
-    (0, 1, 0, 252, Old, "", "tp: NotInProfile a.pas:1:1 NotYet\n"),
+    (
+        3,
+        0,
+        0,
+        252,
+        Old,
+        "",
+        "tp: NotInProfile a.pas:1:13 NotYet\n",
+    ),
+    (
+        0,
+        1,
+        0,
+        252,
+        Old,
+        "",
+        "tp: NotInProfile a.pas:1:13 NotYet\n",
+    ),
     (0, 0, 1, 254, Old, "", ""),
-    (0, 0, 2, 252, Old, "", "tp: NotInProfile a.pas:1:1 NotYet\n"),
+    (
+        0,
+        0,
+        2,
+        252,
+        Old,
+        "",
+        "tp: NotInProfile a.pas:1:13 NotYet\n",
+    ),
 ];
 
 const OLD: &[u8] = b"old";
@@ -92,6 +124,48 @@ fn is_so(alloc: Global, source: &[u8], new: &[u8], row: &Row) -> Result<bool, Al
     )
 }
 
+/// Words for the same source, the exit status, the executable, and what the output and the errors took.
+type AskedRow = (
+    &'static [&'static str],
+    u8,
+    Executable,
+    &'static str,
+    &'static str,
+);
+
+// Three instructions begin the program, and each text takes four.
+const ASKED_ROWS: [AskedRow; 3] = [
+    (
+        &["go", "--limit", "8", "A"],
+        251,
+        New,
+        "Hi",
+        "tp: InstructionLimit 8\n",
+    ),
+    (
+        &["go", "A", "--buffer=40960"],
+        252,
+        Old,
+        "",
+        "tp: MemoryTooSmall 54390\n",
+    ),
+    (
+        &["go", "A", "--retry", "1", "--turns", "2"],
+        3,
+        New,
+        "Hi!\r\n",
+        "",
+    ),
+];
+
+/// Whether these words on that source leave what the row says.
+fn is_asked_so(alloc: Global, new: &[u8], row: &AskedRow) -> Result<bool, AllocError> {
+    let (words, status, executable, taken, told) = *row;
+    let mut left = before(alloc, TAKEN, NONE)?;
+    let is_status = status_of(alloc, words, &mut left)? == status;
+    Ok(is_status && is_left(executable, &left, new) && took(&left, taken, told))
+}
+
 /// The number of the first row that doesn't hold.
 fn first_wrong(alloc: Global, source: &[u8], rows: &[Row]) -> Result<Option<usize>, Fail> {
     let new = faultless(alloc, source)?;
@@ -119,5 +193,18 @@ fn each_call_of_a_refused_command_fails_once(rt: HostRuntime) -> Result<(), Fail
 fn writes_an_executable(rt: HostRuntime) -> Result<(), Fail> {
     let exe = faultless(rt.alloc(), TAKEN)?;
     assert!(rt; exe.as_slice().starts_with(b"MZ"));
+    Ok(())
+}
+
+#[test]
+fn takes_the_options_of_a_run(rt: HostRuntime) -> Result<(), Fail> {
+    let new = faultless(rt.alloc(), TAKEN)?;
+    for row in &ASKED_ROWS {
+        assert!(rt;
+            is_asked_so(rt.alloc(), new.as_slice(), row)?,
+            "{:?}",
+            row.0
+        );
+    }
     Ok(())
 }

@@ -56,7 +56,7 @@ const WORD_ROWS: [WordRow; 10] = [
     (&["run", "A", "--limit", "99", "--limit", "99"], 252),
     (&["run", "A", "--limit"], 252),
     (&["run", "A", "--buffer", "40961"], 252),
-    (&["go", "A", "--limit", "99"], 252),
+    (&["go", "A", "--limit", "-1"], 252),
     (&["run", "--limit=2", "A"], 251),
     (&["--retry", "1", "run", "A"], 3),
     (&["--version"], 0),

@@ -66,7 +66,10 @@ const PROGRAMS: [(Held, &str); 18] = [
     // Types of a unit come back to it by one that its implementation part uses.
     (
         &[
-            ("p.pas", "program P; uses A, B; var x: Link; begin New(x, Init); Walk(x); Dispose(x) end."),
+            (
+                "p.pas",
+                "program P; uses A, B; var x: Link; begin New(x, Init); Walk(x); Dispose(x) end.",
+            ),
             (
                 "a.pas",
                 "unit A; interface type Link = ^Node; Node = object next: Link; constructor Init; procedure Show; virtual; end; implementation uses B; constructor Node.Init; begin next := last; last := nil end; procedure Node.Show; begin Walk(next) end; end.",

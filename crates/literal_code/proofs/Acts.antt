@@ -1,28 +1,26 @@
 -- What the code of each act does, and that of all acts.
-use Rattle.std.proofs.Common.{◌≡◌, ℕ, zero, suc, ◌+◌, ◌*◌, ◌/◌, ◌%◌, ◌<◌, ◌≤◌, ◌==◌, Bool, true, false, List, [], ◌∷◌, ◌++◌, length, refl, sym, ap, ◌∙◌, subst, arith, append_assoc, append-nil}
-use Rattle.std.specs.Prelude.{slice_index, if◌then◌else◌, take, drop}
-use Rattle.std.specs.List.{All}
+use Rattle.std.proofs.Common.{◌≡◌, ℕ, suc, ◌+◌, ◌*◌, ◌/◌, ◌%◌, ◌<◌, ◌≤◌, false, List, [], ◌∷◌, ◌++◌, length, refl, sym, ap, ◌∙◌, subst, arith, append_assoc, append-nil}
+use Rattle.std.specs.Prelude.{take, drop}
 use Rattle.x86_table.specs.declared.operand.WordReg.TheVariants as word
 use Rattle.x86_table.specs.declared.operand.ByteReg.TheVariants as byte
 use Rattle.x86_table.specs.declared.operand.DataSeg.TheVariants as seg
 use Rattle.x86_table.specs.declared.operand.WordOperand.TheVariants as word_rm
-use Rattle.x86_table.specs.declared.instr.Instr.{Instr}
 use Rattle.x86_table.specs.declared.instr.Instr.TheVariants as instr
-use Rattle.x86_table.specs.Spelling.{spelling, word_bytes, word_modrm}
+use Rattle.x86_table.specs.Spelling.{word_bytes, word_modrm}
 use Rattle.cpu_8086.specs.declared.registers.Registers.{Registers}
 use Rattle.cpu_8086.specs.State.{State}
 use Rattle.cpu_8086.specs.Access.{at_offset}
 use Rattle.cpu_8086.specs.Operand.{with_word_reg, with_byte_reg}
 use Rattle.cpu_8086.specs.Step.{past}
-use Rattle.cpu_8086.specs.Process.{Process, Status, Running, Ended, after_step, serviced, dos_call, write_call, exit_call, answered, written_bytes, bytes_at}
+use Rattle.cpu_8086.specs.Process.{Process, Ended, dos_call, exit_call, answered, written_bytes, bytes_at}
 use Rattle.cpu_8086.specs.Run.{Goes, Runs}
 use Rattle.cpu_8086.proofs.RunLaws.{runs_after, runs_one, runs_compose}
-use Rattle.literal_form.specs.declared.act.Act.{Act}
-use Rattle.literal_form.specs.declared.act.Act.TheVariants as act
-use Rattle.literal_form.specs.Act.{statements_in}
-use Rattle.literal_form.specs.Statement.{mean}
-use Rattle.literal_code.specs.Code.{spelled, start_code, write_code, halt_code, act_code, acts_code, acts_size}
-use Rattle.literal_code.proofs.Stands.{Stands, process, goes_MovWord, goes_MovByte, goes_Int, goes_MovToSeg, length-MovWord, length-MovByte, length-Int, length-MovToSeg}
+use Rattle.literal_code.specs.declared.act.Act.{Act}
+use Rattle.literal_code.specs.declared.act.Act.TheVariants as act
+use Rattle.literal_code.specs.Act.{statements_in}
+use Rattle.literal_code.specs.Statement.{written, code_of}
+use Rattle.literal_code.specs.Code.{start_code, write_code, halt_code, acts_code, acts_size}
+use Rattle.literal_code.proofs.Stands.{Stands, process, goes_MovWord, goes_MovByte, goes_Int, goes_MovToSeg}
 
 -- DOS writes where AH is 40h and BX is 1
 dos_writes : (p : Process) (t : State) → t.registers.ax / 256 ≡ 64 → t.registers.bx ≡ 1 → dos_call p t ≡ record p { machine = answered t t.registers.cx false; out = p.out ++ written_bytes t }
@@ -80,31 +78,31 @@ write_runs m input taken g out o d from count ready fits stands =
 abbrev pub over : List ℕ → List ℕ → ℕ → Registers → List ℕ → ℕ → Process
 over m input taken g out code = record { machine = record { registers = g; cs = 112; memory = m }; input = input; taken = taken; out = out; err = []; status = Ended code }
 
-pub halt_runs : (m input : List ℕ) (taken : ℕ) (g : Registers) (out : List ℕ) (o d code : ℕ) → IsReady g o d → o + 5 ≤ 65535 → Stands m o (halt_code code) → (g' : Registers) × Runs 2 (process m input taken g out) (over m input taken g' out (code % 256))
+pub halt_runs : (m input : List ℕ) (taken : ℕ) (g : Registers) (out : List ℕ) (o d code : ℕ) → IsReady g o d → o + 5 ≤ 65535 → code < 256 → Stands m o (halt_code code) → (g' : Registers) × Runs 2 (process m input taken g out) (over m input taken g' out code)
 unfolding word_bytes
-halt_runs m input taken g out o d code ready fits stands =
-    let g1 : Registers = with_word_reg (at_offset g ((g.ip + 3) % 65536)) word.Ax (0x4C00 + code % 256) in
+halt_runs m input taken g out o d code ready fits byte stands =
+    let g1 : Registers = with_word_reg (at_offset g ((g.ip + 3) % 65536)) word.Ax (0x4C00 + code) in
     let g2 : Registers = at_offset g1 ((g1.ip + 2) % 65536) in
     let t : State = record { registers = g2; cs = 112; memory = m } in
     let at : g.ip ≡ o = ready.at in
     let at1 : g1.ip ≡ o + 3 = omega arith in
-    let s1 = goes_MovWord m input taken g out o word.Ax (0x4C00 + code % 256) at (omega arith) stands.0 in
+    let s1 = goes_MovWord m input taken g out o word.Ax (0x4C00 + code) at (omega arith) stands.0 in
     let s2 = goes_Int m input taken g1 out (o + 3) 33 at1 (omega arith) stands.1.0 in
     let p = process m input taken g out in
     let p1 = process m input taken g1 out in
     let function : g2.ax / 256 ≡ 76 = omega arith in
-    let low : g2.ax % 256 ≡ code % 256 = omega arith in
+    let low : g2.ax % 256 ≡ code = omega arith in
     let T : Process → Type 0 = λ q. Goes p1 q in
     let s2' = subst T (dos_exits p1 t function) s2 in
     let U : ℕ → Type 0 = λ c. Goes p1 (over m input taken g2 out c) in
     let s2'' = subst U low s2' in
-    (g2, runs_after 1 p p1 (over m input taken g2 out (code % 256)) s1 (runs_one p1 (over m input taken g2 out (code % 256)) s2''))
+    (g2, runs_after 1 p p1 (over m input taken g2 out code) s1 (runs_one p1 (over m input taken g2 out code) s2''))
 
--- what each act writes lies in the data segment
+-- what each act writes lies in the data segment, and each code is a byte
 abbrev pub Texts : List ℕ → ℕ → List ℕ → List Act → Type 0
 Texts m d pool [] = Unit {0}
 Texts m d pool (act.Write from count ∷ acts) = (bytes_at m d from count ≡ take count (drop from pool)) × Texts m d pool acts
-Texts m d pool (act.Halt code ∷ acts) = Texts m d pool acts
+Texts m d pool (act.Halt code ∷ acts) = (code < 256) × Texts m d pool acts
 
 -- Within so many events the program has ended with a code.
 pub record EndsSo (m input : List ℕ) (taken : ℕ) (g : Registers) (out out' : List ℕ) (code most : ℕ) : Type 0 where
@@ -113,10 +111,10 @@ pub record EndsSo (m input : List ℕ) (taken : ℕ) (g : Registers) (out out' :
   pub runs : Runs events (process m input taken g out) (over m input taken last out' code)
   pub few : events ≤ most
 
-pub acts_run : (m input : List ℕ) (taken : ℕ) (g : Registers) (out : List ℕ) (o d : ℕ) (pool : List ℕ) (acts : List Act) → IsReady g o d → o + acts_size acts ≤ 65535 → Stands m o (acts_code acts) → Texts m d pool acts → EndsSo m input taken g out (out ++ (mean (statements_in pool acts)).out) (mean (statements_in pool acts)).code (4 * length acts + 2)
+pub acts_run : (m input : List ℕ) (taken : ℕ) (g : Registers) (out : List ℕ) (o d : ℕ) (pool : List ℕ) (acts : List Act) → IsReady g o d → o + acts_size acts ≤ 65535 → Stands m o (acts_code acts) → Texts m d pool acts → EndsSo m input taken g out (out ++ written (statements_in pool acts)) (code_of (statements_in pool acts)) (4 * length acts + 2)
 unfolding word_bytes
 acts_run m input taken g out o d pool [] ready fits stands texts =
-    let r = halt_runs m input taken g out o d 0 ready fits stands in
+    let r = halt_runs m input taken g out o d 0 ready fits (omega arith) stands in
     let e : out ++ [] ≡ out = append-nil out in
     let P : List ℕ → Type 0 = λ w. EndsSo m input taken g out w 0 2 in
     subst P (sym e) (record { events = 2; last = r.0; runs = r.1; few = omega arith })
@@ -126,8 +124,8 @@ acts_run m input taken g out o d pool (act.Write from count ∷ acts) ready fits
     let place : o + 3 + 3 + 2 + 2 ≡ o + 10 = omega arith in
     let S : ℕ → Type 0 = λ x. Stands m x (acts_code acts) in
     let rest = acts_run m input taken first.0 (out ++ bytes_at m d from count) (o + 10) d pool acts first.2 (omega arith) (subst S place stands.1.1.1.1) texts.1 in
-    let after = (mean (statements_in pool acts)).out in
-    let code = (mean (statements_in pool acts)).code in
+    let after = written (statements_in pool acts) in
+    let code = code_of (statements_in pool acts) in
     let p = process m input taken g out in
     let middle = process m input taken first.0 (out ++ bytes_at m d from count) in
     let last = over m input taken rest.last ((out ++ bytes_at m d from count) ++ after) code in
@@ -143,10 +141,10 @@ acts_run m input taken g out o d pool (act.Write from count ∷ acts) ready fits
     let P : List ℕ → Type 0 = λ w. EndsSo m input taken g out w code most in
     subst P same all
 acts_run m input taken g out o d pool (act.Halt code ∷ acts) ready fits stands texts =
-    let r = halt_runs m input taken g out o d code ready (omega arith) (stands.0, (stands.1.0, tt)) in
+    let r = halt_runs m input taken g out o d code ready (omega arith) texts.0 (stands.0, (stands.1.0, tt)) in
     let e : out ++ [] ≡ out = append-nil out in
     let most : ℕ = 4 * suc (length acts) + 2 in
-    let P : List ℕ → Type 0 = λ w. EndsSo m input taken g out w (code % 256) most in
+    let P : List ℕ → Type 0 = λ w. EndsSo m input taken g out w code most in
     subst P (sym e) (record { events = 2; last = r.0; runs = r.1; few = omega arith })
 
 pub start_runs : (m input : List ℕ) (taken : ℕ) (g : Registers) (out : List ℕ) (segment : ℕ) → g.ip ≡ 0 → Stands m 0 (start_code segment) → Comes 3 m input taken g out out 8 segment

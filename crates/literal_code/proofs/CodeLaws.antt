@@ -1,13 +1,13 @@
 -- Code that is put together from the front.
-use Rattle.std.proofs.Common.{◌≡◌, ℕ, zero, suc, ◌+◌, ◌<◌, ◌≤◌, List, [], ◌∷◌, ◌++◌, length, take, get_or, refl, sym, ap, ◌∙◌, ◌*◌, ◌-◌, arith, append_assoc, append-nil}
+use Rattle.std.proofs.Common.{◌≡◌, ℕ, ◌+◌, ◌<◌, ◌≤◌, List, [], ◌∷◌, ◌++◌, length, take, get_or, refl, sym, ap, ◌∙◌, ◌*◌, ◌-◌, arith, append_assoc, append-nil}
 use Rattle.std.specs.Prelude.{replicate}
 use Rattle.std.specs.List.{flat_map}
 use Rattle.std.proofs.lemmas.List.{take_more}
 use Rattle.std.proofs.lemmas.Grind.{flat_map-append}
 use Rattle.x86_table.specs.declared.instr.Instr.{Instr}
 use Rattle.x86_table.specs.Spelling.{spelling}
-use Rattle.literal_form.specs.declared.act.Act.{Act}
-use Rattle.literal_form.specs.declared.act.Act.TheVariants as act
+use Rattle.literal_code.specs.declared.act.Act.{Act}
+use Rattle.literal_code.specs.declared.act.Act.TheVariants as act
 use Rattle.literal_code.specs.Code.{spelled, start_code, error_code, program_code, act_code, acts_code, acts_size, halt_code}
 use Rattle.literal_code.specs.Image.{code_size, data_segment, image_of}
 use Rattle.literal_code.proofs.ImageLaws.{spelled-append}

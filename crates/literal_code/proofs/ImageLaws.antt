@@ -1,15 +1,15 @@
 -- The image as it is loaded.
-use Rattle.std.proofs.Common.{◌≡◌, ℕ, zero, suc, ◌+◌, ◌-◌, ◌*◌, ◌/◌, ◌%◌, ◌<◌, ◌≤◌, List, [], ◌∷◌, ◌++◌, length, get_or, refl, sym, ap, ◌∙◌, subst, arith, append_assoc, length-append}
-use Rattle.std.specs.Prelude.{slice_index, slice_set, replicate, drop}
+use Rattle.std.proofs.Common.{◌≡◌, ℕ, ◌+◌, ◌-◌, ◌*◌, ◌/◌, ◌%◌, ◌<◌, List, [], ◌∷◌, ◌++◌, length, get_or, refl, sym, ap, ◌∙◌, arith, append_assoc, length-append}
+use Rattle.std.specs.Prelude.{replicate, drop}
 use Rattle.std.proofs.lemmas.List.{get_or_append_left, get_or-append-add, length-replicate}
 use Rattle.cpu_8086.specs.Memory.{word_of}
 use Rattle.x86_table.specs.declared.instr.Instr.{Instr}
 use Rattle.x86_table.specs.Spelling.{spelling, word_bytes, word_modrm}
-use Rattle.literal_form.specs.declared.act.Act.{Act}
-use Rattle.literal_form.specs.declared.act.Act.TheVariants as act
+use Rattle.literal_code.specs.declared.act.Act.{Act}
+use Rattle.literal_code.specs.declared.act.Act.TheVariants as act
 use Rattle.mz_file.specs.Load.{relocated, loaded_segment}
-use Rattle.literal_code.specs.Code.{spelled, start_code, acts_code, act_code, error_code, program_code, act_size, acts_size}
-use Rattle.literal_code.specs.Image.{code_size, data_segment, data_of, image_with, image_of, executable_of}
+use Rattle.literal_code.specs.Code.{spelled, acts_code, error_code, program_code, acts_size}
+use Rattle.literal_code.specs.Image.{code_size, data_segment, data_of, image_with, image_of}
 
 pub spelled-append : (is js : List Instr) → spelled (is ++ js) ≡ spelled is ++ spelled js
 spelled-append [] js = refl

@@ -4,3 +4,4 @@ pub mod Placed
 pub mod ImageLaws
 pub mod Whole
 pub mod CodeLaws
+pub mod Pool

@@ -1,16 +1,15 @@
 -- Code and texts that lie in memory.
-use Rattle.std.proofs.Common.{◌≡◌, ℕ, zero, suc, ◌+◌, ◌*◌, ◌/◌, ◌%◌, ◌<◌, ◌≤◌, List, [], ◌∷◌, ◌++◌, length, get_or, refl, sym, ap, ◌∙◌, subst, arith, append_assoc, append-nil, drop-cons, length-append}
+use Rattle.std.proofs.Common.{◌≡◌, ℕ, zero, suc, ◌+◌, ◌*◌, ◌%◌, ◌<◌, ◌≤◌, List, [], ◌∷◌, ◌++◌, length, get_or, refl, sym, ap, ◌∙◌, arith, drop-cons, length-append}
 use Rattle.std.specs.Prelude.{slice_index, take, drop}
-use Rattle.std.specs.List.{All, AllByRecursion}
-use Rattle.std.proofs.lemmas.List.Elements.{recursion_from_All}
+use Rattle.std.specs.List.{AllByRecursion}
 use Rattle.std.proofs.lemmas.List.{get_or_append_left, get_or-append-add}
 use Rattle.x86_table.specs.declared.instr.Instr.{Instr}
 use Rattle.x86_table.specs.Spelling.{spelling}
-use Rattle.cpu_8086.specs.Memory.{load_byte, address, next_offset}
+use Rattle.cpu_8086.specs.Memory.{load_byte}
 use Rattle.cpu_8086.specs.Process.{bytes_at}
-use Rattle.literal_form.specs.declared.act.Act.{Act}
-use Rattle.literal_form.specs.declared.act.Act.TheVariants as act
-use Rattle.literal_form.specs.Act.{IsWithin}
+use Rattle.literal_code.specs.declared.act.Act.{Act}
+use Rattle.literal_code.specs.declared.act.Act.TheVariants as act
+use Rattle.literal_code.specs.Act.{IsWithin}
 use Rattle.literal_code.specs.Code.{spelled}
 use Rattle.literal_code.proofs.Stands.{Stands}
 use Rattle.literal_code.proofs.Acts.{Texts}
@@ -51,4 +50,4 @@ text_lies m base d pool same low short lies (suc n) from within =
 pub texts_lie : (m : List ℕ) (d : ℕ) (pool : List ℕ) (acts : List Act) → ((count from : ℕ) → from + count ≤ length pool → bytes_at m d from count ≡ take count (drop from pool)) → AllByRecursion (IsWithin (length pool)) acts → Texts m d pool acts
 texts_lie m d pool [] reads within = tt
 texts_lie m d pool (act.Write from count ∷ acts) reads within = (reads count from within.0.in_pool, texts_lie m d pool acts reads within.1)
-texts_lie m d pool (act.Halt code ∷ acts) reads within = texts_lie m d pool acts reads within.1
+texts_lie m d pool (act.Halt code ∷ acts) reads within = (within.0.code, texts_lie m d pool acts reads within.1)

@@ -1,10 +1,9 @@
 -- Code that stands in memory, and what its instructions do.
-use Rattle.std.proofs.Common.{◌≡◌, ℕ, zero, suc, ◌+◌, ◌*◌, ◌/◌, ◌%◌, ◌<◌, ◌≤◌, ◌==◌, Bool, true, false, List, [], ◌∷◌, ◌++◌, length, get_or, refl, sym, ap, ◌∙◌, subst, arith}
-use Rattle.std.specs.Prelude.{slice_index, if◌then◌else◌}
+use Rattle.std.proofs.Common.{◌≡◌, ℕ, ◌+◌, ◌%◌, ◌<◌, ◌≤◌, List, [], ◌∷◌, ◌++◌, length, refl, ap, ◌∙◌, subst, arith}
+use Rattle.std.specs.Prelude.{slice_index}
 use Rattle.x86_table.specs.declared.operand.WordReg.{WordReg}
 use Rattle.x86_table.specs.declared.operand.WordReg.TheVariants as word
 use Rattle.x86_table.specs.declared.operand.ByteReg.{ByteReg}
-use Rattle.x86_table.specs.declared.operand.ByteReg.TheVariants as byte
 use Rattle.x86_table.specs.declared.operand.DataSeg.TheVariants as seg
 use Rattle.x86_table.specs.declared.operand.WordOperand.TheVariants as word_rm
 use Rattle.x86_table.specs.declared.instr.Instr.{Instr}
@@ -12,17 +11,15 @@ use Rattle.x86_table.specs.declared.instr.Instr.TheVariants as instr
 use Rattle.x86_table.specs.Spelling.{spelling, word_bytes, word_modrm}
 use Rattle.cpu_8086.specs.declared.registers.Registers.{Registers}
 use Rattle.cpu_8086.specs.declared.machine.Event.{Event}
-use Rattle.cpu_8086.specs.declared.machine.Event.TheVariants.{Ran, Service}
 use Rattle.cpu_8086.specs.State.{State}
 use Rattle.cpu_8086.specs.Access.{at_offset}
-use Rattle.cpu_8086.specs.Operand.{with_word_reg, with_byte_reg, with_data_seg, word_reg}
-use Rattle.cpu_8086.specs.Step.{effect, fetched, past}
-use Rattle.cpu_8086.specs.Process.{Process, Status, Running, Ended, after_step, serviced, bytes_at}
-use Rattle.cpu_8086.specs.Run.{Goes, Runs}
+use Rattle.cpu_8086.specs.Operand.{with_word_reg, with_byte_reg}
+use Rattle.cpu_8086.specs.Step.{fetched, past}
+use Rattle.cpu_8086.specs.Process.{Process, Running, after_step, serviced}
+use Rattle.cpu_8086.specs.Run.{Goes}
 use Rattle.cpu_8086.proofs.FetchLaws.{fetched_spells-linear}
 use Rattle.cpu_8086.proofs.StepLaws.{effect-MovWord, effect-MovByte, effect-MovToSeg, effect-Int}
-use Rattle.cpu_8086.proofs.RunLaws.{goes_by, runs_after, runs_one, runs_compose}
-use Rattle.literal_code.specs.Code.{spelled}
+use Rattle.cpu_8086.proofs.RunLaws.{goes_by}
 
 -- these instructions stand from an offset of segment 0070h on
 abbrev pub Stands : List ℕ → ℕ → List Instr → Type 0

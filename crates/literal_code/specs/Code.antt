@@ -1,5 +1,5 @@
 -- The code of a program of literals, as instructions.
-use Rattle.std.specs.Prelude.{ℕ, ◌+◌, ◌%◌, List, [], ◌∷◌, ◌++◌}
+use Rattle.std.specs.Prelude.{ℕ, ◌+◌, List, [], ◌∷◌, ◌++◌}
 use Rattle.x86_table.specs.declared.operand.WordReg.TheVariants as word
 use Rattle.x86_table.specs.declared.operand.ByteReg.TheVariants as byte
 use Rattle.x86_table.specs.declared.operand.DataSeg.TheVariants as seg
@@ -7,8 +7,8 @@ use Rattle.x86_table.specs.declared.operand.WordOperand.TheVariants as word_rm
 use Rattle.x86_table.specs.declared.instr.Instr.{Instr}
 use Rattle.x86_table.specs.declared.instr.Instr.TheVariants as instr
 use Rattle.x86_table.specs.Spelling.{spelling}
-use Rattle.literal_form.specs.declared.act.Act.{Act}
-use Rattle.literal_form.specs.declared.act.Act.TheVariants as act
+use Rattle.literal_code.specs.declared.act.Act.{Act}
+use Rattle.literal_code.specs.declared.act.Act.TheVariants as act
 
 -- DS becomes the data segment, and BX the handle of the output.
 abbrev pub start_code : ℕ → List Instr
@@ -18,9 +18,9 @@ start_code segment = instr.MovWord word.Ax segment ∷ instr.MovToSeg seg.Ds (wo
 abbrev pub write_code : ℕ → ℕ → List Instr
 write_code offset count = instr.MovWord word.Cx count ∷ instr.MovWord word.Dx offset ∷ instr.MovByte byte.Ah 0x40 ∷ instr.Int 0x21 ∷ []
 
--- DOS ends the program with a code, modulo 256.
+-- DOS ends the program with a code.
 abbrev pub halt_code : ℕ → List Instr
-halt_code code = instr.MovWord word.Ax (0x4C00 + code % 256) ∷ instr.Int 0x21 ∷ []
+halt_code code = instr.MovWord word.Ax (0x4C00 + code) ∷ instr.Int 0x21 ∷ []
 
 -- DOS ends the program with the code in AL: the error routine, since a program of literals has no error to tell.
 abbrev pub error_code : List Instr

@@ -1,6 +1,7 @@
 -- The executable of a program of literals.
 use Rattle.std.specs.Prelude.{ℕ, ◌+◌, ◌-◌, ◌*◌, ◌/◌, List, [], ◌∷◌, ◌++◌, length, replicate}
-use Rattle.literal_form.specs.declared.act.Act.{Act}
+use Rattle.literal_code.specs.declared.act.Act.{Act}
+use Rattle.literal_code.specs.declared.image.Memory.{Memory}
 use Rattle.mz_file.specs.declared.executable.Exe.{Exe}
 use Rattle.literal_code.specs.Code.{acts_size, program_code, spelled}
 
@@ -28,29 +29,22 @@ image_with segment pool acts =
 abbrev pub image_of : List ℕ → List Act → List ℕ
 image_of pool acts = image_with (data_segment acts) pool acts
 
--- the stack has 16,384 bytes and the heap 196,608, as they are where a source doesn't say
-abbrev pub stack_bytes : ℕ
-stack_bytes = 16384
-
-abbrev pub heap_bytes : ℕ
-heap_bytes = 196608
-
--- The executable: the one relocation is the data segment's word in the first instruction. The error routine is the
--- last code, and takes the program's end with the code in AL.
-abbrev pub executable_of : List ℕ → List Act → Exe
-executable_of pool acts = record {
+-- The executable: the one relocation is the data segment's word in the first instruction. Behind the data come the stack
+-- and the heap, each on a paragraph. The error routine is the last code, and takes the program's end with the code in AL.
+abbrev pub executable_of : Memory → List ℕ → List Act → Exe
+executable_of memory pool acts = record {
   image = image_of pool acts;
   relocations = record { offset = 1; segment = 0 } ∷ [];
   entry = record { offset = 0; segment = 0 };
-  stack = record { offset = stack_bytes; segment = data_segment acts + paragraphs (length pool + 1) };
-  extra = paragraphs stack_bytes + paragraphs heap_bytes;
+  stack = record { offset = memory.stack; segment = data_segment acts + paragraphs (length pool + 1) };
+  extra = paragraphs memory.stack + paragraphs memory.heap;
   block = record {
     stubs = [];
     largest = 0;
     error_routine = record { offset = code_size acts - 4; segment = 0 };
     installed = record { offset = length pool; segment = data_segment acts };
-    stack = stack_bytes;
-    heap = heap_bytes;
+    stack = memory.stack;
+    heap = memory.heap;
     data_segment = data_segment acts;
     data_bytes = length pool + 1;
   };

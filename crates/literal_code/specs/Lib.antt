@@ -1,3 +1,6 @@
+pub mod Statement
+pub mod Act
+pub mod LiteralProgram
 pub mod Code
 pub mod Image
-pub mod Agrees
+pub mod Ends

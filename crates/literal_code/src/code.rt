@@ -1,10 +1,11 @@
 //! The code of acts.
 
 ghost use Rattle.std.specs.Prelude.{◌≡◌, ◌++◌, ◌≤◌, OnOk, IfOk, length};
-ghost use Rattle.literal_form.specs.Act.{end_of};
+ghost use Rattle.literal_code.specs.Act.{end_of};
 ghost use Rattle.literal_code.specs.Code.{start_code, write_code, halt_code, error_code, act_code, acts_code, acts_size, spelled};
 
-use literal_form::{Act, LiteralProgram};
+use crate::act::Act;
+use crate::program::LiteralProgram;
 use std::alloc::{AllocError, Global};
 use type_layout::Bytes;
 use x86_table::{ByteReg, DataSeg, Instr, WordOperand, WordReg, encode};
@@ -33,11 +34,11 @@ fn write_code(offset: u16, count: u16) -> [Instr; 4]
     ]
 }
 
-fn halt_code(code: u32) -> [Instr; 2]
+fn halt_code(code: u8) -> [Instr; 2]
     ensures { result ≡ halt_code code }
 {
     [
-        Instr::MovWord(WordReg::Ax, 0x4C00 + (code % 256) as u16),
+        Instr::MovWord(WordReg::Ax, 0x4C00 + code as u16),
         Instr::Int(DOS),
     ]
 }

@@ -1,27 +1,28 @@
 //! The executable of a program of literals.
 
 ghost use Rattle.std.specs.Prelude.{◌≡◌, ◌≤◌, ◌++◌, ℕ, List, [], ◌∷◌, OnOk, IfOk, replicate};
-ghost use Rattle.literal_form.specs.Statement.{mean};
-ghost use Rattle.literal_form.specs.LiteralProgram.{statements_of};
+ghost use Rattle.literal_code.specs.Statement.{shown};
+ghost use Rattle.literal_code.specs.LiteralProgram.{statements_of};
 ghost use Rattle.mz_file.specs.Format.{Denotes};
 ghost use Rattle.mz_file.specs.Spelling.{IsWritable};
 ghost use Rattle.mz_file.specs.Load.{IsLoadable, paragraphs_taken};
 ghost use Rattle.literal_code.specs.Code.{start_code, error_code, spelled};
 ghost use Rattle.literal_code.specs.Image.{executable_of, image_of, data_segment, code_size};
-ghost use Rattle.literal_code.specs.Agrees.{Agrees, EndsWithin};
+ghost use Rattle.literal_code.specs.Ends.{AlwaysEnds, EndsWithin};
 
 use crate::code::{acts_code, push_error_routine, push_start};
+use crate::program::LiteralProgram;
 use cpu_8086::Far;
-use literal_form::LiteralProgram;
 use mz_file::{Block, Exe, FarList, Segments};
 use std::alloc::{AllocError, Global};
 use type_layout::Bytes;
 
-/// The size of the stack in bytes, as it is where a source doesn't say.
-const STACK_BYTES: u16 = 16384;
-
-/// The size of the heap in bytes.
-const HEAP_BYTES: u32 = 196_608;
+/// The memory that a program has besides its code and data, in bytes.
+#[derive(Clone, Copy, Debug, PartialEq, Eq)]
+pub struct Memory {
+    pub stack: u16,
+    pub heap: u32,
+}
 
 fn push_zeros(bytes: &mut Bytes, count: usize) -> Result<(), AllocError>
     ensures { OnOk result (bytes.new ≡ bytes.old ++ replicate count 0) }
@@ -98,8 +99,10 @@ fn relocations(alloc: Global) -> Result<FarList, AllocError>
     Ok(list)
 }
 
-fn assemble(alloc: Global, program: &LiteralProgram) -> Result<Exe, AllocError>
-    ensures { IfOk result (λ exe. exe ≡ executable_of program.now.pool.items program.now.acts.items) }
+fn assemble(alloc: Global, program: &LiteralProgram, memory: Memory) -> Result<Exe, AllocError>
+    requires stack { memory.stack ≤ 65520 }
+    requires heap { memory.heap ≤ 196608 }
+    ensures { IfOk result (λ exe. exe ≡ executable_of memory program.now.pool.items program.now.acts.items) }
 {
     let Image {
         bytes,
@@ -115,10 +118,10 @@ fn assemble(alloc: Global, program: &LiteralProgram) -> Result<Exe, AllocError>
             segment: 0,
         },
         stack: Far {
-            offset: STACK_BYTES,
+            offset: memory.stack,
             segment: data_segment + (program.pool.len() as u16 + 1 + 15) / 16,
         },
-        extra: (STACK_BYTES + 15) / 16 + ((HEAP_BYTES + 15) / 16) as u16,
+        extra: (memory.stack + 15) / 16 + ((memory.heap + 15) / 16) as u16,
         block: Block {
             stubs: Segments::new(alloc),
             largest: 0,
@@ -130,26 +133,32 @@ fn assemble(alloc: Global, program: &LiteralProgram) -> Result<Exe, AllocError>
                 offset: program.pool.len() as u16,
                 segment: data_segment,
             },
-            stack: STACK_BYTES,
-            heap: HEAP_BYTES,
+            stack: memory.stack,
+            heap: memory.heap,
             data_segment,
             data_bytes: program.pool.len() as u16 + 1,
         },
     })
 }
 
-/// The executable of a program of literals. It does what the program means: each list of bytes that stands for it
-/// agrees with the program's statements, and its run is short.
-pub fn executable(alloc: Global, program: &LiteralProgram) -> Result<Exe, AllocError>
-    ensures exact { IfOk result (λ exe. exe ≡ executable_of program.now.pool.items program.now.acts.items) }
+/// The executable of a program of literals with this memory. It does what the program says: each list of bytes that
+/// stands for it always ends as the statements show, and its run is short.
+pub fn executable(
+    alloc: Global,
+    program: &LiteralProgram,
+    memory: Memory,
+) -> Result<Exe, AllocError>
+    requires stack { memory.stack ≤ 65520 }
+    requires heap { memory.heap ≤ 196608 }
+    ensures exact { IfOk result (λ exe. exe ≡ executable_of memory program.now.pool.items program.now.acts.items) }
     ensures writable { IfOk result IsWritable }
     ensures loadable { IfOk result IsLoadable }
-    ensures agrees { IfOk result (λ exe. (bytes : List ℕ) →
-        Denotes bytes exe → Agrees (statements_of program.now) bytes) }
+    ensures ends { IfOk result (λ exe. (bytes : List ℕ) →
+        Denotes bytes exe → AlwaysEnds bytes (shown (statements_of program.now))) }
     ensures short { IfOk result (λ exe. (bytes input : List ℕ) →
-        Denotes bytes exe → EndsWithin 16389 bytes input (mean (statements_of program.now))) }
+        Denotes bytes exe → EndsWithin 16389 bytes input (shown (statements_of program.now))) }
     ensures fits { IfOk result (λ exe. paragraphs_taken exe ≤ 0xA000) }
 {
-    let exe = assemble(alloc, program)?;
+    let exe = assemble(alloc, program, memory)?;
     Ok(exe)
 }

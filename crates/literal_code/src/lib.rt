@@ -1,7 +1,11 @@
-//! The 8086 code of a program of literals, and its executable.
+//! The acts of a program of literals, their 8086 code, and its executable.
 #![tactic(auto)]
 
+mod act;
 mod code;
 mod image;
+mod program;
 
-pub use image::executable;
+pub use act::Act;
+pub use image::{Memory, executable};
+pub use program::LiteralProgram;

@@ -1,170 +1,146 @@
-use literal_form::{Act, LONGEST_SOURCE, LiteralProgram, ReadError, read_program};
+use literal_programs::literal_executable;
+use mz_file::Exe;
 use std::alloc::{AllocError, Global};
 use std::test::Fail;
+use tree_samples::ExprSample::{Load, Number, Text};
+use tree_samples::PlaceSample::Var;
+use tree_samples::StmtSample::{Block, Exit, Halt, Write};
+use tree_samples::TypeSample::{Ordinal, Str};
+use tree_samples::{
+    ExprSample, PlaceSample, RoutineSample, StmtSample, TypeSample, UnitSample, WriteSample,
+    program,
+};
+use type_layout::{Host, Kind, TypeId};
+use typed_tree::Variable;
 
-/// A text, and the pool and the acts of the program that it spells.
-type Row = (&'static [u8], &'static [u8], &'static [Act]);
+const INTEGER: TypeId = TypeId(0);
 
-fn is_read_as(alloc: Global, row: &Row) -> bool {
-    let (text, pool, acts) = *row;
-    match read_program(alloc, text) {
-        Ok(program) => program.pool.as_slice() == pool && program.acts.as_slice() == acts,
-        Err(_) => false,
-    }
+const STRING: TypeId = TypeId(1);
+
+const CHAR: TypeId = TypeId(2);
+
+const TYPES: &[(&str, u32, TypeSample)] = &[
+    ("A", 0, Ordinal(Host::Integer, -32_768, 32_767)),
+    ("A", 1, Str(255)),
+    ("A", 2, Ordinal(Host::Char, 0, 255)),
+];
+
+const PART: RoutineSample = RoutineSample {
+    header: (Kind::Procedure, &[], None),
+    owner: None,
+    outer: None,
+    far: true,
+    locals: &[],
+};
+
+/// A program with one global variable, an Integer.
+const UNIT: UnitSample = UnitSample {
+    names: &["A"],
+    types: TYPES,
+    globals: &[(INTEGER, None)],
+    initial: Some(0),
+    overlayable: false,
+    overlaid: &[],
+    stack: 16_384,
+    heap: 0,
+};
+
+const VARIABLE: PlaceSample = Var(Variable {
+    unit: 0,
+    level: 0,
+    number: 0,
+});
+
+const LOADED: ExprSample = Load(INTEGER, &VARIABLE);
+
+const HI: WriteSample = (Text(STRING, "Hi"), None);
+
+fn made(alloc: Global, unit: &UnitSample, main: &StmtSample) -> Result<Option<Exe>, AllocError> {
+    let alone = program(alloc, &[(unit, &[(&PART, main)])])?;
+    literal_executable(alloc, &alone)
 }
 
-fn is_refused(alloc: Global, text: &[u8]) -> bool {
-    matches!(read_program(alloc, text), Err(ReadError::NotYet))
+fn is_literal(alloc: Global, unit: &UnitSample, main: &StmtSample) -> Result<bool, AllocError> {
+    Ok(made(alloc, unit, main)?.is_some())
 }
 
-fn write(from: u32, length: u32) -> Act {
-    Act::Write { from, length }
-}
+/// WriteLn('Hi', 'a'); Halt(-2)
+const SHOWS: StmtSample = Block(&[
+    Write(&[HI, (Number(CHAR, 97), None)], true),
+    Halt(&Number(INTEGER, -2)),
+]);
 
-const TEXTS: &[Row] = &[
-    (
-        b"program A; begin WriteLn('Hi'); end.",
-        b"Hi\r\n",
-        &[
-            Act::Write { from: 0, length: 2 },
-            Act::Write { from: 2, length: 2 },
-        ],
-    ),
-    (
-        b"begin WRITE('it''s', '', '''') ;writeln end.",
-        b"it's'\r\n",
-        &[
-            Act::Write { from: 0, length: 4 },
-            Act::Write { from: 4, length: 0 },
-            Act::Write { from: 4, length: 1 },
-            Act::Write { from: 5, length: 2 },
-        ],
-    ),
-    (
-        b"\n\tPROGRAM halt;\x0cbegin;WriteLn('a',\r\n'b');end.\r\n\x1a(*",
-        b"ab\r\n",
-        &[
-            Act::Write { from: 0, length: 1 },
-            Act::Write { from: 1, length: 1 },
-            Act::Write { from: 2, length: 2 },
-        ],
-    ),
-    (b"program Ifs; begin end.", b"", &[]),
-    (b"program absolute; begin end.", b"", &[]),
+/// The code has 52 bytes, so the data begin at paragraph 4.
+const CODE: [u8; 52] = [
+    0xB8, 4, 0, 0x8E, 0xD8, 0xBB, 1, 0, // MOV AX,4; MOV DS,AX; MOV BX,1
+    0xB9, 2, 0, 0xBA, 0, 0, 0xB4, 0x40, 0xCD, 0x21, // MOV CX,2; MOV DX,0; MOV AH,40h; INT 21h
+    0xB9, 1, 0, 0xBA, 2, 0, 0xB4, 0x40, 0xCD, 0x21, //
+    0xB9, 2, 0, 0xBA, 3, 0, 0xB4, 0x40, 0xCD, 0x21, //
+    0xB8, 0xFE, 0x4C, 0xCD, 0x21, // MOV AX,4CFEh; INT 21h
+    0xB8, 0, 0x4C, 0xCD, 0x21, // MOV AX,4C00h; INT 21h
+    0xB4, 0x4C, 0xCD, 0x21, // MOV AH,4Ch; INT 21h
 ];
 
 #[test]
-fn reads_texts_and_line_ends(rt: HostRuntime) {
-    for row in TEXTS {
-        assert!(rt; is_read_as(rt.alloc(), row), "{:?}", row.0);
-    }
-}
-
-/// How many letters a constant has after its first byte, and how many of its bytes count.
-const LENGTHS: [(u32, u32); 4] = [(253, 254), (254, 255), (255, 255), (300, 255)];
-
-fn long_constant(alloc: Global, letters: u32) -> Result<Vec<u8>, AllocError> {
-    let mut text = Vec::from_slice(alloc, b"begin Write('''")?;
-    for _ in 0..letters {
-        text.push(b'a')?;
-    }
-    text.extend_from_slice(b"', 'b') end.")?;
-    Ok(text)
-}
-
-// Of a constant the first 255 bytes count; a doubled quote is one byte.
-#[test]
-fn reads_the_first_bytes_of_a_constant(rt: HostRuntime) -> Result<(), Fail> {
-    for (letters, kept) in LENGTHS {
-        let text = long_constant(rt.alloc(), letters)?;
-        let program = read_program(rt.alloc(), text.as_slice())?;
-        let acts = [write(0, kept), write(kept, 1)];
-        assert_eq!(rt; program.acts.as_slice(), acts.as_slice());
-        assert_eq!(rt; program.pool.first(), Some(&b'\''));
-        assert_eq!(rt; program.pool.last(), Some(&b'b'));
+fn writes_texts_and_ends(rt: HostRuntime) -> Result<(), Fail> {
+    match made(rt.alloc(), &UNIT, &SHOWS)? {
+        None => assert!(rt; false),
+        Some(exe) => {
+            let image = exe.image.as_slice();
+            assert_eq!(rt; image.get(..52), Some(CODE.as_slice()));
+            assert_eq!(rt; image.get(64..), Some(b"Hia\r\n\0".as_slice()));
+        }
     }
     Ok(())
 }
 
-const ENDS: &[Row] = &[
-    (b"begin end.", b"", &[]),
-    (
-        b"begin Write('x'); Halt(7); Write('y') end.",
-        b"xy",
-        &[
-            Act::Write { from: 0, length: 1 },
-            Act::Halt { code: 7 },
-            Act::Write { from: 1, length: 1 },
-        ],
-    ),
-    (
-        b"begin Halt;Halt(000000256);Halt(999999999)end.",
-        b"",
-        &[
-            Act::Halt { code: 0 },
-            Act::Halt { code: 256 },
-            Act::Halt { code: 999_999_999 },
-        ],
-    ),
+const OF_THE_FORM: &[StmtSample] = &[
+    Block(&[]),
+    Block(&[Block(&[Write(&[], false)]), Write(&[], true)]),
+    Halt(&Number(INTEGER, 256)),
 ];
 
 #[test]
-fn reads_ends(rt: HostRuntime) {
-    for row in ENDS {
-        assert!(rt; is_read_as(rt.alloc(), row), "{:?}", row.0);
+fn takes_blocks_and_ends(rt: HostRuntime) -> Result<(), Fail> {
+    for main in OF_THE_FORM {
+        assert!(rt; is_literal(rt.alloc(), &UNIT, main)?);
     }
+    Ok(())
 }
 
-/// Texts that are no programs of literals.
-const OTHER_TEXTS: [&[u8]; 27] = [
-    b"",
-    b"begin end",
-    b"begin end. end.",
-    b"begin end..",
-    b"begin end.{}",
-    b"begin (* *) end.",
-    b"beginend.",
-    b"program begin; begin end.",
-    b"program if; begin end.",
-    b"program Xor; begin end.",
-    b"begin AND end.",
-    b"program A begin end.",
-    b"program 1; begin end.",
-    b"begin Write end.",
-    b"begin Write() end.",
-    b"begin WriteLn() end.",
-    b"begin WriteLn('a',) end.",
-    b"begin WriteLn('a' 'b') end.",
-    b"begin WriteLn('a) end.",
-    b"begin WriteLn('a\n') end.",
-    b"begin WriteLn('a\x1a') end.",
-    b"begin WriteLn(1) end.",
-    b"begin Halt() end.",
-    b"begin Halt('a') end.",
-    b"begin Halt(1a) end.",
-    b"begin Halt(1234567890) end.",
-    b"begin Halt Halt end.",
+const OTHERS: &[StmtSample] = &[
+    Write(&[(LOADED, None)], false),
+    Write(&[(Number(INTEGER, 1), None)], false),
+    Write(&[(Text(STRING, "a"), Some(Number(INTEGER, 1)))], false),
+    Block(&[Write(&[HI], true), Exit]),
+    Halt(&LOADED),
 ];
 
 #[test]
-fn refuses_other_texts(rt: HostRuntime) {
-    for text in OTHER_TEXTS {
-        assert!(rt; is_refused(rt.alloc(), text), "{text:?}");
+fn refuses_other_statements(rt: HostRuntime) -> Result<(), Fail> {
+    for main in OTHERS {
+        assert!(rt; !is_literal(rt.alloc(), &UNIT, main)?);
     }
+    Ok(())
 }
 
+/// A unit that overlays another, one whose stack is too small, and one without a main part.
+const OTHER_UNITS: &[UnitSample] = &[
+    UnitSample {
+        overlaid: &["B"],
+        ..UNIT
+    },
+    UnitSample { stack: 512, ..UNIT },
+    UnitSample {
+        initial: None,
+        ..UNIT
+    },
+];
+
 #[test]
-fn reads_the_longest_text_and_none_longer(rt: HostRuntime) -> Result<(), Fail> {
-    let alloc = rt.alloc();
-    let mut text = Vec::from_slice(alloc, b"begin Write('a'")?;
-    for _ in 0..1018 {
-        text.extend_from_slice(b",'a'")?;
+fn refuses_other_programs(rt: HostRuntime) -> Result<(), Fail> {
+    for unit in OTHER_UNITS {
+        assert!(rt; !is_literal(rt.alloc(), unit, &SHOWS)?);
     }
-    text.extend_from_slice(b") end   .")?;
-    let program: LiteralProgram = read_program(alloc, &text)?;
-    assert_eq!(rt; text.len(), LONGEST_SOURCE);
-    assert_eq!(rt; program.pool.len(), 1019);
-    text.push(b' ')?;
-    assert!(rt; is_refused(alloc, &text));
     Ok(())
 }

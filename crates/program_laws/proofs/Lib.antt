@@ -3,4 +3,5 @@ mod Alike
 mod Fronts
 mod Programs
 mod Missing
+mod Depth
 mod Closing

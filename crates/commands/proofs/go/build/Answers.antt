@@ -1,12 +1,18 @@
-use Rattle.std.proofs.Common.{ap, ◌∙◌}
-use Rattle.mz_file.specs.Load.{loaded}
+use Rattle.std.proofs.Common.{Err, ap}
+use Rattle.outcomes.specs.declared.outcome.Outcome.{Outcome}
+use Rattle.commands.proofs.BuildLaws.{built_from, not_made_of, not_found}
 use Rattle.commands.proofs.go.build.Goals as goal
 
-pub returns : goal.returns
-returns c =
-    let denotes = c.in_ok-bytes.ensures.denotes in
-    record {
-      agrees = c.in_ok-exe.ensures.agrees c.in_ok-bytes.bytes denotes;
-      soon = λ input. c.in_ok-exe.ensures.short c.in_ok-bytes.bytes input denotes;
-      starts = c.in-Ok.ensures.loaded ∙ ap loaded denotes.value;
-    }
+pub returns-in-Ok-clause-built : goal.returns-in-Ok-clause-built
+returns-in-Ok-clause-built g c =
+    built_from (g.F.Files.folder c.args.files.now) c.args.name.now c.in-Ok.found c.executable_of.result c.in-Ok.ensures.found c.executable_of.ensures.made
+
+pub returns-in-Ok-clause-reason : goal.returns-in-Ok-clause-reason
+returns-in-Ok-clause-reason g c =
+    not_made_of (g.F.Files.folder c.args.files.now) c.args.name.now c.in-Ok.found c.executable_of.result (g.F.Files.faults c.args.files.now) (g.F.Files.faults c.typed_sources.new.files)
+    c.in-Ok.ensures.found c.executable_of.ensures.reason
+
+pub returns-in-Err-clause-reason : goal.returns-in-Err-clause-reason
+returns-in-Err-clause-reason g c = λ buffer.
+    not_found c.in-Err.outcome (g.F.Files.folder c.args.files.now) c.args.name.now buffer (g.F.Files.faults c.args.files.now) (g.F.Files.faults c.typed_sources.new.files)
+    c.in-Err.ensures.cause c.in-Err.ensures.declines (λ is. c.in-Err.ensures.failed (ap (λ (o : Outcome). Err o) is))

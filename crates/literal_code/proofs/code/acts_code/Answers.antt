@@ -1,9 +1,9 @@
-use Rattle.std.proofs.Common.{◌≡◌, ℕ, ◌≤◌, ◌∙◌, List, ◌++◌, sym, ap, get_or, refl, length, take, arith}
+use Rattle.std.proofs.Common.{◌≡◌, ◌∙◌, ◌++◌, sym, ap, get_or, refl, length, take, arith}
 use Rattle.std.specs.List.{flat_map}
 use Rattle.std.proofs.Math.Seq.{take_all}
-use Rattle.literal_form.specs.declared.act.Act.{Act}
-use Rattle.literal_form.specs.declared.act.Act.TheVariants as act
-use Rattle.literal_code.specs.Code.{spelled, act_code, acts_code, acts_size, halt_code}
+use Rattle.literal_code.specs.declared.act.Act.{Act}
+use Rattle.literal_code.specs.declared.act.Act.TheVariants as act
+use Rattle.literal_code.specs.Code.{spelled, act_code, acts_code}
 use Rattle.literal_code.proofs.CodeLaws.{spelled-more, acts_code-flat_map, acts_size_bound}
 use Rattle.literal_code.proofs.ImageLaws.{length-acts_code}
 use Rattle.literal_code.proofs.code.acts_code.Goals as goal

@@ -1,4 +1,4 @@
-use Rattle.std.proofs.Common.{◌≡◌, ◌++◌, take}
+use Rattle.std.proofs.Common.{◌≡◌, take}
 use Rattle.std.specs.List.{flat_map}
 use Rattle.literal_code.specs.Code.{spelled, act_code}
 use Rattle.literal_code.proofs.code.acts_code.Given as goal

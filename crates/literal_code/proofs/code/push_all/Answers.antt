@@ -1,4 +1,4 @@
-use Rattle.std.proofs.Common.{◌≡◌, ℕ, ◌∙◌, sym, ap, get_or, refl}
+use Rattle.std.proofs.Common.{◌∙◌, get_or, refl}
 use Rattle.x86_table.specs.declared.operand.ByteReg.TheVariants as byte
 use Rattle.x86_table.specs.declared.operand.ByteOperand.TheVariants as byte_rm
 use Rattle.x86_table.specs.declared.instr.Pair.TheVariants as pair

@@ -1,15 +1,11 @@
-use Rattle.std.proofs.Common.{◌≡◌, ℕ, ◌≤◌, List, length, sym, subst, arith}
+use Rattle.std.proofs.Common.{◌≡◌, ℕ, ◌≤◌, length, sym, subst, arith}
 use Rattle.std.specs.Prelude.{vec_len}
 use Rattle.std.specs.List.{All}
-use Rattle.literal_form.specs.declared.act.Act.{Act}
-use Rattle.literal_form.specs.Act.{IsWithin, statements_in}
-use Rattle.literal_form.specs.Statement.{mean}
+use Rattle.literal_code.specs.Act.{IsWithin}
 use Rattle.mz_file.specs.declared.executable.Exe.{Exe}
 use Rattle.mz_file.specs.Format.{Denotes}
 use Rattle.mz_file.specs.Load.{paragraphs_taken, IsLoadable}
 use Rattle.mz_file.specs.Spelling.{IsWritable}
-use Rattle.literal_code.specs.Image.{executable_of}
-use Rattle.literal_code.specs.Agrees.{Agrees, EndsWithin}
 use Rattle.literal_code.proofs.Whole as whole
 use Rattle.literal_code.proofs.image.executable.Goals as goal
 
@@ -27,21 +23,21 @@ within c =
 
 pub returns-clause-writable : goal.returns-clause-writable
 returns-clause-writable c =
-    subst IsWritable (sym c.in_ok-exe.ensures) (whole.writable c.args.program.now.pool.items c.args.program.now.acts.items (few c) (short c))
+    subst IsWritable (sym c.in_ok-exe.ensures) (whole.writable c.args.memory c.args.program.now.pool.items c.args.program.now.acts.items (few c) (short c))
 
 pub returns-clause-loadable : goal.returns-clause-loadable
 returns-clause-loadable c =
-    subst IsLoadable (sym c.in_ok-exe.ensures) (whole.loadable c.args.program.now.pool.items c.args.program.now.acts.items (few c) (short c))
+    subst IsLoadable (sym c.in_ok-exe.ensures) (whole.loadable c.args.memory c.args.program.now.pool.items c.args.program.now.acts.items (few c) (short c))
 
-pub returns-clause-agrees : goal.returns-clause-agrees
-returns-clause-agrees c = λ bytes denotes.
-    whole.agrees c.args.program.now.pool.items c.args.program.now.acts.items bytes (few c) (short c) (within c) (subst (Denotes bytes) c.in_ok-exe.ensures denotes)
+pub returns-clause-ends : goal.returns-clause-ends
+returns-clause-ends c = λ bytes denotes.
+    whole.always_ends c.args.memory c.args.program.now.pool.items c.args.program.now.acts.items bytes c.requires.stack c.requires.heap (few c) (short c) (within c) (subst (Denotes bytes) c.in_ok-exe.ensures denotes)
 
 pub returns-clause-short : goal.returns-clause-short
 returns-clause-short c = λ bytes input denotes.
-    whole.ends_within c.args.program.now.pool.items c.args.program.now.acts.items bytes input (few c) (short c) (within c) (subst (Denotes bytes) c.in_ok-exe.ensures denotes)
+    whole.ends_within c.args.memory c.args.program.now.pool.items c.args.program.now.acts.items bytes input (few c) (short c) (within c) (subst (Denotes bytes) c.in_ok-exe.ensures denotes)
 
 pub returns-clause-fits : goal.returns-clause-fits
 returns-clause-fits c =
     let P : Exe → Type 0 = λ exe. paragraphs_taken exe ≤ 40960 in
-    subst P (sym c.in_ok-exe.ensures) (whole.fits c.args.program.now.pool.items c.args.program.now.acts.items (few c) (short c))
+    subst P (sym c.in_ok-exe.ensures) (whole.fits c.args.memory c.args.program.now.pool.items c.args.program.now.acts.items c.requires.stack c.requires.heap (few c) (short c))

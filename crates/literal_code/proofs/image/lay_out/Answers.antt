@@ -1,7 +1,7 @@
-use Rattle.std.proofs.Common.{◌≡◌, ℕ, ◌+◌, ◌-◌, ◌*◌, ◌/◌, ◌∙◌, List, ◌∷◌, [], ◌++◌, sym, ap, refl, length, arith}
+use Rattle.std.proofs.Common.{◌≡◌, ◌+◌, ◌-◌, ◌*◌, ◌/◌, ◌∙◌, ◌∷◌, [], ◌++◌, ap, arith}
 use Rattle.std.specs.Prelude.{replicate}
 use Rattle.literal_code.specs.Code.{spelled, start_code, error_code}
-use Rattle.literal_code.specs.Image.{code_size, data_segment, image_of}
+use Rattle.literal_code.specs.Image.{code_size, data_segment}
 use Rattle.literal_code.proofs.CodeLaws.{image_from_parts}
 use Rattle.literal_code.proofs.image.lay_out.Goals as goal
 

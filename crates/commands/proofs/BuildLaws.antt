@@ -1,0 +1,180 @@
+-- From what the parts of `go` answer to what it does.
+use Rattle.std.proofs.Common.{◌≡◌, ℕ, ◌≤◌, List, Option, Some, None, Result, Ok, Err, IfOk, IfErr, refl, inl, inr, sym, ap, ◌∙◌, subst, arith}
+use Rattle.std.specs.Prelude.{IfSome}
+use Rattle.tp_outside.specs.Faults.{HasRisen}
+use Rattle.tp_outside.specs.Folder.{Folder}
+use Rattle.front_end.specs.declared.program.TypedSources.{TypedSources}
+use Rattle.front_end.specs.Found.{IsFoundIn}
+use Rattle.front_end.specs.Untyped.{IsRefusing, IsDeclining, IsNoProgram}
+use Rattle.cpu_8086.specs.State.{State}
+use Rattle.typed_tree.specs.declared.units.Program.{Program}
+use Rattle.meaning.specs.Meaning.{mean}
+use Rattle.literal_code.specs.Ends.{EndsWithin}
+use Rattle.literal_programs.specs.Literals.{IsLiteral}
+use Rattle.literal_programs.specs.Agrees.{Agrees}
+use Rattle.literal_programs.specs.Memory.{HasMemoryOf}
+use Rattle.mz_file.specs.declared.executable.Exe.{Exe}
+use Rattle.mz_file.specs.Format.{Denotes, exe_of}
+use Rattle.mz_file.specs.Load.{loaded}
+use Rattle.dos_runner.specs.declared.runner.RunEnd.{RunEnd}
+use Rattle.dos_runner.specs.declared.runner.RunEnd.TheVariants as ends
+use Rattle.dos_runner.specs.Outside.{Outside, RunsTo}
+use Rattle.opened_program.specs.declared.error.OpenError.{OpenError}
+use Rattle.opened_program.specs.declared.error.OpenError.TheVariants as errors
+use Rattle.opened_program.specs.Opening.{IsOpened, IsRefused}
+use Rattle.overlay_manager.specs.Manager.{Manager}
+use Rattle.overlay_runner.specs.Event.{Rises}
+use Rattle.outcomes.specs.declared.refusal.Refusal.{Refusal}
+use Rattle.outcomes.specs.declared.refusal.Refusal.TheVariants as refusal
+use Rattle.outcomes.specs.declared.outcome.Outcome.{Outcome}
+use Rattle.outcomes.specs.declared.outcome.Outcome.TheVariants as outcome
+use Rattle.command_line.specs.declared.command.RunOptions.{RunOptions}
+use Rattle.commands.specs.declared.names.FileKind.TheVariants.{Overlays}
+use Rattle.commands.specs.Files.{file_of}
+use Rattle.commands.specs.Go.{DoesSoon, IsNotMade, IsBuiltFrom, IsNotBuilt, IsNotGone, RanBuilt}
+use Rattle.commands.specs.declared.go.Prepared.{Prepared}
+use Rattle.commands.specs.Prepared.{IsPrepared}
+use Rattle.commands.specs.Run.{refused_as, limit_of}
+
+-- ---- the executable
+
+pub does_of : (program : Program) (exe : Exe) (result : Result (List ℕ) Outcome) → IsLiteral program → HasMemoryOf program exe → ((bytes : List ℕ) → Denotes bytes exe → Agrees program bytes)
+    → ((bytes input : List ℕ) (turns : ℕ) → Denotes bytes exe → EndsWithin 16389 bytes input (mean program input turns)) → IfOk result (λ bytes. Denotes bytes exe) → IfOk result (DoesSoon program)
+does_of program exe (Err error) literal memory agrees soon denotes = tt
+does_of program exe (Ok bytes) literal memory agrees soon denotes = record {
+  literal = literal;
+  memory = subst (HasMemoryOf program) denotes.value memory;
+  agrees = agrees bytes denotes;
+  soon = λ input turns. soon bytes input turns denotes;
+}
+
+pub not_spelled : (found : TypedSources) (result : Result (List ℕ) Outcome) → IfErr result (λ error. error ≡ outcome.NoMemory) → IfErr result (IsNotMade found)
+not_spelled found (Ok bytes) none = tt
+not_spelled found (Err error) none = subst (IsNotMade found) (sym none) tt
+
+built_by : (held : Folder) (name bytes : List ℕ) (found : TypedSources) → IsFoundIn held name found → DoesSoon found.program bytes → IsBuiltFrom held name bytes
+built_by held name bytes found is does = record {
+  program = found.program;
+  is = record { texts = found.texts.items; sources = found.sources.items; gathers = is.gathers; is = is.is };
+  does = does;
+}
+
+pub built_from : (known : Option Folder) (name : List ℕ) (found : TypedSources) (result : Result (List ℕ) Outcome) → IfSome known (λ held. IsFoundIn held name found) → IfOk result (DoesSoon found.program)
+    → IfSome known (λ held. IfOk result (IsBuiltFrom held name))
+built_from None name found result is does = tt
+built_from (Some held) name found (Err error) is does = tt
+built_from (Some held) name found (Ok bytes) is does = built_by held name bytes found is does
+
+other_form : (known : Option Folder) (name : List ℕ) (buffer : Option ℕ) (r : Refusal) (found : TypedSources) → IfSome known (λ held. IsFoundIn held name found) → IsNotMade found (outcome.Refused r)
+    → IfSome known (λ held. IsNotBuilt held name buffer r)
+other_form None name buffer r found is why = tt
+other_form (Some held) name buffer r found is why = inr (inl (record {
+  texts = found.texts.items;
+  sources = found.sources.items;
+  gathers = is.gathers;
+  program = found.program;
+  is = is.is;
+  other = why.0;
+  refused = why.1;
+}))
+
+other_refuses : (r : Refusal) (found : TypedSources) → IsNotMade found (outcome.Refused r) → IsRefusing (outcome.Refused r)
+other_refuses r found why = subst (λ (r : Refusal). IsRefusing (outcome.Refused r)) (sym why.1) tt
+
+not_made : (result : Outcome) (known : Option Folder) (name : List ℕ) (buffer : Option ℕ) (found : TypedSources) (old new : ℕ) → IfSome known (λ held. IsFoundIn held name found) → IsNotMade found result
+    → IsNotGone result name buffer known old new
+not_made (outcome.Refused r) known name buffer found old new is why = (other_refuses r found why, other_form known name buffer r found is why)
+not_made outcome.NoMemory known name buffer found old new is why = tt
+not_made other known name buffer found old new is why = absurd why
+
+pub not_made_of : (known : Option Folder) (name : List ℕ) (found : TypedSources) (result : Result (List ℕ) Outcome) (old new : ℕ) → IfSome known (λ held. IsFoundIn held name found) → IfErr result (IsNotMade found)
+    → IfErr result (λ outcome. (buffer : Option ℕ) → IsNotGone outcome name buffer known old new)
+not_made_of known name found (Ok bytes) old new is why = tt
+not_made_of known name found (Err error) old new is why = λ buffer. not_made error known name buffer found old new is why
+
+no_program : (known : Option Folder) (name : List ℕ) (buffer : Option ℕ) (r : Refusal) → IfSome known (λ held. IsNoProgram held name (outcome.Refused r)) → IfSome known (λ held. IsNotBuilt held name buffer r)
+no_program None name buffer r why = tt
+no_program (Some held) name buffer r why = inl why
+
+pub not_found : (result : Outcome) (known : Option Folder) (name : List ℕ) (buffer : Option ℕ) (old new : ℕ) → IfSome known (λ held. IsNoProgram held name result) → IsDeclining result → (result ≡ outcome.FilesFault → HasRisen old new)
+    → IsNotGone result name buffer known old new
+not_found (outcome.Refused r) known name buffer old new why declines counted = (declines, no_program known name buffer r why)
+not_found outcome.FilesFault known name buffer old new why declines counted = counted refl
+not_found outcome.NoMemory known name buffer old new why declines counted = tt
+not_found other known name buffer old new why declines counted = absurd declines
+
+-- ---- opening
+
+cannot : (known : Option Folder) (name bytes : List ℕ) (buffer : Option ℕ) (r : Refusal) (error : OpenError) → outcome.Refused r ≡ refused_as error → IfSome known (λ held. IsBuiltFrom held name bytes)
+    → IfSome known (λ held. IsRefused bytes (file_of name Overlays) (held (file_of name Overlays)) buffer error) → IfSome known (λ held. IsNotBuilt held name buffer r)
+cannot None name bytes buffer r error is built why = tt
+cannot (Some held) name bytes buffer r error is built why = inr (inr (record { bytes = bytes; built = built; error = error; is = is; cause = why }))
+
+module _ (known : Option Folder) (name bytes : List ℕ) (buffer : Option ℕ) (old new : ℕ) (built : IfSome known (λ held. IsBuiltFrom held name bytes)) where
+  abbrev Why : OpenError → Type 0
+  Why error = IfSome known (λ held. IsRefused bytes (file_of name Overlays) (held (file_of name Overlays)) buffer error)
+
+  not_opened : (error : OpenError) → Why error → (error ≡ errors.FilesFault → HasRisen old new) → IsNotGone (refused_as error) name buffer known old new
+  not_opened (errors.NotExecutable cause) why counted = (tt, cannot known name bytes buffer (refusal.NotExecutable cause) (errors.NotExecutable cause) refl built why)
+  not_opened (errors.MissingFile file) why counted = (tt, cannot known name bytes buffer (refusal.MissingFile file) (errors.MissingFile file) refl built why)
+  not_opened (errors.OverlayFileDamaged at) why counted = (tt, cannot known name bytes buffer (refusal.OverlayFileDamaged at) (errors.OverlayFileDamaged at) refl built why)
+  not_opened (errors.OverlayMismatch overlay) why counted = (tt, cannot known name bytes buffer (refusal.OverlayMismatch overlay) (errors.OverlayMismatch overlay) refl built why)
+  not_opened (errors.BufferTooSmall need have) why counted = (tt, cannot known name bytes buffer (refusal.BufferTooSmall need have) (errors.BufferTooSmall need have) refl built why)
+  not_opened (errors.MemoryTooSmall need) why counted = (tt, cannot known name bytes buffer (refusal.MemoryTooSmall need) (errors.MemoryTooSmall need) refl built why)
+  not_opened errors.FilesFault why counted = counted refl
+  not_opened errors.NoMemory why counted = tt
+
+  pub not_opened_as : (result : Outcome) (error : OpenError) → result ≡ refused_as error → Why error → (error ≡ errors.FilesFault → HasRisen old new) → IsNotGone result name buffer known old new
+  not_opened_as result error is why counted = subst (λ (o : Outcome). IsNotGone o name buffer known old new) (sym is) (not_opened error why counted)
+
+-- what opening tells of the bytes and the file that it was given
+pub why_by : (known now_known : Option Folder) (shown bytes given file : List ℕ) (buffer : Option ℕ) (error : OpenError) → now_known ≡ known → shown ≡ bytes → given ≡ file
+    → IfSome now_known (λ held. IsRefused shown given (held given) buffer error) → IfSome known (λ held. IsRefused bytes file (held file) buffer error)
+why_by known now_known shown bytes given file buffer error same texts names why =
+    let a = subst (λ (f : Option Folder). IfSome f (λ held. IsRefused shown given (held given) buffer error)) same why in
+    let b = subst (λ (t : List ℕ). IfSome known (λ held. IsRefused t given (held given) buffer error)) texts a in
+    subst (λ (n : List ℕ). IfSome known (λ held. IsRefused bytes n (held n) buffer error)) names b
+
+pub prepared_by : (known now_known : Option Folder) (name shown given : List ℕ) (buffer : Option ℕ) (prepared : Prepared) (manager : Manager) → now_known ≡ known → shown ≡ prepared.bytes → IfSome known (λ held. IsBuiltFrom held name prepared.bytes)
+    → IfSome now_known (λ held. IsOpened shown given (held given) buffer prepared.machine manager) → IfSome known (λ held. IsPrepared held name prepared)
+prepared_by None now_known name shown given buffer prepared manager same texts built opened = tt
+prepared_by (Some held) now_known name shown given buffer prepared manager same texts built opened =
+    let here = subst (λ (f : Option Folder). IfSome f (λ held. IsOpened shown given (held given) buffer prepared.machine manager)) same opened in
+    record { built = built; starts = here.machine_is ∙ ap (λ (t : List ℕ). loaded (exe_of t)) texts }
+
+-- ---- the run
+
+pub prepared_built : (known : Option Folder) (name : List ℕ) (prepared : Prepared) → IfSome known (λ held. IsPrepared held name prepared) → IfSome known (λ held. IsBuiltFrom held name prepared.bytes)
+prepared_built None name prepared is = tt
+prepared_built (Some held) name prepared is = is.built
+
+pub prepared_starts : (known : Option Folder) (name : List ℕ) (prepared : Prepared) → IfSome known (λ held. IsPrepared held name prepared) → IfSome known (λ held. prepared.machine ≡ loaded (exe_of prepared.bytes))
+prepared_starts None name prepared is = tt
+prepared_starts (Some held) name prepared is = is.starts
+
+pub no_files : (end : RunEnd) (limit : ℕ) (start last : State) (o o' : Outside) → RunsTo end limit start last o o' → end ≡ ends.FilesFault → ⊥
+no_files ends.FilesFault limit start last o o' run is = run.run.leaves
+no_files (ends.Ended code) limit start last o o' run is = absurd cc
+no_files (ends.Limit taken) limit start last o o' run is = absurd cc
+no_files (ends.Stopped cs ip why) limit start last o o' run is = absurd cc
+no_files ends.InputFault limit start last o o' run is = absurd cc
+no_files ends.OutputFault limit start last o o' run is = absurd cc
+no_files ends.ErrorsFault limit start last o o' run is = absurd cc
+
+pub rises_of : (end : RunEnd) (limit : ℕ) (start last : State) (o o' : Outside) (files files' : ℕ) → RunsTo end limit start last o o' → Rises (Some end) o o' files files'
+rises_of (ends.Ended code) limit start last o o' files files' run = tt
+rises_of (ends.Limit taken) limit start last o o' files files' run = tt
+rises_of (ends.Stopped cs ip why) limit start last o o' files files' run = tt
+rises_of ends.InputFault limit start last o o' files files' run = run.run.rose
+rises_of ends.OutputFault limit start last o o' files files' run = run.run.rose
+rises_of ends.ErrorsFault limit start last o o' files files' run = run.run.rose
+rises_of ends.FilesFault limit start last o o' files files' run = absurd run.run.leaves
+
+pub ran_built : (known : Option Folder) (end : RunEnd) (name bytes : List ℕ) (options : RunOptions) (limit : ℕ) (start last : State) (o o' : Outside) → limit ≡ limit_of options
+    → IfSome known (λ held. IsBuiltFrom held name bytes) → IfSome known (λ held. start ≡ loaded (exe_of bytes)) → RunsTo end limit start last o o' → IfSome known (λ held. RanBuilt held end name bytes options o o')
+ran_built None end name bytes options limit start last o o' limits built starts run = tt
+ran_built (Some held) end name bytes options limit start last o o' limits built starts run = record {
+  built = built;
+  last = last;
+  run = subst (λ (s : State). RunsTo end (limit_of options) s last o o') starts (subst (λ (n : ℕ). RunsTo end n start last o o') limits run);
+}

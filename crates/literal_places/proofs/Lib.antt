@@ -1,0 +1,3 @@
+mod OutlineViews
+mod WalkSteps
+mod PlaceLaws

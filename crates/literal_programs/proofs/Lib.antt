@@ -1,0 +1,4 @@
+pub mod Played
+pub mod Meant
+pub mod Read
+pub mod Known

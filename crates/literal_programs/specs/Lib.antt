@@ -1,0 +1,4 @@
+pub mod Literals
+pub mod Reading
+pub mod Memory
+pub mod Agrees

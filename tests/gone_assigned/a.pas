@@ -1,0 +1,1 @@
+var x: Byte; begin x := 1 end.

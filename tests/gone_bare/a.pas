@@ -1,0 +1,1 @@
+begin Write; WriteLn; ; begin end; Halt end.

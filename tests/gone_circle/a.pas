@@ -1,0 +1,1 @@
+uses B; begin end.

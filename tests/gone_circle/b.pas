@@ -1,0 +1,1 @@
+unit B; interface uses C; implementation end.

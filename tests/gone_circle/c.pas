@@ -1,0 +1,1 @@
+unit C; interface uses B; implementation end.

@@ -1,0 +1,1 @@
+var n: Integer; begin Halt(n) end.

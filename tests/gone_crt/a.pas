@@ -1,0 +1,5 @@
+program A;
+uses
+  Crt;
+begin
+end.

@@ -1,0 +1,1 @@
+begin Write('ab'); Write('cd') end.

@@ -1,0 +1,4 @@
+begin
+  Write('a');
+  while true do Write('b')
+end.

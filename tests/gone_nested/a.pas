@@ -1,0 +1,1 @@
+begin begin Write('a'); begin ; if true then end end end.

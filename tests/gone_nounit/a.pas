@@ -1,0 +1,1 @@
+uses Nowhere; begin end.

@@ -1,0 +1,1 @@
+begin WriteLn(1) end.

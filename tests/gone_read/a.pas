@@ -1,0 +1,1 @@
+var c: Char; begin Write('c'); Read(c) end.

@@ -1,0 +1,1 @@
+var r: Real; begin end.

@@ -1,0 +1,2 @@
+procedure Write(s: string); begin end;
+begin ; Write('a') end.

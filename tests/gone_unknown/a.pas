@@ -1,0 +1,1 @@
+begin i := 1 end.

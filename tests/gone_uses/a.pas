@@ -1,0 +1,1 @@
+program A; uses Overlay, U; begin x := 1 end.

@@ -1,0 +1,1 @@
+unit U; interface var x: Integer; implementation end.

@@ -1,0 +1,4 @@
+var x: Integer;
+begin
+  Write('a', x)
+end.

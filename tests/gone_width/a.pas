@@ -1,0 +1,1 @@
+begin WriteLn('a', 'b':3) end.
