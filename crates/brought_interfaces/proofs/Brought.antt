@@ -1,5 +1,5 @@
 -- A used unit brings what is there.
-use Rattle.std.proofs.Common.{◌≡◌, ◌⊎◌, inl, inr, ℕ, zero, suc, ◌+◌, ◌<◌, ◌≤◌, List, [], ◌∷◌, ◌++◌, length, Option, Some, refl, sym, subst, ap, ◌∙◌, arith, length-append}
+use Rattle.std.proofs.Common.{◌≡◌, ◌⊎◌, inl, inr, ℕ, zero, suc, ◌<◌, ◌≤◌, List, [], ◌∷◌, ◌++◌, length, Option, Some, refl, sym, subst, ap, ◌∙◌, arith, length-append}
 use Rattle.std.specs.Prelude.{slice_get}
 use Rattle.std.proofs.lemmas.Option.{slice_get_within}
 use Rattle.type_layout.specs.declared.definitions.TypeId.{TypeId}
@@ -15,6 +15,7 @@ use Rattle.unit_interface.specs.Merge.{ids_in, with_items, with_interface}
 use Rattle.unit_interface.specs.Exports as exports
 use Rattle.method_rules.specs.Slots.{methods_of}
 use Rattle.closed_constants.specs.Bounds.{AreBelow, in_names, in_lists}
+use Rattle.closed_constants.specs.Ordered.{IsOrdered}
 use Rattle.closed_constants.proofs.Below.{below_first, below_last}
 use Rattle.closed_scopes.specs.Scopes.{AreClosed}
 use Rattle.sound_tables.proofs.Sound.{sound}
@@ -39,8 +40,9 @@ where_is (suc n) (suc m) = next (where_is n m)
     next (inr f) = inr (omega (arith, f))
 
 -- the table has a type behind each ordinal type of an enumeration, and names the units of methods
-tabled : (name : List ℕ) (table t : Table) → IsTabled table → IsGrownTo name table t → ((by : ℕ) → AreBelow (length t.types) (exports.with_type by (slice_get t.types by))) → IsTabled t
-tabled name table t before grown below = record {
+tabled : (name : List ℕ) (table t : Table) → IsTabled table → IsOrdered t → IsGrownTo name table t → ((by : ℕ) → AreBelow (length t.types) (exports.with_type by (slice_get t.types by))) → IsTabled t
+tabled name table t before ordered grown below = record {
+  ordered = ordered;
   followed = λ number low high at.
       let whole : AreBelow (length t.types) (exports.with_type number (Some (type.Ordinal host.Enumeration low high))) = subst (λ (d : Option TypeDef). AreBelow (length t.types) (exports.with_type number d)) at (below number) in
       whole.0;
@@ -88,7 +90,7 @@ interface_brings closing name g i s known table complete named shown fits faithf
           let foreign : IsForeign name h.types method = record { unit = it.unit; there = it.there; other = it.other } in
           foreign;
       sound = sound h fit whole after.ordered.begins;
-      table = tabled name g.types h.types table grown whole.types;
+      table = tabled name g.types h.types table after.ordered grown whole.types;
       entries = entries_there name g i s named faithful.other names each low;
       values = constants_there name g i s named faithful.other names each;
     }

@@ -1,3 +1,4 @@
 pub mod Merged
 pub mod Entries
 pub mod Brought
+pub mod Further
