@@ -1,0 +1,18 @@
+-- Used units bring what is there.
+use Rattle.std.specs.Prelude.{◌≡◌, ℕ, true, List, Some, slice_get}
+use Rattle.well_formed.specs.Scopes.{Scope}
+use Rattle.scopes.specs.Environment.{Environment}
+use Rattle.unit_interface.specs.declared.interfaces.Interface.{Interface}
+use Rattle.unit_interface.specs.Merge.{with_interface}
+use Rattle.unit_interface.specs.Fitting.{types_fit}
+use Rattle.closed_scopes.specs.Scopes.{IsCompleteScope, IsClosedInterface}
+use Rattle.sound_tables.specs.Laws.{IsFit}
+use Rattle.known_names.specs.Known.{AreKnown}
+use Rattle.checked_routines.specs.Reading.{IsTabled}
+use Rattle.checked_units.specs.Bringing.{Brings}
+use Rattle.brought_interfaces.specs.Faithful.{IsFaithful}
+
+-- into a scope that has all that it names
+abbrev pub InterfaceLaw : Type 0
+InterfaceLaw = (name : List ℕ) (g : Environment) (i : Interface) (s : Scope) → AreKnown g s → IsTabled g.types → IsCompleteScope g → slice_get g.units 0 ≡ Some name
+    → IsClosedInterface i → types_fit g.types i.types ≡ true → IsFaithful name g i → IsFit (with_interface g i).types.types → Brings name g (with_interface g i) s
