@@ -1,5 +1,5 @@
 -- Units of programs are well formed.
-use Rattle.std.specs.Prelude.{◌≡◌, true, List}
+use Rattle.std.specs.Prelude.{◌≡◌, ℕ, true, false, List, [], ◌∷◌, Some}
 use Rattle.std.specs.List.{All}
 use Rattle.syntax_tree.specs.declared.identifier.Identifier.{Identifier}
 use Rattle.typed_tree.specs.declared.units.Unit as typed
@@ -8,9 +8,17 @@ use Rattle.well_formed.specs.WellFormed.{IsWellFormed}
 use Rattle.source_tree.specs.Sources.{used}
 use Rattle.source_gathering.specs.declared.sources.Source.{Source}
 use Rattle.unit_interface.specs.declared.interfaces.Interface.{Interface}
-use Rattle.unit_interface.specs.Resolve.{overlay, is_overlay}
+use Rattle.scopes.specs.Predeclared.{first}
+use Rattle.scopes.specs.Environment.{Environment}
+use Rattle.unit_interface.specs.Merge.{with_interface}
+use Rattle.unit_interface.specs.Resolve.{overlay, is_overlay, interface_named, with_use}
+use Rattle.source_order.specs.Orders.{names_of}
+use Rattle.source_interfaces.specs.Scopes.{outer_units}
+use Rattle.closed_scopes.specs.Scopes.{IsClosedUse}
+use Rattle.sound_tables.specs.Laws.{IsFit}
 use Rattle.front_end.specs.Typed.{IsUnitOf, IsProgram}
-use Rattle.checked_units.specs.Begun.{EachUse, IsSource, IsRoomy}
+use Rattle.checked_units.specs.Begun.{EachUse, further_uses, IsSource, IsRoomy}
+use Rattle.brought_interfaces.specs.Faithful.{IsFaithful}
 
 -- The source uses no unit but OVERLAY, and hasn't its name; what the lexer gives is in it, and not too much.
 pub record IsAlone (source : Source) : Type 0 where
@@ -22,6 +30,26 @@ pub record IsAlone (source : Source) : Type 0 where
 abbrev pub UnitLaw : Type 0
 UnitLaw = (have : List Interface) (source : Source) (unit : typed.Unit) → IsUnitOf have source unit → IsAlone source → IsRoomy unit → IsWellFormed unit
 
--- So are the units of a program of such sources.
+-- What each unit that is used tells is known alike in the scope that it comes into, which stays within bounds.
+abbrev pub IsFaithfulUse : List Interface → List ℕ → Environment → List ℕ → Type 0
+IsFaithfulUse have name g word = is_overlay word ≡ false → (i : Interface) → interface_named have word ≡ Some i → IsFaithful name g i × IsFit (with_interface g i).types.types
+
+abbrev pub AreFaithful : List Interface → List ℕ → Environment → List (List ℕ) → Type 0
+AreFaithful have name g [] = Unit {0}
+AreFaithful have name g (word ∷ words) = IsFaithfulUse have name g word × AreFaithful have name (with_use have g word) words
+
+-- The interface part uses units whose interfaces are closed and faithful, the implementation part no unit but OVERLAY.
+pub record IsFaithfulSource (have : List Interface) (source : Source) : Type 0 where
+  pub closed : (word : List ℕ) → IsClosedUse have word
+  pub faithful : AreFaithful have source.name (first source.name) (names_of (outer_units source))
+  pub further : EachUse (λ (one : Identifier). is_overlay one.name ≡ true) (further_uses source.tree)
+  pub named : source.name ≡ overlay → ⊥
+  pub written : IsSource source.tree
+
+-- The typed unit of such a source, as of each program whose used units are faithful, is well formed.
+abbrev pub UsingLaw : Type 0
+UsingLaw = (have : List Interface) (source : Source) (unit : typed.Unit) → IsUnitOf have source unit → IsFaithfulSource have source → IsRoomy unit → IsWellFormed unit
+
+-- So are the units of a program of sources that use no unit but OVERLAY.
 abbrev pub ProgramLaw : Type 0
 ProgramLaw = (sources : List Source) (program : Program) → IsProgram sources program → All IsAlone sources → All IsRoomy program.units → All IsWellFormed program.units

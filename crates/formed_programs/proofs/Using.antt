@@ -1,0 +1,54 @@
+-- Sources whose interface part uses units that are told of faithfully.
+use Rattle.std.proofs.Common.{◌≡◌, ℕ, Bool, true, false, ◌&&◌, ◌||◌, cond, List, [], ◌∷◌, Option, Some, None, refl}
+use Rattle.scopes.specs.Predeclared.{first}
+use Rattle.scopes.specs.Environment.{Environment}
+use Rattle.unit_interface.specs.declared.interfaces.Interface.{Interface}
+use Rattle.unit_interface.specs.Merge.{with_interface}
+use Rattle.unit_interface.specs.Resolve.{overlay, is_overlay, interface_named, with_overlay, with_found, with_use, with_uses}
+use Rattle.unit_interface.specs.Fitting.{found_fits, use_fits, uses_fit}
+use Rattle.source_order.specs.Orders.{names_of}
+use Rattle.tp_check_decl.specs.Programs.{empty_draft}
+use Rattle.source_interfaces.specs.Scopes.{outer_units, outer_scope}
+use Rattle.closed_scopes.specs.Scopes.{IsCompleteScope, IsClosedInterface, IsClosedUse}
+use Rattle.closed_scopes.proofs.Beginning.{first_complete}
+use Rattle.closed_scopes.proofs.Using.{use_complete}
+use Rattle.sound_tables.specs.Laws.{IsFit}
+use Rattle.constant_values.specs.Laws.{StayConstants}
+use Rattle.checked_routines.specs.Reading.{scope_of}
+use Rattle.checked_units.specs.Begun.{IsBegun, further_uses}
+use Rattle.checked_units.specs.Laws.{SourceLaw, UsedLaw}
+use Rattle.checked_units.proofs.Overlay.{overlay_brings}
+use Rattle.checked_units.proofs.Uses.{bare_keeps}
+use Rattle.brought_interfaces.specs.Faithful.{IsFaithful}
+use Rattle.brought_interfaces.specs.Laws.{InterfaceLaw}
+use Rattle.formed_programs.specs.Laws.{IsFaithfulUse, AreFaithful, UsingLaw}
+
+both_true : (a b : Bool) → (a && b) ≡ true → (a ≡ true) × (b ≡ true)
+both_true true b e = (refl, e)
+both_true false b e = (let f : false ≡ true = e in cc)
+
+module _ (used : UsedLaw) (brings : InterfaceLaw) (have : List Interface) (name : List ℕ) (other : name ≡ overlay → ⊥) (closed : (word : List ℕ) → IsClosedUse have word) where
+  found_begun : (g : Environment) (found : Option Interface) → IsBegun name g → IsCompleteScope g → ((i : Interface) → found ≡ Some i → IsClosedInterface i)
+      → ((i : Interface) → found ≡ Some i → IsFaithful name g i × IsFit (with_interface g i).types.types) → found_fits g found ≡ true → IsBegun name (with_found g found)
+  found_begun g None h c k f fits = h
+  found_begun g (Some i) h c k f fits =
+      let own = f i refl in
+      (used name).begun g (with_interface g i) h (brings name g i (scope_of (empty_draft g) []) h.known h.table c h.named (k i refl) fits own.0 own.1)
+
+  use_begun : (g : Environment) (word : List ℕ) → IsBegun name g → IsCompleteScope g → IsFaithfulUse have name g word → use_fits have g word ≡ true → IsBegun name (with_use have g word)
+  use_begun g word h c f fits = by (is_overlay word) refl fits
+    where
+      by : (b : Bool) → is_overlay word ≡ b → (b || found_fits g (interface_named have word)) ≡ true → IsBegun name (cond b (with_overlay g) (with_found g (interface_named have word)))
+      by true is e = (used name).begun g (with_overlay g) h (overlay_brings name g (scope_of (empty_draft g) []) h.known h.named other h.table)
+      by false is e = found_begun g (interface_named have word) h c (closed word is) (f is) e
+
+  uses_begun : (g : Environment) (words : List (List ℕ)) → IsBegun name g → IsCompleteScope g → AreFaithful have name g words → uses_fit have g words ≡ true → IsBegun name (with_uses have g words)
+  uses_begun g [] h c f fits = h
+  uses_begun g (word ∷ words) h c f fits =
+      let both = both_true (use_fits have g word) (uses_fit have (with_use have g word) words) fits in
+      uses_begun (with_use have g word) words (use_begun g word h c f.0 both.0) (use_complete have g word c (closed word) both.0) f.1 both.1
+
+pub using_formed : StayConstants → SourceLaw → UsedLaw → InterfaceLaw → UsingLaw
+using_formed stay law used brings have source unit h s room =
+    let begun = uses_begun used brings have source.name s.named s.closed (first source.name) (names_of (outer_units source)) (used source.name).alone (first_complete source.name) s.faithful h.fits in
+    law source.name source.says (outer_scope have source) have source.tree unit (bare_keeps stay source.name s.named have (further_uses source.tree) s.further) begun s.written room h.typed
