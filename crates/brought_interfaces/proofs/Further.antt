@@ -1,25 +1,23 @@
 -- A used unit that comes into the scope behind an interface part keeps what is known.
-use Rattle.std.proofs.Common.{◌≡◌, ℕ, Bool, true, false, cond, List, [], Option, Some, sym, subst, ap, ◌∙◌}
+use Rattle.std.proofs.Common.{◌≡◌, Bool, true, cond, [], Option, sym, subst, ap, ◌∙◌}
 use Rattle.std.specs.Prelude.{◌||◌}
-use Rattle.syntax_tree.specs.declared.identifier.Identifier.{Identifier}
 use Rattle.scopes.specs.Environment.{Environment}
 use Rattle.unit_interface.specs.declared.interfaces.Interface.{Interface}
 use Rattle.unit_interface.specs.Merge.{with_interface}
 use Rattle.unit_interface.specs.Fitting.{types_fit, found_fits}
-use Rattle.unit_interface.specs.Resolve.{is_overlay, interface_named, with_found, with_overlay, with_use}
-use Rattle.closed_scopes.specs.Scopes.{AreClosed, IsCompleteScope, IsClosedInterface}
+use Rattle.unit_interface.specs.Resolve.{interface_named, with_found, with_overlay, with_use}
+use Rattle.closed_scopes.specs.Scopes.{AreClosed, IsCompleteScope}
 use Rattle.constant_values.specs.Laws.{StayConstants}
 use Rattle.sound_tables.specs.Laws.{IsFit}
-use Rattle.routines.specs.Drafts.{Drafted, knowing}
-use Rattle.checked_routines.specs.Reading.{scope_of, IsRead}
+use Rattle.routines.specs.Drafts.{knowing}
+use Rattle.checked_routines.specs.Reading.{scope_of}
 use Rattle.checked_parts.proofs.Closed.{known_closed}
-use Rattle.checked_units.specs.Begun.{IsJoined, UseKeeps}
+use Rattle.checked_units.specs.Begun.{IsJoined}
 use Rattle.checked_units.proofs.Bringing.{brought_draft}
-use Rattle.brought_interfaces.specs.Faithful.{IsFaithful}
+use Rattle.brought_interfaces.specs.Laws.{FurtherLaw}
 use Rattle.brought_interfaces.proofs.Brought.{interface_brings}
 
-pub further_keeps : AreClosed → StayConstants → (name : List ℕ) (have : List Interface) (one : Identifier) (i : Interface) → is_overlay one.name ≡ false → interface_named have one.name ≡ Some i → IsClosedInterface i
-    → ((d : Drafted) → IsRead d [] → IsFaithful name d.scope i) → UseKeeps name have one
+pub further_keeps : AreClosed → StayConstants → FurtherLaw
 further_keeps closing stay name have one i other found shown faithful d h r named k room =
     let g : Environment = d.scope in
     let used : with_use have g one.name ≡ with_interface g i =

@@ -1,14 +1,18 @@
 -- Used units bring what is there.
-use Rattle.std.specs.Prelude.{◌≡◌, ℕ, true, List, Some, slice_get}
+use Rattle.std.specs.Prelude.{◌≡◌, ℕ, true, false, List, [], Some, slice_get}
 use Rattle.well_formed.specs.Scopes.{Scope}
+use Rattle.syntax_tree.specs.declared.identifier.Identifier.{Identifier}
 use Rattle.scopes.specs.Environment.{Environment}
 use Rattle.unit_interface.specs.declared.interfaces.Interface.{Interface}
 use Rattle.unit_interface.specs.Merge.{with_interface}
 use Rattle.unit_interface.specs.Fitting.{types_fit}
+use Rattle.unit_interface.specs.Resolve.{is_overlay, interface_named}
 use Rattle.closed_scopes.specs.Scopes.{IsCompleteScope, IsClosedInterface}
 use Rattle.sound_tables.specs.Laws.{IsFit}
 use Rattle.known_names.specs.Known.{AreKnown}
-use Rattle.checked_routines.specs.Reading.{IsTabled}
+use Rattle.routines.specs.Drafts.{Drafted}
+use Rattle.checked_routines.specs.Reading.{IsTabled, IsRead}
+use Rattle.checked_units.specs.Begun.{UseKeeps}
 use Rattle.checked_units.specs.Bringing.{Brings}
 use Rattle.brought_interfaces.specs.Faithful.{IsFaithful}
 
@@ -16,3 +20,8 @@ use Rattle.brought_interfaces.specs.Faithful.{IsFaithful}
 abbrev pub InterfaceLaw : Type 0
 InterfaceLaw = (name : List ℕ) (g : Environment) (i : Interface) (s : Scope) → AreKnown g s → IsTabled g.types → IsCompleteScope g → slice_get g.units 0 ≡ Some name
     → IsClosedInterface i → types_fit g.types i.types ≡ true → IsFaithful name g i → IsFit (with_interface g i).types.types → Brings name g (with_interface g i) s
+
+-- Behind an interface part it keeps what is known, where it is faithful to what is known there.
+abbrev pub FurtherLaw : Type 0
+FurtherLaw = (name : List ℕ) (have : List Interface) (one : Identifier) (i : Interface) → is_overlay one.name ≡ false → interface_named have one.name ≡ Some i → IsClosedInterface i
+    → ((d : Drafted) → IsRead d [] → IsFaithful name d.scope i) → UseKeeps name have one

@@ -1,12 +1,21 @@
-//! The law on what used units bring into a scope.
+//! The laws on what used units bring into a scope.
 
-ghost use Rattle.brought_interfaces.specs.Laws.{InterfaceLaw};
+ghost use Rattle.brought_interfaces.specs.Laws.{InterfaceLaw, FurtherLaw};
 
 use closed_scopes::scope_laws;
+use constant_values::constant_value_law;
 
 /// A used unit whose types fit those of a scope, and which tells of them what the scope knows, brings into the scope what is there.
 pub fn interface_law()
     ensures { InterfaceLaw }
 {
     scope_laws();
+}
+
+/// So it keeps what is known where it comes into the scope behind an interface part.
+pub fn further_use_law()
+    ensures { FurtherLaw }
+{
+    scope_laws();
+    constant_value_law();
 }

@@ -1,6 +1,6 @@
-//! The law on what used units bring into a scope.
+//! The laws on what used units bring into a scope.
 #![tactic(auto)]
 
 mod laws;
 
-pub use laws::interface_law;
+pub use laws::{further_use_law, interface_law};
