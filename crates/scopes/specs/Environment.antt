@@ -121,6 +121,15 @@ abbrev pub kind_of : Environment → ℕ → Option BlockKind
 kind_of environment block =
     cond (nat_lt block (first_open environment)) None (kind_in environment.blocks (block - first_open environment))
 
+abbrev pub entry_in : Option OpenBlock → List ℕ → Option Entry
+entry_in None name = None
+entry_in (Some block) name = entry_of block.symbols name
+
+-- what an open block itself declares under a name
+abbrev pub found_in : Environment → ℕ → List ℕ → Option Entry
+found_in environment block name =
+    cond (nat_lt block (first_open environment)) None (entry_in (slice_get environment.blocks (block - first_open environment)) name)
+
 -- what a scope keeps: its numbers of blocks and units have 32 bits, and its types were added one by one
 pub record IsKept (environment : Environment) : Type 0 where
   pub few_blocks : block_count environment < 2 ^ 32

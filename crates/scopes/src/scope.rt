@@ -4,7 +4,7 @@ ghost use Rattle.std.specs.Prelude.{◌≡◌, ◌↔◌, ◌<◌, ℕ, IsTrue, 
 ghost use Rattle.type_layout.specs.Words.{same_bytes};
 ghost use Rattle.type_layout.specs.Table.{IsAddable, place_of, with_unit, with_type};
 ghost use Rattle.type_layout.specs.Layouts.{size_over};
-ghost use Rattle.scopes.specs.Environment.{shown, find, has_innermost, with_used, with_name, with_block, without_block, block_count, kind_of, own_symbols};
+ghost use Rattle.scopes.specs.Environment.{shown, find, has_innermost, with_used, with_name, with_block, without_block, block_count, kind_of, own_symbols, found_in};
 ghost use Rattle.scopes.specs.Predeclared.{first};
 
 use crate::copies::{Tables, copied_blocks, copied_names, copied_tables, copied_types};
@@ -254,6 +254,20 @@ impl Scope {
         }
         match self.blocks.as_slice().get(block as usize - first) {
             Some(open) => Some(&open.kind),
+            None => None,
+        }
+    }
+
+    /// What an open block itself declares under a name: no members, and nothing of the blocks round it.
+    pub fn find_in(&self, block: u32, name: &Name) -> Option<&Entry>
+        ensures { option_copied result ≡ found_in self.now block name.now }
+    {
+        let first = self.used.len() + 1;
+        if (block as usize) < first {
+            return None;
+        }
+        match self.blocks.as_slice().get(block as usize - first) {
+            Some(open) => open.symbols.find(name),
             None => None,
         }
     }
