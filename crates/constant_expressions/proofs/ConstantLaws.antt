@@ -211,25 +211,25 @@ lawful_size_by types place (CallThrough ty through args) = lawful_refuses _
 lawful_size_by types place (Std ty n args) = lawful_refuses _
 lawful_size_by types place (Make ty routine args) = lawful_refuses _
 
-lawful_selected_from : (types : List TypeDef) (place here : Place) (e : Expression) (word : List ℕ) → Lawful (selected_from types place here e word)
-lawful_selected_from types place here e word =
+lawful_selected_from : (types : List TypeDef) (here : Place) (e : Expression) (word : List ℕ) → Lawful (selected_from types here e word)
+lawful_selected_from types here e word =
     lawful_either (is_method_of types e word) (refuses (not_yet place)) (selected types here e word) (lawful_refuses _) (lawful_selected types here e word)
 
-lawful_owner_entry : (types : List TypeDef) (place at : Place) (one : Entry) → Lawful (owner_entry types place at one)
-lawful_owner_entry types place at (entry.Const ty v) = lawful_makes _
-lawful_owner_entry types place at (entry.Var unit level n ty) = lawful_makes _
-lawful_owner_entry types place at (entry.Ty ty) = lawful_refuses _
-lawful_owner_entry types place at (entry.Code routine level header far) = lawful_refuses _
-lawful_owner_entry types place at (entry.Std n) = lawful_refuses _
+lawful_owner_entry : (types : List TypeDef) (at : Place) (one : Entry) → Lawful (owner_entry types at one)
+lawful_owner_entry types at (entry.Const ty v) = lawful_makes _
+lawful_owner_entry types at (entry.Var unit level n ty) = lawful_makes _
+lawful_owner_entry types at (entry.Ty ty) = lawful_refuses _
+lawful_owner_entry types at (entry.Code routine level header far) = lawful_refuses _
+lawful_owner_entry types at (entry.Std n) = lawful_refuses _
 
-lawful_owner_meaning : (types : List TypeDef) (place at : Place) (word : List ℕ) (feature : Option Feature) (one : Option Meaning) → Lawful (owner_meaning types place at word feature one)
-lawful_owner_meaning types place at word feature None = lawful_refuses _
-lawful_owner_meaning types place at word feature (Some (named n one)) = lawful_owner_entry types place at one
-lawful_owner_meaning types place at word feature (Some (member n one)) = lawful_selected_from types place at (instance one.class) word
+lawful_owner_meaning : (types : List TypeDef) (at : Place) (word : List ℕ) (feature : Option Feature) (one : Option Meaning) → Lawful (owner_meaning types at word feature one)
+lawful_owner_meaning types at word feature None = lawful_refuses _
+lawful_owner_meaning types at word feature (Some (named n one)) = lawful_owner_entry types at one
+lawful_owner_meaning types at word feature (Some (member n one)) = lawful_selected_from types at (instance one.class) word
 
-lawful_owner : (g : Environment) (place at : Place) (word : List ℕ) → Lawful (owner_name g place at word)
+lawful_owner : (g : Environment) (at : Place) (word : List ℕ) → Lawful (owner_name g at word)
 unfolding owner_name
-lawful_owner g place at word = lawful_owner_meaning g.types.types place at word (feature_of word) (find g word)
+lawful_owner g at word = lawful_owner_meaning g.types.types at word (feature_of word) (find g word)
 
 lawful_sized_entry : (types : List TypeDef) (place : Place) (one : Entry) → Lawful (sized_entry types place one)
 lawful_sized_entry types place (entry.Const ty v) = lawful_refuses _
@@ -242,7 +242,7 @@ lawful_sized_meaning : (types : List TypeDef) (place at : Place) (word : List �
 lawful_sized_meaning types place at word feature None = lawful_refuses _
 lawful_sized_meaning types place at word feature (Some (named n one)) = lawful_sized_entry types place one
 lawful_sized_meaning types place at word feature (Some (member n one)) =
-    lawful_part (selected_from types place at (instance one.class) word) (λ e. size_by types place e) (lawful_selected_from types place at (instance one.class) word) (λ e. lawful_size_by types place e)
+    lawful_part (selected_from types at (instance one.class) word) (λ e. size_by types place e) (lawful_selected_from types at (instance one.class) word) (λ e. lawful_size_by types place e)
 
 lawful_sized_name : (g : Environment) (place at : Place) (word : List ℕ) → Lawful (sized_name g place at word)
 unfolding sized_name
@@ -339,8 +339,8 @@ mutual
   lawful_meant g place (signed mark a) = lawful_refuses _
   lawful_meant g place (negated at a) = lawful_refuses _
   lawful_meant g place (combined at op a b) = lawful_refuses _
-  lawful_meant g place (name here word) = lawful_owner g place here.place word
-  lawful_meant g place (field here a word) = lawful_part (meant g place a) _ (lawful_meant g place a) (λ x. lawful_selected_from g.types.types place here.place x word)
+  lawful_meant g place (name here word) = lawful_owner g here.place word
+  lawful_meant g place (field here a word) = lawful_part (meant g place a) _ (lawful_meant g place a) (λ x. lawful_selected_from g.types.types here.place x word)
   lawful_meant g place (index here a i) =
       lawful_parts (meant g place a) (judged g i) _ (lawful_meant g place a) (lawful g i) (λ x c. lawful_indexed g.types.types here.place false x (operand c))
   lawful_meant g place (followed at a) = lawful_part (meant g place a) _ (lawful_meant g place a) (λ x. lawful_followed g.types.types at x)

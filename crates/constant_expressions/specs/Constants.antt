@@ -82,8 +82,8 @@ abbrev mutual
   -- What a designator means in the parentheses of SizeOf, in a call at a place: a variable, whatever is in it, or a constant. An index
   -- is a constant.
   pub meant : Environment → Place → Tree → Judgement Expression
-  meant g place (name here word) = owner_name g place here.place word
-  meant g place (field here a word) = part (meant g place a) (λ x. selected_from g.types.types place here.place x word)
+  meant g place (name here word) = owner_name g here.place word
+  meant g place (field here a word) = part (meant g place a) (λ x. selected_from g.types.types here.place x word)
   meant g place (index here a i) = parts (meant g place a) (judged g i) (λ x c. selector.indexed g.types.types here.place false x (operand c))
   meant g place (followed at a) = part (meant g place a) (λ x. selector.followed g.types.types at x)
   meant g place _ = refuses (broken place rules.Called)

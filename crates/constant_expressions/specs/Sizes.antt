@@ -14,7 +14,7 @@ use Rattle.scopes.specs.declared.members.Member.{Member}
 use Rattle.scopes.specs.Members.{member_of}
 use Rattle.scopes.specs.Environment.{Environment, Meaning, named, member, find}
 use Rattle.typing_rules.specs.declared.faults.Rule.TheVariants as rules
-use Rattle.typing_rules.specs.Faults.{broken, not_yet, undeclared}
+use Rattle.typing_rules.specs.Faults.{broken, undeclared}
 use Rattle.typing_rules.specs.Judgements.{Judgement, makes, refuses, either, part}
 use Rattle.typing_rules.specs.Selectors.{selected}
 use Rattle.typing_rules.specs.Sorts as sorts
@@ -51,7 +51,7 @@ abbrev pub size_by : List TypeDef → Place → Expression → Judgement Constan
 size_by types place (Load ty at) = size_held types place ty
 size_by types place e = refuses (broken place rules.Called)
 
--- ---- what a designator means, in the parentheses of a call at a place
+-- ---- what a designator means
 
 -- a variable of a type, wherever it lies: nothing but its type is looked at
 abbrev pub instance : TypeId → Expression
@@ -69,24 +69,24 @@ abbrev pub is_method_of : List TypeDef → Expression → List ℕ → Bool
 is_method_of types (Load ty at) word = is_method (member_of types (Some ty) word)
 is_method_of types e word = false
 
--- A field, which is selected here. A method is called, which is not built in constants.
-abbrev pub selected_from : List TypeDef → Place → Place → Expression → List ℕ → Judgement Expression
-selected_from types place here e word = either (is_method_of types e word) (refuses (not_yet place)) (selected types here e word)
+-- A field, which is selected here. A method is called, and constants call nothing but the functions that they are made with.
+abbrev pub selected_from : List TypeDef → Place → Expression → List ℕ → Judgement Expression
+selected_from types here e word = either (is_method_of types e word) (refuses (broken here rules.Constant)) (selected types here e word)
 
--- What a name is before a selector. Nothing is selected from a type, and what routines give is not built in constants.
-abbrev pub owner_entry : List TypeDef → Place → Place → Entry → Judgement Expression
-owner_entry types place at (entry.Const ty v) = makes (operand (of_value types ty v))
-owner_entry types place at (entry.Var unit level number ty) = makes (instance ty)
-owner_entry types place at (entry.Ty ty) = refuses (broken at rules.Stands)
-owner_entry types place at _ = refuses (not_yet place)
+-- What a name is before a selector. Nothing is selected from a type, and no constant calls a routine for what its result leads to.
+abbrev pub owner_entry : List TypeDef → Place → Entry → Judgement Expression
+owner_entry types at (entry.Const ty v) = makes (operand (of_value types ty v))
+owner_entry types at (entry.Var unit level number ty) = makes (instance ty)
+owner_entry types at (entry.Ty ty) = refuses (broken at rules.Stands)
+owner_entry types at _ = refuses (broken at rules.Constant)
 
-abbrev pub owner_meaning : List TypeDef → Place → Place → List ℕ → Option Feature → Option Meaning → Judgement Expression
-owner_meaning types place at word feature None = refuses (undeclared at feature)
-owner_meaning types place at word feature (Some (named number one)) = owner_entry types place at one
-owner_meaning types place at word feature (Some (member number one)) = selected_from types place at (instance one.class) word
+abbrev pub owner_meaning : List TypeDef → Place → List ℕ → Option Feature → Option Meaning → Judgement Expression
+owner_meaning types at word feature None = refuses (undeclared at feature)
+owner_meaning types at word feature (Some (named number one)) = owner_entry types at one
+owner_meaning types at word feature (Some (member number one)) = selected_from types at (instance one.class) word
 
-unfoldable pub owner_name : Environment → Place → Place → List ℕ → Judgement Expression
-owner_name g place at word = owner_meaning g.types.types place at word (feature_of word) (find g word)
+unfoldable pub owner_name : Environment → Place → List ℕ → Judgement Expression
+owner_name g at word = owner_meaning g.types.types at word (feature_of word) (find g word)
 
 -- ---- a name alone
 
@@ -100,7 +100,7 @@ abbrev pub sized_meaning : List TypeDef → Place → Place → List ℕ → Opt
 sized_meaning types place at word feature None = refuses (undeclared at feature)
 sized_meaning types place at word feature (Some (named number one)) = sized_entry types place one
 sized_meaning types place at word feature (Some (member number one)) =
-    part (selected_from types place at (instance one.class) word) (λ e. size_by types place e)
+    part (selected_from types at (instance one.class) word) (λ e. size_by types place e)
 
 unfoldable pub sized_name : Environment → Place → Place → List ℕ → Judgement Constant
 sized_name g place at word = sized_meaning g.types.types place at word (feature_of word) (find g word)

@@ -264,21 +264,14 @@ fn meant(alloc: Global, tree: &Designator, place: Place, scope: &Scope) -> Resul
     ensures { Gives view_expr result (meant scope.now place (view_designator tree.now)).run }
 {
     match tree {
-        Designator::Name(one) => owner_name(alloc, scope, place, one.position.place, &one.name),
+        Designator::Name(one) => owner_name(alloc, scope, one.position.place, &one.name),
         Designator::Field {
             owner,
             position,
             field,
         } => {
             let owner = meant(alloc, owner, place, scope)?;
-            selected_from(
-                alloc,
-                scope.types(),
-                place,
-                position.place,
-                owner,
-                &field.name,
-            )
+            selected_from(alloc, scope.types(), position.place, owner, &field.name)
         }
         Designator::Index {
             owner,

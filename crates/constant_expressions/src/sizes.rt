@@ -16,7 +16,7 @@ use std::alloc::Global;
 use syntax_tree::Designator;
 use type_layout::{Name, Place, TypeId, Types};
 use typed_tree::{Expr, PlaceExpr, Value, Variable};
-use typing_rules::{Refusal, Rule, broken, loaded, not_yet, selected, undeclared};
+use typing_rules::{Refusal, Rule, broken, loaded, selected, undeclared};
 
 #[tactic(auto, unfolding(crate::specs::Sizes::means_size))]
 fn means_size(scope: &Scope, name: &Name) -> bool
@@ -109,58 +109,52 @@ fn is_method_of(types: &Types, owner: &Expr, name: &Name) -> bool
     }
 }
 
-/// A field that is selected at a place, in the parentheses of a call at another.
+/// A field that is selected at a place.
 pub(crate) fn selected_from(
     alloc: Global,
     types: &Types,
-    place: Place,
     here: Place,
     owner: Expr,
     name: &Name,
 ) -> Result<Expr, Refusal>
-    ensures { Gives view_expr result (selected_from types.now.types place here (view_expr owner) name.now).run }
+    ensures { Gives view_expr result (selected_from types.now.types here (view_expr owner) name.now).run }
 {
     if is_method_of(types, &owner, name) {
-        Err(Refusal::Because(not_yet(place)))
+        Err(Refusal::Because(broken(here, Rule::Constant)))
     } else {
         selected(alloc, types, here, owner, name)
     }
 }
 
-fn owner_entry(
-    alloc: Global,
-    types: &Types,
-    place: Place,
-    at: Place,
-    entry: &Entry,
-) -> Result<Expr, Refusal>
-    ensures { Gives view_expr result (owner_entry types.now.types place at entry.now).run }
+fn owner_entry(alloc: Global, types: &Types, at: Place, entry: &Entry) -> Result<Expr, Refusal>
+    ensures { Gives view_expr result (owner_entry types.now.types at entry.now).run }
 {
     match entry {
         Entry::Const { ty, value } => Ok(operand(of_value(alloc, types, *ty, value)?)),
         Entry::Var { ty, .. } => instance(alloc, *ty),
         Entry::Ty { .. } => Err(Refusal::Because(broken(at, Rule::Stands))),
-        Entry::Code { .. } | Entry::Std { .. } => Err(Refusal::Because(not_yet(place))),
+        Entry::Code { .. } | Entry::Std { .. } => {
+            Err(Refusal::Because(broken(at, Rule::Constant)))
+        }
     }
 }
 
-/// What a name before a selector means, in the parentheses of a call at a place.
+/// What a name before a selector means.
 #[tactic(auto, unfolding(crate::specs::Sizes::owner_name))]
 pub(crate) fn owner_name(
     alloc: Global,
     scope: &Scope,
-    place: Place,
     at: Place,
     name: &Name,
 ) -> Result<Expr, Refusal>
-    ensures { Gives view_expr result (owner_name scope.now place at name.now).run }
+    ensures { Gives view_expr result (owner_name scope.now at name.now).run }
 {
     match scope.find(name) {
         None => Err(Refusal::Because(undeclared(at, feature_of(name)))),
-        Some(Found::Named { entry, .. }) => owner_entry(alloc, scope.types(), place, at, entry),
+        Some(Found::Named { entry, .. }) => owner_entry(alloc, scope.types(), at, entry),
         Some(Found::Member { class, .. }) => {
             let owner = instance(alloc, class)?;
-            selected_from(alloc, scope.types(), place, at, owner, name)
+            selected_from(alloc, scope.types(), at, owner, name)
         }
     }
 }
@@ -193,7 +187,7 @@ pub(crate) fn sized_name(
         Some(Found::Named { entry, .. }) => sized_entry(scope.types(), place, entry),
         Some(Found::Member { class, .. }) => {
             let owner = instance(alloc, class)?;
-            let field = selected_from(alloc, scope.types(), place, at, owner, name)?;
+            let field = selected_from(alloc, scope.types(), at, owner, name)?;
             size_by(scope.types(), place, &field)
         }
     }

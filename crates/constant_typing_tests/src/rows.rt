@@ -176,7 +176,8 @@ const SELECTED_SIZES: &[Row] = &[
     ("SizeOf(q.x)", Refused(1, 8)),
     ("SizeOf(a[q])", Refused(1, 10)),
     ("SizeOf(colour.x)", Refused(20, 8)),
-    ("SizeOf(fi^)", Refused(0, 1)),
+    ("SizeOf(fi^)", Refused(3, 8)),
+    ("SizeOf(ord^)", Refused(3, 8)),
 ];
 
 // Inside a `with` over a record.
