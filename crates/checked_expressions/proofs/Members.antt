@@ -1,5 +1,5 @@
 -- Members of objects and records, and names, are typed.
-use Rattle.std.proofs.Common.{◌≡◌, inl, ℕ, ◌==◌, Bool, true, false, cond, List, [], Option, Some, None, refl, subst, ap}
+use Rattle.std.proofs.Common.{◌≡◌, inl, ℕ, Bool, true, false, cond, List, [], Option, Some, None, refl, subst}
 use Rattle.type_layout.specs.declared.definitions.TypeId.{TypeId}
 use Rattle.type_layout.specs.declared.definitions.TypeDef.{TypeDef}
 use Rattle.type_layout.specs.declared.texts.Place.{Place}
@@ -9,10 +9,11 @@ use Rattle.left_out_names.specs.Names.{feature_of}
 use Rattle.typed_tree.specs.Expressions.{Expression, Load, Var}
 use Rattle.well_formed.specs.Scopes.{Scope}
 use Rattle.well_formed.specs.Typed.{IsTyped, HasPlace}
+use Rattle.scopes.specs.declared.entries.Entry.{Entry}
 use Rattle.scopes.specs.declared.entries.Entry.TheVariants as entry
 use Rattle.scopes.specs.declared.entries.BlockKind.{BlockKind}
 use Rattle.scopes.specs.declared.entries.BlockKind.TheVariants as block
-use Rattle.scopes.specs.Environment.{Environment, Meaning, named, member, find, kind_of}
+use Rattle.scopes.specs.Environment.{Environment, Meaning, named, member, find, kind_of, found_in, block_count}
 use Rattle.typing_rules.specs.Judgements.{Through}
 use Rattle.typing_rules.specs.Selectors.{selected}
 use Rattle.method_rules.specs.Methods.{Bound, bound}
@@ -21,7 +22,7 @@ use Rattle.allocation_rules.specs.Allocations.{made}
 use Rattle.tp_check_expr.specs.declared.names.Purpose.{Purpose}
 use Rattle.tp_check_expr.specs.declared.names.Purpose.TheVariants as purpose
 use Rattle.tp_check_expr.specs.Names.{variable, as_wanted}
-use Rattle.tp_check_expr.specs.Owners.{held, Instance, self_meant, self_word, self_of, own_in, owner_in, inherited_in, inherited_on, inherited_by, inherited_from}
+use Rattle.tp_check_expr.specs.Owners.{held, Instance, self_meant, self_word, self_in, method_before, self_at, self_of, self_loaded, owner_in, inherited_on, inherited_from}
 use Rattle.tp_check_expr.specs.Calls.{is_method_of, method_wanted, chosen, opened, meant, constructor_named, name_for, name_judged}
 use Rattle.typed_nodes.specs.Laws.{IsOperand}
 use Rattle.typed_nodes.proofs.Selected.{selected_typed}
@@ -29,7 +30,7 @@ use Rattle.typed_methods.specs.Declared.{IsBound}
 use Rattle.typed_methods.proofs.Bound.{bound_typed, inherited_typed}
 use Rattle.typed_methods.proofs.Calls.{called_typed}
 use Rattle.typed_allocations.proofs.Makers.{constructor_found, made_typed}
-use Rattle.checked_expressions.specs.Agreeing.{Agrees}
+use Rattle.checked_expressions.specs.Agreeing.{IsKnown, Agrees}
 use Rattle.checked_expressions.proofs.Names.{at, wanted_typed, entered_typed}
 
 module _ (g : Environment) (s : Scope) (a : Agrees g s) where
@@ -55,29 +56,29 @@ module _ (g : Environment) (s : Scope) (a : Agrees g s) where
 
   -- ---- what has members that are known by their names
 
-  self_typed : (m : Option Meaning) → find g self_word ≡ m → (own : Instance) → self_meant g m ≡ Some own → HasPlace s own.at own.class × IsTyped s (Load own.class own.at)
-  self_typed (Some (named number (entry.Var unit level n ty))) is own e =
-      let known = a.known self_word number (entry.Var unit level n ty) is in
-      let same : (let it : Instance = record { block = number; class = ty; at = Var (variable g unit level n) } in it) ≡ own = cc in
-      subst (λ (o : Instance). HasPlace s o.at o.class × IsTyped s (Load o.class o.at)) same (known, (known.0, known))
-  self_typed m is own e = let bad : ⊥ = cc in absurd bad
+  self_known : (o : Option Entry) → ((one : Entry) → o ≡ Some one → IsKnown g s one) → (own : Instance) → self_meant g o ≡ Some own → HasPlace s own.at own.class × IsTyped s (Load own.class own.at)
+  self_known (Some (entry.Var unit level n ty)) known own e =
+      let is = known (entry.Var unit level n ty) refl in
+      let same : (let it : Instance = record { class = ty; at = Var (variable g unit level n) } in it) ≡ own = cc in
+      subst (λ (o : Instance). HasPlace s o.at o.class × IsTyped s (Load o.class o.at)) same (is, (is.0, is))
+  self_known o known own e = let bad : ⊥ = cc in absurd bad
 
-  own_typed : (number : ℕ) (own : Instance) (owner : Expression) → IsTyped s (Load own.class own.at) → (b : Bool) → cond b (Some (Load own.class own.at)) None ≡ Some owner → IsOperand s owner
-  own_typed number own owner typed true e =
+  -- Self of a block
+  self_typed : (number : ℕ) (own : Instance) → self_in g number ≡ Some own → HasPlace s own.at own.class × IsTyped s (Load own.class own.at)
+  self_typed number own e = self_known (found_in g number self_word) (λ one k. a.inside number self_word one k) own e
+
+  loaded_typed : (o : Option Instance) → ((own : Instance) → o ≡ Some own → IsTyped s (Load own.class own.at)) → (owner : Expression) → self_loaded o ≡ Some owner → IsOperand s owner
+  loaded_typed None typed owner e = let bad : ⊥ = cc in absurd bad
+  loaded_typed (Some own) typed owner e =
       let same : Load own.class own.at ≡ owner = cc in
-      subst (λ (x : Expression). IsOperand s x) same (inl typed)
-  own_typed number own owner typed false e = let bad : ⊥ = cc in absurd bad
-
-  self_owner : (number : ℕ) (o : Option Instance) → self_meant g (find g self_word) ≡ o → (owner : Expression) → own_in number o ≡ Some owner → IsOperand s owner
-  self_owner number None is owner e = let bad : ⊥ = cc in absurd bad
-  self_owner number (Some own) is owner e = own_typed number own owner (self_typed (find g self_word) refl own is).1 (own.block == number) e
+      subst (λ (x : Expression). IsOperand s x) same (inl (typed own refl))
 
   pub owner_typed : (number : ℕ) (k : Option BlockKind) → kind_of g number ≡ k → (owner : Expression) → owner_in g number k ≡ Some owner → IsOperand s owner
   owner_typed number (Some (block.With ty)) is owner e =
       let place = a.held number ty is in
       let same : Load ty (held g number) ≡ owner = cc in
       subst (λ (x : Expression). IsOperand s x) same (inl (place.0, place))
-  owner_typed number (Some (block.Routine own (Some class))) is owner e = self_owner number (self_of g) refl owner e
+  owner_typed number (Some (block.Routine own (Some class))) is owner e = loaded_typed (self_in g number) (λ one k. (self_typed number one k).1) owner e
   owner_typed number k is owner e = let bad : ⊥ = cc in absurd bad
 
   opened_typed : (here : Position) (for : Purpose) (o : Option Expression) (word : List ℕ) (e : Expression) → ((owner : Expression) → o ≡ Some owner → IsOperand s owner)
@@ -108,18 +109,14 @@ module _ (g : Environment) (s : Scope) (a : Agrees g s) where
 
   -- ---- methods of ancestors
 
-  ancestor_in : (place : Place) (one : _) (word : List ℕ) (own : Instance) (k : Option BlockKind) (b : Bound) → HasPlace s own.at own.class
-      → (inherited_in g place one word own k).holds b → IsBound s b
-  ancestor_in place one word own (Some (block.Routine number (Some class))) b there h = inherited_typed g s a.has a.sound one.place place own.class own.at one.ty word b there h
-  ancestor_in place one word own k b there h = absurd h
+  method_self : (o : Option ℕ) (own : Instance) → self_at g o ≡ Some own → HasPlace s own.at own.class
+  method_self None own e = let bad : ⊥ = cc in absurd bad
+  method_self (Some number) own e = (self_typed number own e).0
 
-  ancestor_on : (place : Place) (one : _) (word : List ℕ) (o : Option Instance) → self_meant g (find g self_word) ≡ o → (b : Bound) → (inherited_on g place one word o).holds b → IsBound s b
-  ancestor_on place one word None is b h = absurd h
-  ancestor_on place one word (Some own) is b h = ancestor_in place one word own (kind_of g own.block) b (self_typed (find g self_word) refl own is).0 h
-
-  ancestor_by : (place : Place) (one : _) (word : List ℕ) (m : Option Meaning) → find g self_word ≡ m → (b : Bound) → (inherited_by g place one word m).holds b → IsBound s b
-  ancestor_by place one word None is b h = absurd h
-  ancestor_by place one word (Some meaning) is b h = ancestor_on place one word (self_meant g (Some meaning)) (ap (λ (m : Option Meaning). self_meant g m) is) b h
+  ancestor_on : (place : Place) (one : _) (word : List ℕ) (o : Option Instance) → ((own : Instance) → o ≡ Some own → HasPlace s own.at own.class) → (b : Bound)
+      → (inherited_on g place one word o).holds b → IsBound s b
+  ancestor_on place one word None there b h = absurd h
+  ancestor_on place one word (Some own) there b h = inherited_typed g s a.has a.sound one.place place own.class own.at one.ty word b (there own refl) h
 
   pub ancestor_bound : (place : Place) (one : _) (word : List ℕ) (b : Bound) → (inherited_from g place one word).holds b → IsBound s b
-  ancestor_bound place one word b h = ancestor_by place one word (find g self_word) refl b h
+  ancestor_bound place one word b h = ancestor_on place one word (self_of g) (λ own k. method_self (method_before g (block_count g)) own k) b h

@@ -7,7 +7,7 @@ use Rattle.well_formed.specs.Typed.{HasPlace}
 use Rattle.scopes.specs.declared.entries.Entry.{Entry}
 use Rattle.scopes.specs.declared.entries.Entry.TheVariants as entry
 use Rattle.scopes.specs.declared.entries.BlockKind.TheVariants as block
-use Rattle.scopes.specs.Environment.{Environment, named, find, kind_of}
+use Rattle.scopes.specs.Environment.{Environment, named, find, kind_of, found_in}
 use Rattle.tp_check_expr.specs.Names.{variable}
 use Rattle.tp_check_expr.specs.Owners.{held}
 use Rattle.typed_nodes.specs.Tables.{IsInTable, IsHeaderIn, IsSound}
@@ -24,9 +24,11 @@ IsKnown g s (entry.Var unit level number ty) = HasVariable s (variable g unit le
 IsKnown g s (entry.Code routine level header far) = IsDeclared s routine header × IsHeaderIn s.types header × MayBeValue s routine level header far
 IsKnown g s (entry.Std number) = Unit {0}
 
--- The types are the same and sound, methods are routines, each name means what is there, and what an open `with` holds is a place.
+-- The types are the same and sound, methods are routines, each name means what is there, also where a block inside hides it, and what
+-- an open `with` holds is a place.
 pub record Agrees (g : Environment) (s : Scope) : Type 0 where
   pub has : HasMethods g s
   pub sound : IsSound s.types
   pub known : (name : List ℕ) (number : ℕ) (one : Entry) → find g name ≡ Some (named number one) → IsKnown g s one
+  pub inside : (number : ℕ) (name : List ℕ) (one : Entry) → found_in g number name ≡ Some one → IsKnown g s one
   pub held : (number : ℕ) (ty : TypeId) → kind_of g number ≡ Some (block.With ty) → HasPlace s (held g number) ty

@@ -15,7 +15,7 @@ use Rattle.scopes.specs.declared.entries.BlockKind.TheVariants as block
 use Rattle.scopes.specs.declared.searches.OpenBlock.{OpenBlock}
 use Rattle.scopes.specs.declared.members.Member.{Member}
 use Rattle.scopes.specs.Members.{first_of, member_of}
-use Rattle.scopes.specs.Environment.{Environment, Meaning, named, member, in_symbols, in_block, in_blocks, in_units, line_of, find, with_block, kind_in, kind_of, first_open, block_count}
+use Rattle.scopes.specs.Environment.{Environment, Meaning, named, member, in_symbols, in_block, in_blocks, in_units, line_of, find, with_block, kind_in, kind_of, entry_in, found_in, first_open, block_count}
 use Rattle.tp_check_expr.specs.Names.{is_routine, routine_depth, level_from, variable}
 use Rattle.tp_check_expr.specs.Owners.{deeper_with, with_depth}
 use Rattle.tp_check_stmt.specs.Assignments.{is_open_body, is_inside}
@@ -67,6 +67,23 @@ module _ (g : Environment) (kind : BlockKind) where
       subst (λ (o : Option Meaning). first_of o (outside name) ≡ Some (named n one)) (blocks_end g.types.types k g.blocks (block_of kind) name) e in
       let apart : first_of inner (first_of around (outside name)) ≡ Some (named n one) = sym (first_first inner around (outside name)) ∙ first in
       no_name (k + length g.blocks) n one (member_of g.types.types (line_of kind) name) (first_of around (outside name)) apart
+
+-- ---- what blocks declare themselves
+
+-- a block as it is opened declares nothing
+entry_new : (blocks : List OpenBlock) (kind : BlockKind) (k : ℕ) (name : List ℕ) (one : Entry) → entry_in (slice_get (blocks ++ block_of kind ∷ []) k) name ≡ Some one → entry_in (slice_get blocks k) name ≡ Some one
+entry_new [] kind zero name one e = let bad : ⊥ = cc in absurd bad
+entry_new [] kind (suc k) name one e = let bad : ⊥ = cc in absurd bad
+entry_new (b ∷ blocks) kind zero name one e = e
+entry_new (b ∷ blocks) kind (suc k) name one e = entry_new blocks kind k name one e
+
+pub entry_kept : (g : Environment) (kind : BlockKind) (number : ℕ) (name : List ℕ) (one : Entry) → found_in (with_block g kind) number name ≡ Some one → found_in g number name ≡ Some one
+entry_kept g kind number name one e = by (nat_lt number (first_open g)) e
+  where
+    by : (low : Bool) → cond low None (entry_in (slice_get (g.blocks ++ block_of kind ∷ []) (number - first_open g)) name) ≡ Some one
+        → cond low None (entry_in (slice_get g.blocks (number - first_open g)) name) ≡ Some one
+    by true k = k
+    by false k = entry_new g.blocks kind (number - first_open g) name one k
 
 -- ---- a `with` opens no routine
 

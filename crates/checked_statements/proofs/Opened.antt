@@ -27,7 +27,7 @@ use Rattle.typed_methods.specs.Declared.{IsMethod, HasMethods}
 use Rattle.typed_calls.specs.Laws.{IsFree}
 use Rattle.checked_expressions.specs.Agreeing.{IsKnown, Agrees}
 use Rattle.checked_statements.specs.Within.{AgreesWithin}
-use Rattle.checked_statements.proofs.Blocks.{found_outside, variable_same, inside_same, kind_kept, kind_new, kind_cases, depth_kept, depth_new}
+use Rattle.checked_statements.proofs.Blocks.{found_outside, entry_kept, variable_same, inside_same, kind_kept, kind_new, kind_cases, depth_kept, depth_new}
 
 -- a number of 31 bits more behind 2^31
 held_number : (n : ℕ) → n < 2147483648 → narrow (2147483648 + n) ≡ 2147483648 + n
@@ -120,6 +120,7 @@ module _ (g : Environment) (s : Scope) (ty : TypeId) where
       has = methods_kept a.agrees.has;
       sound = a.agrees.sound;
       known = λ name number one e. known_kept one (a.agrees.known name number one (found_outside g (block.With ty) name number one e));
+      inside = λ number name one e. known_kept one (a.agrees.inside number name one (entry_kept g (block.With ty) number name one e));
       held = held_kept;
     }
 

@@ -22,7 +22,7 @@ use Rattle.left_out_names.specs.Names.{feature_of}
 use Rattle.typing_rules.specs.declared.faults.Rule.TheVariants as rules
 use Rattle.typing_rules.specs.declared.sorts.SetBase.{SetBase}
 use Rattle.typing_rules.specs.declared.sorts.Sort.{Sort}
-use Rattle.typing_rules.specs.Faults.{broken, not_yet}
+use Rattle.typing_rules.specs.Faults.{broken}
 use Rattle.typing_rules.specs.Judgements.{Judgement, refuses, makes, rule, part, parts}
 use Rattle.typing_rules.specs.Selectors.{asking, selected}
 use Rattle.typing_rules.specs.Sorts.{sort_of_type, sort_of_constant}
@@ -213,7 +213,7 @@ lawful_size_by types place (Make ty routine args) = lawful_refuses _
 
 lawful_selected_from : (types : List TypeDef) (here : Place) (e : Expression) (word : List ℕ) → Lawful (selected_from types here e word)
 lawful_selected_from types here e word =
-    lawful_either (is_method_of types e word) (refuses (not_yet place)) (selected types here e word) (lawful_refuses _) (lawful_selected types here e word)
+    lawful_either (is_method_of types e word) (refuses (broken here rules.Constant)) (selected types here e word) (lawful_refuses _) (lawful_selected types here e word)
 
 lawful_owner_entry : (types : List TypeDef) (at : Place) (one : Entry) → Lawful (owner_entry types at one)
 lawful_owner_entry types at (entry.Const ty v) = lawful_makes _

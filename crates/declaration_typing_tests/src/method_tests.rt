@@ -102,6 +102,44 @@ fn methods_have_an_instance(rt: HostRuntime) -> Result<(), Fail> {
     Ok(())
 }
 
+// Another declaration Self in a routine inside a method hides that name alone.
+const HIDDEN: &[Row] = &[
+    (
+        "type o = object x: Byte; procedure m; end; procedure o.m; procedure q; var self: Byte; begin x := 1; self := 2 end; begin q; x := 3 end;",
+        "procedure M far 0+0 of 11 :=1.0.0; procedure Q near 0+1 in 0 :=2.0.0 :=1.0;",
+    ),
+    (
+        "type o = object x: Byte; procedure m(a: Byte); end; procedure o.m(a: Byte); procedure q(self: Byte); begin x := self; self := a end; begin q(1) end;",
+        "procedure M far 1+0 of 11; procedure Q near 1+0 in 0 :=2.1.0 :=1.0;",
+    ),
+    (
+        "type o = object x: Byte; procedure m; end; procedure o.m; procedure q; var self: Byte; procedure r; begin x := 1; self := 2 end; begin r end; begin q end;",
+        "procedure M far 0+0 of 11; procedure Q near 0+1 in 0; procedure R near 0+0 in 1 :=3.0.0 :=2.0;",
+    ),
+    (
+        "type o = object x: Byte; procedure m; end; procedure o.m; procedure q; const self = 1; begin x := self end; begin q end;",
+        "procedure M far 0+0 of 11; procedure Q near 0+0 in 0 :=2.0.0;",
+    ),
+    (
+        "type o = object procedure m; end; d = object(o) procedure m; end; procedure d.m; procedure q(self: Byte); begin o.m; m end; begin q(1) end; procedure o.m; begin end;",
+        "procedure M far 0+0 of 11; procedure M far 0+0 of 12; procedure Q near 1+0 in 1;",
+    ),
+    (
+        "type o = object procedure m; end; r = record self: Byte; end; procedure o.m; var v: r; begin with v do o.m end;",
+        "procedure M far 0+1 of 11;",
+    ),
+    (
+        "type o = object procedure m; end; procedure o.m; begin end; procedure p; var self: o; begin o.m end;",
+        "BadCall 20 1:93",
+    ),
+];
+
+#[test]
+fn another_self_hides_the_name_alone(rt: HostRuntime) -> Result<(), Fail> {
+    assert_eq!(rt; first_wrong(rt.alloc(), HIDDEN)?, None);
+    Ok(())
+}
+
 // Headers in an object type.
 const HEADERS: &[Row] = &[
     (

@@ -34,7 +34,7 @@ use Rattle.checked_expressions.specs.Agreeing.{IsKnown, Agrees}
 use Rattle.checked_statements.specs.Within.{AgreesWithin}
 use Rattle.known_names.specs.Known.{opening, open_from, open_in, at_level, IsDeep, IsLocal, IsVariableIn, IsAtDepth, IsEntry, IsLasting, AreLasting, AreKnown, levels_in, scope_over}
 use Rattle.known_names.proofs.Frames.{level_below, open_count, level_variables, IsOpen, stands, one_depth}
-use Rattle.known_names.proofs.Finding.{found_known}
+use Rattle.known_names.proofs.Finding.{found_known, inside_known}
 
 -- ---- the same over the levels of routines
 
@@ -218,6 +218,7 @@ module _ (g : Environment) (s : Scope) (h : AreKnown g s) where
     has = methods_over s (open_in g) g h.has;
     sound = h.sound;
     known = λ name number one e. entry_known one (found_known g s name number one h e);
+    inside = λ number name one e. entry_known one (inside_known g s number name one h e);
     held = λ number ty e. absurd (never_with number ty e);
   }
 

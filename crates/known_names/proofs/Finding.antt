@@ -1,6 +1,6 @@
 -- What is found under a name is known.
-use Rattle.std.proofs.Common.{◌≡◌, ◌⊎◌, inl, inr, ℕ, zero, suc, ◌+◌, ◌<◌, ◌≤◌, Bool, true, false, cond, All, List, [], ◌∷◌, length, take, Option, Some, None, sym, subst, ap, arith, length-take}
-use Rattle.std.specs.Prelude.{option_map}
+use Rattle.std.proofs.Common.{◌≡◌, ◌⊎◌, inl, inr, ℕ, zero, suc, ◌+◌, ◌-◌, ◌<◌, ◌≤◌, Bool, true, false, cond, All, List, [], ◌∷◌, length, take, Option, Some, None, sym, subst, ap, arith, length-take}
+use Rattle.std.specs.Prelude.{option_map, slice_get, nat_lt}
 use Rattle.std.specs.Map.{lookup}
 use Rattle.std.proofs.Math.Nat.{min-le_right}
 use Rattle.std.proofs.lemmas.List.Elements.{All-head, All-tail, All-take}
@@ -14,7 +14,7 @@ use Rattle.scopes.specs.declared.searches.OpenBlock.{OpenBlock}
 use Rattle.scopes.specs.declared.members.Member.{Member}
 use Rattle.scopes.specs.Symbols.{SymbolList, entry_of}
 use Rattle.scopes.specs.Members.{first_of, member_of}
-use Rattle.scopes.specs.Environment.{Environment, named, member, line_of, in_symbols, in_block, in_blocks, in_units, find, block_count}
+use Rattle.scopes.specs.Environment.{Environment, named, member, line_of, in_symbols, in_block, in_blocks, in_units, entry_in, find, found_in, first_open, block_count}
 use Rattle.known_names.specs.Known.{opening, open_from, open_in, IsVariableIn, IsEntry, EachOf, EachIn, AreKnown}
 use Rattle.known_names.proofs.Frames.{Keeps, keeps_from}
 
@@ -128,6 +128,25 @@ found_known g s name n one h e =
     by (inl f) = blocks_known (IsEntry s) g.types.types n name one (λ around more keeps k. entry_lifted s around more one keeps k) [] (length g.used + 1) g.blocks h.blocks f
     by (inr f) =
         entry_lifted s [] (open_in g) one (none_open (open_in g)) (outside (first_cases (in_units 1 (take g.seen g.used) name) (in_symbols 0 g.predeclared name) (named n one) f))
+
+-- ---- names of one block
+
+module _ (P : List ℕ → Entry → Type 0) (name : List ℕ) (one : Entry) where
+  -- an entry of a block itself, where blocks inside it take nothing away
+  entry_known : (lift : (around more : List ℕ) → Keeps around more → P around one → P more one) (around : List ℕ) (k : ℕ) (blocks : List OpenBlock) → EachIn P around blocks
+      → entry_in (slice_get blocks k) name ≡ Some one → P (open_from around blocks) one
+  entry_known lift around zero [] h e = let bad : ⊥ = cc in absurd bad
+  entry_known lift around (suc k) [] h e = let bad : ⊥ = cc in absurd bad
+  entry_known lift around zero (b ∷ blocks) h e =
+      lift (opening b.kind around) (open_from (opening b.kind around) blocks) (keeps_from blocks (opening b.kind around)) (looked_up (P (opening b.kind around)) name one b.symbols h.0 e)
+  entry_known lift around (suc k) (b ∷ blocks) h e = entry_known lift (opening b.kind around) k blocks h.1 e
+
+pub inside_known : (g : Environment) (s : Scope) (number : ℕ) (name : List ℕ) (one : Entry) → AreKnown g s → found_in g number name ≡ Some one → IsEntry s (open_in g) one
+inside_known g s number name one h e = by (nat_lt number (first_open g)) e
+  where
+    by : (low : Bool) → cond low None (entry_in (slice_get g.blocks (number - first_open g)) name) ≡ Some one → IsEntry s (open_in g) one
+    by true k = let bad : ⊥ = cc in absurd bad
+    by false k = entry_known (IsEntry s) name one (λ around more keeps f. entry_lifted s around more one keeps f) [] (number - first_open g) g.blocks h.blocks k
 
 -- ---- names of the innermost block
 

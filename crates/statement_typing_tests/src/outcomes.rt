@@ -2,7 +2,7 @@
 //! with what it holds at each of its exits.
 
 use crate::line::{Line, empty_line, put, reads};
-use crate::samples::{method_scope, scope};
+use crate::samples::{hiding_scope, method_scope, scope};
 use crate::shown::show;
 use crate::shown_expressions::put_numbered;
 use lexeme_list::lexemes_of;
@@ -82,12 +82,14 @@ fn put_error(out: &mut Line, error: &CheckError) {
 pub(crate) enum Body {
     Function,
     Method,
+    Hiding,
 }
 
 fn scope_of(alloc: Global, body: Body) -> Result<Scope, AllocError> {
     match body {
         Body::Function => scope(alloc),
         Body::Method => method_scope(alloc),
+        Body::Hiding => hiding_scope(alloc),
     }
 }
 
@@ -139,4 +141,12 @@ pub(crate) fn first_wrong_method(
     rows: &[Row],
 ) -> Result<Option<&'static str>, AllocError> {
     first_wrong_in(alloc, Body::Method, rows)
+}
+
+/// The first body of the procedure with a parameter Self inside the method that is answered something else.
+pub(crate) fn first_wrong_hiding(
+    alloc: Global,
+    rows: &[Row],
+) -> Result<Option<&'static str>, AllocError> {
+    first_wrong_in(alloc, Body::Hiding, rows)
 }

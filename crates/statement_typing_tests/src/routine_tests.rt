@@ -1,6 +1,6 @@
 //! Routines as values, and methods, with what they are answered, worked out by hand.
 
-use crate::outcomes::{Row, first_wrong, first_wrong_method};
+use crate::outcomes::{Row, first_wrong, first_wrong_hiding, first_wrong_method};
 use std::test::Fail;
 
 // A far routine is a value of a procedural type with its header. Elsewhere a variable that holds one is a call.
@@ -85,6 +85,30 @@ const INSIDE: &[Row] = &[
 #[test]
 fn methods_know_their_members(rt: HostRuntime) -> Result<(), Fail> {
     assert_eq!(rt; first_wrong_method(rt.alloc(), INSIDE)?, None);
+    Ok(())
+}
+
+// A parameter Self of a routine inside the method hides the name alone: members, and methods of ancestors, are of the method's Self.
+const HIDING: &[Row] = &[
+    ("begin i := self end.", "{0.0.0 := l2 0.1.0;}"),
+    ("begin self := i end.", "{0.1.0 := l2 0.0.0;}"),
+    ("begin i := total end.", "{0.0.0 := v1 0.2.0;}"),
+    ("begin i := plain end.", "{0.0.0 := m0.9 0.2.0;}"),
+    ("begin show(self) end.", "{run m0.8 0.2.0 l2 0.1.0;}"),
+    ("begin extra end.", "{run v2 0.2.0;}"),
+    ("begin i := ot.total end.", "{0.0.0 := m0.7 0.2.0;}"),
+    ("begin ot.show(1) end.", "{run m0.8 0.2.0 k2=1;}"),
+    (
+        "begin with uv do i := ot.total end.",
+        "{with 0.0.16 do 0.0.0 := m0.7 0.2.0;}",
+    ),
+    ("begin self.total end.", "UnknownName 17 1:11"),
+    ("begin i := integer.total end.", "BadCall 20 1:12"),
+];
+
+#[test]
+fn another_self_hides_no_members(rt: HostRuntime) -> Result<(), Fail> {
+    assert_eq!(rt; first_wrong_hiding(rt.alloc(), HIDING)?, None);
     Ok(())
 }
 

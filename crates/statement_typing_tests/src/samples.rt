@@ -355,6 +355,18 @@ fn fill_method(alloc: Global, scope: &mut Scope) -> Result<(), AllocError> {
     enter_method(scope)
 }
 
+// Inside a procedure of that method, which has a parameter Self.
+fn enter_hiding(scope: &mut Scope) -> Result<(), AllocError> {
+    let owner = None;
+    begin(scope, BlockKind::Routine { number: 12, owner })?;
+    enter(scope, b"SELF", variable(2, 0, INTEGER))
+}
+
+fn fill_hiding(alloc: Global, scope: &mut Scope) -> Result<(), AllocError> {
+    fill_method(alloc, scope)?;
+    enter_hiding(scope)
+}
+
 fn empty_scope(alloc: Global) -> Result<Scope, AllocError> {
     Scope::new(alloc, named(b"P")?)
 }
@@ -370,5 +382,12 @@ pub(crate) fn scope(alloc: Global) -> Result<Scope, AllocError> {
 pub(crate) fn method_scope(alloc: Global) -> Result<Scope, AllocError> {
     let mut scope = empty_scope(alloc)?;
     fill_method(alloc, &mut scope)?;
+    Ok(scope)
+}
+
+/// The body of a procedure of the method Total, where a parameter Self hides that of the method.
+pub(crate) fn hiding_scope(alloc: Global) -> Result<Scope, AllocError> {
+    let mut scope = empty_scope(alloc)?;
+    fill_hiding(alloc, &mut scope)?;
     Ok(scope)
 }

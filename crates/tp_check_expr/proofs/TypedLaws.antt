@@ -1,5 +1,5 @@
 -- Expressions are judged lawfully.
-use Rattle.std.proofs.Common.{ℕ, Bool, true, false, not, cond, List, [], Option, Some, None}
+use Rattle.std.proofs.Common.{ℕ, Bool, not, List, [], Option, Some, None}
 use Rattle.type_layout.specs.declared.definitions.TypeId.{TypeId}
 use Rattle.type_layout.specs.declared.definitions.TypeDef.{TypeDef}
 use Rattle.type_layout.specs.declared.definitions.RoutineId.{RoutineId}
@@ -11,14 +11,12 @@ use Rattle.syntax_tree.specs.declared.expression.PlacedSign.{PlacedSign}
 use Rattle.typed_tree.specs.Expressions.{Expression, Load, Var}
 use Rattle.scopes.specs.declared.entries.Entry.{Entry}
 use Rattle.scopes.specs.declared.entries.Entry.TheVariants as entry
-use Rattle.scopes.specs.declared.entries.BlockKind.{BlockKind}
-use Rattle.scopes.specs.declared.entries.BlockKind.TheVariants as block
 use Rattle.scopes.specs.Environment.{Environment, Meaning, named, member, find, kind_of}
 use Rattle.tp_lexer.specs.declared.token.Feature.{Feature}
 use Rattle.left_out_names.specs.Names.{feature_of}
 use Rattle.typing_rules.specs.declared.faults.Rule.TheVariants as rules
 use Rattle.typing_rules.specs.Faults.{broken}
-use Rattle.typing_rules.specs.Judgements.{Judgement, makes, refuses, either, part, parts}
+use Rattle.typing_rules.specs.Judgements.{Judgement, makes, refuses, part, parts}
 use Rattle.typing_rules.specs.Selectors.{selected, indexed, followed}
 use Rattle.typing_rules.specs.Laws.{Lawful}
 use Rattle.typing_rules.proofs.JudgementLaws.{lawful_makes, lawful_refuses, lawful_either, lawful_part, lawful_parts}
@@ -33,15 +31,15 @@ use Rattle.set_rules.proofs.SetLaws.{lawful_constructed}
 use Rattle.method_rules.specs.Methods.{Bound, bound}
 use Rattle.method_rules.proofs.MethodLaws.{lawful_bound, lawful_inherited}
 use Rattle.method_rules.proofs.MethodLaws as methods
-use Rattle.procedural_rules.specs.Through.{Held, held_routine}
+use Rattle.procedural_rules.specs.Through.{held_routine}
 use Rattle.procedural_rules.proofs.ProceduralLaws.{lawful_held_routine, lawful_called_through, lawful_settled, lawful_routine_value}
-use Rattle.allocation_rules.specs.Allocations.{Maker, constructor, blank}
+use Rattle.allocation_rules.specs.Allocations.{constructor, blank}
 use Rattle.allocation_rules.proofs.AllocationLaws.{lawful_constructor, lawful_made, lawful_newly, lawful_blank}
 use Rattle.tp_check_expr.specs.declared.names.Purpose.{Purpose}
 use Rattle.tp_check_expr.specs.declared.names.Purpose.TheVariants as purpose
 use Rattle.tp_check_expr.specs.declared.owners.TypeName.{TypeName}
 use Rattle.tp_check_expr.specs.Names.{variable, purpose_of, as_wanted, routine_wanted, standard_called, standard_wanted, entered}
-use Rattle.tp_check_expr.specs.Owners.{Instance, self_word, self_meant, owner_in, type_in, by_type, inherited_in, inherited_on, inherited_by, inherited_from}
+use Rattle.tp_check_expr.specs.Owners.{Instance, self_of, owner_in, type_in, by_type, inherited_on, inherited_from}
 use Rattle.tp_check_expr.specs.Calls.{is_method_of, method_wanted, chosen, opened, meant, constructor_named, name_for, name_judged, Callable, declared, method, through, maker, entered_by, member_callable, callable_entry, callable_member, callable_meant, callable_name, params_of, called_with, target_called, special_of, applied_by, applied, constructor_at, target_for}
 use Rattle.tp_check_expr.specs.Typed.{marked, first_param, rest_params, size_by, making, misplaced, miscalled, judged_as, judged, callable, items_judged, item_judged, all_given, one_given, special_given, made_by}
 
@@ -150,23 +148,12 @@ module _ (g : Environment) (here : Position) where
   lawful_name for word = lawful_name_for for word
 
 module _ (g : Environment) where
-  lawful_inherited_in : (place : Place) (one : TypeName) (word : List ℕ) (own : Instance) (kind : Option BlockKind) → Lawful (inherited_in g place one word own kind)
-  lawful_inherited_in place one word own None = lawful_refuses _
-  lawful_inherited_in place one word own (Some block.Part) = lawful_refuses _
-  lawful_inherited_in place one word own (Some (block.With ty)) = lawful_refuses _
-  lawful_inherited_in place one word own (Some (block.Routine n None)) = lawful_refuses _
-  lawful_inherited_in place one word own (Some (block.Routine n (Some class))) = lawful_inherited g place one.place own.class own.at one.ty word
-
   lawful_inherited_on : (place : Place) (one : TypeName) (word : List ℕ) (own : Option Instance) → Lawful (inherited_on g place one word own)
   lawful_inherited_on place one word None = lawful_refuses _
-  lawful_inherited_on place one word (Some own) = lawful_inherited_in place one word own (kind_of g own.block)
-
-  lawful_inherited_by : (place : Place) (one : TypeName) (word : List ℕ) (meaning : Option Meaning) → Lawful (inherited_by g place one word meaning)
-  lawful_inherited_by place one word None = lawful_refuses _
-  lawful_inherited_by place one word (Some meaning) = lawful_inherited_on place one word (self_meant g (Some meaning))
+  lawful_inherited_on place one word (Some own) = lawful_inherited g place one.place own.class own.at one.ty word
 
   lawful_inherited_from : (place : Place) (one : TypeName) (word : List ℕ) → Lawful (inherited_from g place one word)
-  lawful_inherited_from place one word = lawful_inherited_by place one word (find g self_word)
+  lawful_inherited_from place one word = lawful_inherited_on place one word (self_of g)
 
   lawful_member : (place here : Place) (e : Expression) (word : List ℕ) → Lawful (member_callable g place here e word)
   lawful_member place here e word =

@@ -1,5 +1,5 @@
 -- Members of objects and records, names as expressions, and what may stand before arguments in parentheses.
-use Rattle.std.specs.Prelude.{ℕ, Bool, false, cond, List, [], ◌∷◌, Option, Some, None, is_some}
+use Rattle.std.specs.Prelude.{ℕ, Bool, false, cond, List, [], Option, Some, None, is_some}
 use Rattle.type_layout.specs.declared.definitions.TypeId.{TypeId}
 use Rattle.type_layout.specs.declared.definitions.TypeDef.{TypeDef}
 use Rattle.type_layout.specs.declared.definitions.Param.{Param}
@@ -12,7 +12,7 @@ use Rattle.scopes.specs.Environment.{Environment, Meaning, named, member, find, 
 use Rattle.tp_lexer.specs.declared.token.Feature.{Feature}
 use Rattle.left_out_names.specs.Names.{feature_of}
 use Rattle.typing_rules.specs.declared.faults.Rule.TheVariants as rule
-use Rattle.typing_rules.specs.Faults.{broken, not_yet, undeclared}
+use Rattle.typing_rules.specs.Faults.{broken, undeclared}
 use Rattle.typing_rules.specs.Judgements.{Judgement, makes, refuses, either, part}
 use Rattle.typing_rules.specs.Selectors.{selected}
 use Rattle.call_rules.specs.Casts.{cast}
@@ -49,9 +49,9 @@ chosen g here for e word =
 
 -- ---- names
 
--- a member that is known in a block; that of a method whose Self is hidden is not built yet
+-- a member that is known in a block, of what has it
 abbrev pub opened : Environment → Position → Purpose → Option Expression → List ℕ → Judgement Expression
-opened g here for None word = refuses (not_yet here.place)
+opened g here for None word = refuses (broken here.place rule.Stands)
 opened g here for (Some owner) word = chosen g here for owner word
 
 abbrev pub meant : Environment → Position → Purpose → List ℕ → Option Feature → Option Meaning → Judgement Expression
@@ -102,7 +102,7 @@ callable_entry g place (entry.Var unit level number ty) = entered_by g.types.typ
 callable_entry g place one = makes (declared one)
 
 abbrev pub callable_member : Environment → Place → Option Expression → List ℕ → Judgement Callable
-callable_member g place None word = refuses (not_yet place)
+callable_member g place None word = refuses (broken place rule.Stands)
 callable_member g place (Some owner) word = member_callable g place place owner word
 
 abbrev pub callable_meant : Environment → Place → List ℕ → Option Feature → Option Meaning → Judgement Callable

@@ -1,17 +1,18 @@
 -- The objects and records whose members are known by their names alone, and the object of a method.
-use Rattle.std.specs.Prelude.{ℕ, zero, suc, ◌+◌, ◌==◌, cond, codes, List, Option, Some, None}
+use Rattle.std.specs.Prelude.{ℕ, zero, suc, ◌+◌, codes, List, Option, Some, None}
 use Rattle.type_layout.specs.declared.definitions.TypeId.{TypeId}
 use Rattle.type_layout.specs.declared.texts.Place.{Place}
 use Rattle.typed_tree.specs.Expressions as tree
 use Rattle.typed_tree.specs.Expressions.{Expression, Load, Var, view_place}
+use Rattle.scopes.specs.declared.entries.Entry.{Entry}
 use Rattle.scopes.specs.declared.entries.Entry.TheVariants as entry
 use Rattle.scopes.specs.declared.entries.BlockKind.{BlockKind}
 use Rattle.scopes.specs.declared.entries.BlockKind.TheVariants as block
 use Rattle.scopes.specs.Members.{narrow}
-use Rattle.scopes.specs.Environment.{Environment, Meaning, named, find, kind_of}
+use Rattle.scopes.specs.Environment.{Environment, Meaning, named, find, block_count, kind_of, found_in}
 use Rattle.expression_tree.specs.Trees.{Tree, name, designator_in}
 use Rattle.typing_rules.specs.declared.faults.Rule.TheVariants as rule
-use Rattle.typing_rules.specs.Faults.{broken, not_yet}
+use Rattle.typing_rules.specs.Faults.{broken}
 use Rattle.typing_rules.specs.Judgements.{Judgement, refuses}
 use Rattle.method_rules.specs.Methods.{Bound, inherited}
 use Rattle.tp_check_expr.specs.declared.owners.Instance.{Instance as HeldInstance}
@@ -35,36 +36,53 @@ held g number = Var (record { unit = 0; level = 1; number = narrow (2147483648 +
 
 -- ---- Self
 
--- the object of the method whose block this is
+-- the object of a method
 pub record Instance : Type 0 where
-  pub block : ℕ
   pub class : TypeId
   pub at : tree.Place
 
 abbrev pub view_instance : HeldInstance → Instance
-view_instance one = record { block = one.block; class = one.class; at = view_place one.place }
+view_instance one = record { class = one.class; at = view_place one.place }
 
-abbrev pub self_meant : Environment → Option Meaning → Option Instance
-self_meant g (Some (named number (entry.Var unit level n ty))) = Some (record { block = number; class = ty; at = Var (variable g unit level n) })
+abbrev pub self_meant : Environment → Option Entry → Option Instance
+self_meant g (Some (entry.Var unit level n ty)) = Some (record { class = ty; at = Var (variable g unit level n) })
 self_meant g _ = None
 
 abbrev pub self_word : List ℕ
 self_word = codes "SELF"
 
--- the variable of this name that is known, if there is one
+-- the variable of this name that a block itself declares, whatever the name means in blocks inside it
+abbrev pub self_in : Environment → ℕ → Option Instance
+self_in g number = self_meant g (found_in g number self_word)
+
+-- The last of these blocks that is a method's, where so far it was this one: of a block with its kind and number.
+abbrev pub later_method : Option BlockKind → ℕ → Option ℕ → Option ℕ
+later_method (Some (block.Routine own (Some class))) number before = Some number
+later_method _ number before = before
+
+-- the last of the blocks before a number that is a method's
+abbrev pub method_before : Environment → ℕ → Option ℕ
+method_before g zero = None
+method_before g (suc n) = later_method (kind_of g n) n (method_before g n)
+
+abbrev pub self_at : Environment → Option ℕ → Option Instance
+self_at g None = None
+self_at g (Some number) = self_in g number
+
+-- Self of the innermost method whose block is open
 abbrev pub self_of : Environment → Option Instance
-self_of g = self_meant g (find g self_word)
+self_of g = self_at g (method_before g (block_count g))
 
 -- ---- what has the members that are known in a block
 
--- what a method's members are of, if that isn't hidden by another variable Self
-abbrev pub own_in : ℕ → Option Instance → Option Expression
-own_in number None = None
-own_in number (Some one) = cond (one.block == number) (Some (Load one.class one.at)) None
+abbrev pub self_loaded : Option Instance → Option Expression
+self_loaded None = None
+self_loaded (Some own) = Some (Load own.class own.at)
 
+-- what a `with` holds, or the method's object
 abbrev pub owner_in : Environment → ℕ → Option BlockKind → Option Expression
 owner_in g number (Some (block.With ty)) = Some (Load ty (held g number))
-owner_in g number (Some (block.Routine own (Some class))) = own_in number (self_of g)
+owner_in g number (Some (block.Routine own (Some class))) = self_loaded (self_in g number)
 owner_in g number _ = None
 
 -- ---- methods of ancestors
@@ -89,22 +107,10 @@ abbrev pub by_type : {C : Type 0} → Option TypeName → (TypeName → Judgemen
 by_type None of_type otherwise = otherwise
 by_type (Some one) of_type otherwise = of_type one
 
--- Self is that of a method if its block is a method's. In a routine's own block another variable Self may hide that of a method
--- round it, which is not built yet; outside routines a type's name is no operand.
-abbrev pub inherited_in : Environment → Place → TypeName → List ℕ → Instance → Option BlockKind → Judgement Bound
-inherited_in g place one word own (Some (block.Routine number (Some class))) = inherited g one.place place own.class own.at one.ty word
-inherited_in g place one word own (Some (block.Routine number None)) = refuses (not_yet one.place)
-inherited_in g place one word own _ = refuses (broken one.place rule.Stands)
-
--- no variable, which may hide that of a method
 abbrev pub inherited_on : Environment → Place → TypeName → List ℕ → Option Instance → Judgement Bound
-inherited_on g place one word None = refuses (not_yet one.place)
-inherited_on g place one word (Some own) = inherited_in g place one word own (kind_of g own.block)
+inherited_on g place one word None = refuses (broken one.place rule.Stands)
+inherited_on g place one word (Some own) = inherited g one.place place own.class own.at one.ty word
 
-abbrev pub inherited_by : Environment → Place → TypeName → List ℕ → Option Meaning → Judgement Bound
-inherited_by g place one word None = refuses (broken one.place rule.Stands)
-inherited_by g place one word (Some meaning) = inherited_on g place one word (self_meant g (Some meaning))
-
--- A method that is selected of a type's name. Where no Self is known, a type's name is no operand.
+-- A method that is selected of a type's name is called on Self of the method round it. Outside methods a type's name is no operand.
 abbrev pub inherited_from : Environment → Place → TypeName → List ℕ → Judgement Bound
-inherited_from g place one word = inherited_by g place one word (find g self_word)
+inherited_from g place one word = inherited_on g place one word (self_of g)

@@ -21,7 +21,7 @@ use std::alloc::Global;
 use syntax_tree::Designator;
 use type_layout::{Name, Param, Place, TypeId, Types};
 use typed_tree::{Expr, PlaceExpr};
-use typing_rules::{Refusal, Rule, broken, loaded, not_yet, selected, undeclared};
+use typing_rules::{Refusal, Rule, broken, loaded, selected, undeclared};
 
 /// What stands before arguments: what is declared under a name; a method with its object; a variable that holds a routine; or a
 /// constructor for a new block, behind a pointer type in a New.
@@ -102,7 +102,7 @@ fn callable_member<'a>(
     ensures { Gives view_callable result (callable_member scope.now place (option_map view_expr owner) name.now).run }
 {
     match owner {
-        None => Err(Refusal::Because(not_yet(place))),
+        None => Err(Refusal::Because(broken(place, Rule::Stands))),
         Some(owner) => member_callable(alloc, scope, place, place, owner, name),
     }
 }

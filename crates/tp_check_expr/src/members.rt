@@ -16,7 +16,7 @@ use scopes::{Found, Scope};
 use std::alloc::Global;
 use type_layout::{Name, Place, TypeId, Types};
 use typed_tree::Expr;
-use typing_rules::{Refusal, Rule, broken, not_yet, selected, undeclared};
+use typing_rules::{Refusal, Rule, broken, selected, undeclared};
 
 /// Whether what has this name in an operand is a method.
 pub(crate) fn is_method_of(types: &Types, owner: &Expr, name: &Name) -> bool
@@ -84,7 +84,7 @@ fn opened(
     ensures { Gives view_expr result (opened scope.now here purpose (option_map view_expr owner) name.now).run }
 {
     match owner {
-        None => Err(Refusal::Because(not_yet(here.place))),
+        None => Err(Refusal::Because(broken(here.place, Rule::Stands))),
         Some(owner) => chosen(alloc, scope, here, purpose, owner, name),
     }
 }

@@ -4,11 +4,11 @@ ghost use Rattle.std.specs.Prelude.{◌≡◌, ◌+◌, ◌<◌, ◌≤◌, Ok, 
 ghost use Rattle.std.specs.Option.{option_map};
 ghost use Rattle.type_layout.specs.Words.{IsName};
 ghost use Rattle.typed_tree.specs.Expressions.{view_expr, view_place};
-ghost use Rattle.scopes.specs.Environment.{shown, find, kind_of};
+ghost use Rattle.scopes.specs.Environment.{find, block_count, kind_of};
 ghost use Rattle.typing_rules.specs.Judgements.{Gives};
 ghost use Rattle.expression_tree.specs.Trees.{view_designator, view_expression};
 ghost use Rattle.method_rules.specs.Methods.{view_bound};
-ghost use Rattle.tp_check_expr.specs.Owners.{deeper_with, with_depth, held, view_instance, self_word, self_meant, self_of, own_in, owner_in, type_meant, type_named, type_in, inherited_in, inherited_on, inherited_from};
+ghost use Rattle.tp_check_expr.specs.Owners.{deeper_with, with_depth, held, view_instance, self_word, self_in, later_method, method_before, self_of, self_loaded, owner_in, type_meant, type_named, type_in, inherited_from};
 
 use crate::names::variable;
 use expression_tree::designator_in;
@@ -18,12 +18,11 @@ use std::alloc::Global;
 use syntax_tree::{Designator, Expression, Identifier};
 use type_layout::{Name, Place, TypeId};
 use typed_tree::{Expr, PlaceExpr, Variable};
-use typing_rules::{Refusal, Rule, broken, loaded, not_yet};
+use typing_rules::{Refusal, Rule, broken, loaded};
 
-/// The variable Self that is known: the object of a method, and the block in which it is declared.
+/// The object of a method.
 #[derive(Drop)]
 pub(crate) struct Instance {
-    pub block: u32,
     pub class: TypeId,
     pub place: PlaceExpr,
 }
@@ -86,21 +85,19 @@ fn self_name() -> Name
     known(b"SELF")
 }
 
-// What was found under Self, if it is a variable.
-fn instance_of(scope: &Scope, found: Found<'_>) -> Option<Instance>
-    ensures { option_map view_instance result ≡ self_meant scope.now (Some (shown found.entry)) }
+// The variable Self that a block itself declares.
+fn self_in(scope: &Scope, block: u32) -> Option<Instance>
+    ensures { option_map view_instance result ≡ self_in scope.now block }
 {
-    match found {
-        Found::Named {
-            block,
-            entry: Entry::Var {
+    match scope.find_in(block, &self_name()) {
+        Some(
+            Entry::Var {
                 unit,
                 level,
                 number,
                 ty,
             },
-        } => Some(Instance {
-            block,
+        ) => Some(Instance {
             class: *ty,
             place: PlaceExpr::Var(variable(scope, *unit, *level, *number)),
         }),
@@ -108,22 +105,43 @@ fn instance_of(scope: &Scope, found: Found<'_>) -> Option<Instance>
     }
 }
 
+// The innermost method's block with one block more.
+fn later_method(kind: Option<&BlockKind>, number: u32, before: Option<u32>) -> Option<u32>
+    ensures { result ≡ later_method (option_copied kind.entry) number before }
+{
+    match kind {
+        Some(BlockKind::Routine { owner: Some(_), .. }) => Some(number),
+        _ => before,
+    }
+}
+
+// The innermost open block that is a method's.
+fn method_block(scope: &Scope) -> Option<u32>
+    ensures { result ≡ method_before scope.now (block_count scope.now) }
+{
+    let mut method = None;
+    for number in 0..scope.blocks() {
+        method = later_method(scope.block(number), number, method);
+    }
+    method
+}
+
+// Self of the innermost method whose block is open.
 fn self_of(scope: &Scope) -> Option<Instance>
     ensures { option_map view_instance result ≡ self_of scope.now }
 {
-    match scope.find(&self_name()) {
-        Some(found) => instance_of(scope, found),
+    match method_block(scope) {
+        Some(block) => self_in(scope, block),
         None => None,
     }
 }
 
-// What the members of the method of a block are of.
-fn own_in(alloc: Global, block: u32, own: Option<Instance>) -> Result<Option<Expr>, Refusal>
-    ensures { Gives (λ owner. option_map view_expr owner) result (Ok (own_in block (option_map view_instance own))) }
+fn self_loaded(alloc: Global, own: Option<Instance>) -> Result<Option<Expr>, Refusal>
+    ensures { Gives (λ owner. option_map view_expr owner) result (Ok (self_loaded (option_map view_instance own))) }
 {
     match own {
-        Some(one) if one.block == block => Ok(Some(loaded(alloc, one.class, one.place)?)),
-        _ => Ok(None),
+        Some(own) => Ok(Some(loaded(alloc, own.class, own.place)?)),
+        None => Ok(None),
     }
 }
 
@@ -133,7 +151,9 @@ pub(crate) fn owner_in(alloc: Global, scope: &Scope, block: u32) -> Result<Optio
 {
     match scope.block(block) {
         Some(BlockKind::With { ty }) => Ok(Some(loaded(alloc, *ty, held(scope, block))?)),
-        Some(BlockKind::Routine { owner: Some(_), .. }) => own_in(alloc, block, self_of(scope)),
+        Some(BlockKind::Routine { owner: Some(_), .. }) => {
+            self_loaded(alloc, self_in(scope, block))
+        }
         _ => Ok(None),
     }
 }
@@ -181,44 +201,7 @@ pub(crate) fn type_at(scope: &Scope, tree: &Expression) -> Option<TypeName>
     type_named(scope, designator_in(tree))
 }
 
-fn inherited_in<'a>(
-    scope: &'a Scope,
-    place: Place,
-    one: TypeName,
-    name: &Name,
-    own: Instance,
-    kind: Option<&BlockKind>,
-) -> Result<BoundMethod<'a>, Refusal>
-    ensures { Gives view_bound result (inherited_in scope.now place one name.now (view_instance own) (option_copied kind.entry)).run }
-{
-    match kind {
-        Some(BlockKind::Routine { owner: Some(_), .. }) => {
-            inherited(scope, one.place, place, own.class, own.place, one.ty, name)
-        }
-        Some(BlockKind::Routine { owner: None, .. }) => Err(Refusal::Because(not_yet(one.place))),
-        _ => Err(Refusal::Because(broken(one.place, Rule::Stands))),
-    }
-}
-
-fn inherited_on<'a>(
-    scope: &'a Scope,
-    place: Place,
-    one: TypeName,
-    name: &Name,
-    own: Option<Instance>,
-) -> Result<BoundMethod<'a>, Refusal>
-    ensures { Gives view_bound result (inherited_on scope.now place one name.now (option_map view_instance own)).run }
-{
-    match own {
-        None => Err(Refusal::Because(not_yet(one.place))),
-        Some(own) => {
-            let kind = scope.block(own.block);
-            inherited_in(scope, place, one, name, own, kind)
-        }
-    }
-}
-
-/// The method that is selected, at a place, of a type's name.
+/// The method that is selected, at a place, of a type's name: of Self of the method round it.
 pub(crate) fn inherited_from<'a>(
     scope: &'a Scope,
     place: Place,
@@ -227,8 +210,8 @@ pub(crate) fn inherited_from<'a>(
 ) -> Result<BoundMethod<'a>, Refusal>
     ensures { Gives view_bound result (inherited_from scope.now place one name.now).run }
 {
-    match scope.find(&self_name()) {
+    match self_of(scope) {
         None => Err(Refusal::Because(broken(one.place, Rule::Stands))),
-        Some(found) => inherited_on(scope, place, one, name, instance_of(scope, found)),
+        Some(own) => inherited(scope, one.place, place, own.class, own.place, one.ty, name),
     }
 }
