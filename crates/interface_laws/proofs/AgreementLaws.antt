@@ -128,13 +128,13 @@ declared_grow unit s [] made e = same_stage unit s.draft.scope made s e (unchang
 declared_grow unit s (one ∷ rest) made e =
     next unit s.draft.scope e.part.draft.scope made.draft.scope (declared_grows unit s one e.part e.holds) (declared_grow unit e.part rest made e.made)
 
-interface_grows : (name : List ℕ) (g : Environment) (all : List InterfaceDeclaration) (d : Drafted) → (interface_judged name g all).holds d → GrowsTo name g d.scope
+pub interface_grows : (name : List ℕ) (g : Environment) (all : List InterfaceDeclaration) (d : Drafted) → (interface_judged name g all).holds d → GrowsTo name g d.scope
 unfolding interface_judged
 interface_grows name g all d e =
     let start = (empty_draft g).scope in
     same_draft name g d e.part.draft e.made (next name g start e.part.draft.scope (unchanged name g start refl refl) (declared_grow name (stage (empty_draft g) []) all e.part e.holds))
 
-read_grows : (name : List ℕ) (g : Environment) (all : Works) (d : Drafted) → (declarations_judged name g all).holds d → GrowsTo name g d.scope
+pub read_grows : (name : List ℕ) (g : Environment) (all : Works) (d : Drafted) → (declarations_judged name g all).holds d → GrowsTo name g d.scope
 unfolding declarations_judged
 read_grows name g all d e =
     let start = (empty_draft g).scope in
