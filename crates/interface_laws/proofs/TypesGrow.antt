@@ -41,7 +41,7 @@ added_is unit g place asked one made h = ap (λ (d : Denoted). d.scope) h.made.m
 
 added_whole : (unit : List ℕ) (g : Environment) (place : Place) (asked : Rule) (one : TypeDef) (made : Denoted) → (added unit g place asked one).holds made → IsOfOneUnit one
 unfolding added
-added_whole unit g place asked one made h = record { unit = place_of g.types.units unit; methods = h.asked.methods }
+added_whole unit g place asked one made h = record { unit = place_of g.types.units unit; methods = h.holds.asked.methods }
 
 added_grows : (unit : List ℕ) (g : Environment) (place : Place) (asked : Rule) (one : TypeDef) (made : Denoted) → (added unit g place asked one).holds made → is_enumeration (Some one) ≡ false
     → GrowsTo unit g made.scope
