@@ -15,6 +15,7 @@ use Rattle.unit_interface.specs.declared.interfaces.Interface.{Interface}
 use Rattle.unit_interface.specs.Merge.{new_id, renumbered, with_listed}
 use Rattle.unit_interface.specs.Exports as exports
 use Rattle.unit_interface.specs.Exports.{in_type, in_items, behind, is_in, IsReached, kept_before, new_ids, with_kept, kept, renumbered_item, shown, IsInterfaceOf}
+use Rattle.unit_interface.proofs.ReachLaws.{goes_along}
 use Rattle.closed_constants.specs.Bounds.{AreBelow}
 use Rattle.closed_constants.proofs.Below.{at_push, below_both}
 use Rattle.closed_scopes.specs.Scopes.{IsClosedInterface}
@@ -123,7 +124,7 @@ module _ (unit : typed.Unit) (paired : length unit.types.origins ≡ length unit
       (λ x met.
       let low = below_in count (exports.with_type number (Some one)) x named met in
       let goes : is_in (exports.with_type number (slice_get unit.types.types number)) x ≡ true = subst (λ (o : Option TypeDef). is_in (exports.with_type number o) x ≡ true) (sym at) met in
-      (low, (exactly x low).1 (record { steps = suc r.steps; within = (number, r.within, goes, low) })))
+      (low, (exactly x low).1 (record { steps = suc r.steps; within = (number, r.within, goes_along unit.types.types number x (slice_get unit.types.types number) goes, low) })))
 
   -- a type with its new ids, and how many there are
   record IsKeptTo (number : ℕ) (table : Table) : Type 0 where

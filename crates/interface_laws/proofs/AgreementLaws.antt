@@ -18,7 +18,6 @@ use Rattle.unit_interface.specs.Resolve.{with_uses}
 use Rattle.unit_interface.proofs.ShownLaws.{one_interface}
 use Rattle.routines.specs.Trees.{Works, view_declarations}
 use Rattle.routines.specs.Drafts.{Drafted, knowing, Stage, stage}
-use Rattle.routines.specs.Blocks.{all_judged}
 use Rattle.tp_check_decl.specs.Units.{Finished, Whole, whole}
 use Rattle.tp_check_decl.specs.Endings.{ended}
 use Rattle.tp_check_decl.specs.Programs.{unit_site, empty_draft, declarations_judged}

@@ -1,5 +1,5 @@
 -- What items show of a table is what they show of a longer one, where they reach no further.
-use Rattle.std.proofs.Common.{◌≡◌, ◌∙◌, ℕ, zero, suc, ◌+◌, ◌-◌, ◌<◌, ◌≤◌, Bool, true, false, ◌&&◌, cond, nat_eq, nat_lt, List, [], ◌∷◌, ◌++◌, map, length, get_or, Option, Some, None, refl, sym, ap, subst, arith, length-append, eqb-true}
+use Rattle.std.proofs.Common.{◌≡◌, ◌∙◌, ℕ, zero, suc, ◌+◌, ◌-◌, ◌<◌, ◌≤◌, Bool, true, false, ◌&&◌, cond, nat_eq, nat_lt, List, [], ◌∷◌, ◌++◌, map, length, get_or, Option, Some, None, refl, sym, ap, subst, arith, inl, inr, length-append, eqb-true}
 use Rattle.std.specs.Prelude.{slice_get}
 use Rattle.std.proofs.lemmas.Bool.{ltb-true, lt-ltb}
 use Rattle.std.proofs.lemmas.Map.Views.{any-filter_same}
@@ -12,7 +12,8 @@ use Rattle.type_layout.specs.Table.{Table, place_of, with_type}
 use Rattle.typed_tree.specs.declared.units.Item.{Item}
 use Rattle.unit_interface.specs.Merge.{new_id, renumbered, with_listed}
 use Rattle.unit_interface.specs.Exports as exports
-use Rattle.unit_interface.specs.Exports.{in_type, in_items, behind, is_in, known, ReachedWithin, IsReached, kept_before, new_ids, with_kept, kept, renumbered_item}
+use Rattle.unit_interface.specs.Exports.{in_type, in_items, behind, in_front, is_in, known, ReachedWithin, IsReached, kept_before, new_ids, with_kept, kept, renumbered_item}
+use Rattle.unit_interface.proofs.ReachLaws.{goes_either, front_low, front_same}
 use Rattle.interface_laws.specs.Agreement.{IsPaired, IsClosed}
 use Rattle.interface_laws.proofs.Growing.{Grows}
 use Rattle.interface_laws.proofs.Renumbered.{AreBelow, below_all, below_first, same_type, same_items}
@@ -90,21 +91,40 @@ module _ (own more : Table) (items : List Item) (grows : Grows own more) (grown 
   reached_below zero n h = h.1
   reached_below (suc steps) n h = h.3
 
+  -- what goes with a type of the table is the same in the longer one
+  goes_same : (by : ℕ) → by < length own.types → exports.goes_with more.types by (slice_get more.types by) ≡ exports.goes_with own.types by (slice_get own.types by)
+  goes_same by low =
+      ap (exports.goes_with more.types by) (type_at by low) ∙ in_table (slice_get own.types by)
+    where
+      front : in_front more.types by ≡ in_front own.types by
+      front = front_same more.types own.types by (λ number before. type_at number (omega (arith, before, low)))
+      in_table : (one : Option TypeDef) → exports.goes_with more.types by one ≡ exports.goes_with own.types by one
+      in_table None = refl
+      in_table (Some one) = ap (λ (l : List ℕ). exports.with_type by (Some one) ++ l) front
+
+  -- and is of the table
+  goes_below : (by n : ℕ) → by < length own.types → is_in (exports.goes_with own.types by (slice_get own.types by)) n ≡ true → n < length own.types
+  goes_below by n low goes =
+      elim (goes_either own.types by n (slice_get own.types by) goes) [
+        | inl named ↦ closed.beside by n named
+        | inr front ↦ (let before = front_low own.types by n front in omega (arith, before, low))
+      ]
+
   reach_less : (steps n : ℕ) → ReachedWithin steps more.types items n → ReachedWithin steps own.types items n
   reach_less zero n h = (h.0, closed.named n h.0)
   reach_less (suc steps) n h =
       let by = h.0 in
       let before : ReachedWithin steps own.types items by = reach_less steps by h.1 in
-      let P : Option TypeDef → Type 0 = λ one. is_in (exports.with_type by one) n ≡ true in
-      let goes : is_in (exports.with_type by (slice_get own.types by)) n ≡ true = subst P (type_at by (reached_below steps by before)) h.2 in
-      (by, before, goes, closed.beside by n goes)
+      let low = reached_below steps by before in
+      let goes : is_in (exports.goes_with own.types by (slice_get own.types by)) n ≡ true = ap (λ (l : List ℕ). is_in l n) (sym (goes_same by low)) ∙ h.2 in
+      (by, before, goes, goes_below by n low goes)
 
   reach_more : (steps n : ℕ) → ReachedWithin steps own.types items n → ReachedWithin steps more.types items n
   reach_more zero n h = (h.0, (let below = h.1 in let l = longer in omega arith))
   reach_more (suc steps) n h =
       let by = h.0 in
-      let P : Option TypeDef → Type 0 = λ one. is_in (exports.with_type by one) n ≡ true in
-      (by, reach_more steps by h.1, subst P (sym (type_at by (reached_below steps by h.1))) h.2, (let below = h.3 in let l = longer in omega arith))
+      let goes : is_in (exports.goes_with more.types by (slice_get more.types by)) n ≡ true = ap (λ (l : List ℕ). is_in l n) (goes_same by (reached_below steps by h.1)) ∙ h.2 in
+      (by, reach_more steps by h.1, goes, (let below = h.3 in let l = longer in omega arith))
 
   pub is_reached_less : (n : ℕ) → IsReached more.types items n → IsReached own.types items n
   is_reached_less n h = record { steps = h.steps; within = reach_less h.steps n h.within }

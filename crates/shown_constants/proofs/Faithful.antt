@@ -21,6 +21,7 @@ use Rattle.typing_rules.specs.Sorts.{char, boolean}
 use Rattle.unit_interface.specs.declared.interfaces.Interface.{Interface}
 use Rattle.unit_interface.specs.Merge.{new_id, renumbered, ids_in, with_types}
 use Rattle.unit_interface.specs.Exports.{in_items, in_item, with_type, is_in, kept_before, new_ids, kept, IsReached, renumbered_item, shown, IsInterfaceOf}
+use Rattle.unit_interface.proofs.ReachLaws.{goes_along}
 use Rattle.shown_constants.specs.Moves.{IsLike, IsTold, AreTold}
 use Rattle.shown_constants.specs.Agreed.{IsThere, IsKnownAlike, AreBeside, IsPaired, IsWhole, IsKnownOf, AreConstantsIn, AreOwnConstants}
 use Rattle.closed_scopes.proofs.Merging.{has}
@@ -107,7 +108,7 @@ module _ (unit : TypedUnit) (reached : List ℕ) (table : Table)
   beside_reached ty one to need at in_it below =
       let h = (exactly ty.0 (slice_get_within own ty.0 one at)).0 need in
       let named : is_in (with_type ty.0 (slice_get own ty.0)) to ≡ true = ap (λ (o : Option TypeDef). is_in (with_type ty.0 o) to) at ∙ in_it in
-      (exactly to below).1 (record { steps = suc h.steps; within = (ty.0, h.within, named, below) })
+      (exactly to below).1 (record { steps = suc h.steps; within = (ty.0, h.within, goes_along own ty.0 to (slice_get own ty.0) named, below) })
 
   module _ (level : length other.origins ≡ length other.types) (alike : IsKnownAlike table other) (beside : AreBeside table other)
       (byte : f (type_id 1) ≡ type_id 1) (chars : f char ≡ char) (truths : f boolean ≡ boolean) where

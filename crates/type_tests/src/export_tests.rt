@@ -28,6 +28,14 @@ const ROUND: &[Declared] = &[
     ("U", 2, PointerTo(7)),
 ];
 
+// Texts, and an enumeration with a pointer behind it.
+const PAIRED: &[Declared] = &[
+    ("U", 0, Str(9)),
+    ("U", 1, Ordinal(Host::Enumeration, 0, 2)),
+    ("U", 2, PointerTo(0)),
+    ("U", 3, Str(20)),
+];
+
 // A procedure with the type of procedures.
 const TAKING: HeaderSample = (Kind::Procedure, &[(true, 6)], None);
 
@@ -44,6 +52,11 @@ const UNIT: UnitSample = UnitSample {
 
 const CIRCULAR: UnitSample = UnitSample {
     types: ROUND,
+    ..UNIT
+};
+
+const ENUMERATED: UnitSample = UnitSample {
+    types: PAIRED,
     ..UNIT
 };
 
@@ -160,7 +173,7 @@ fn holds(alloc: Global, row: &Row) -> Result<bool, AllocError> {
 }
 
 // A type is reached through a field; one of another unit keeps its origin; one is reached through a header; an empty
-// interface reaches none; types may go round.
+// interface reaches none; types may go round; an enumeration and what stands behind it go together.
 const ROWS: &[Row] = &[
     (
         &UNIT,
@@ -191,6 +204,18 @@ const ROWS: &[Row] = &[
         &[ItemSample::Var("V", 1), ItemSample::Var("V", 2)],
         &[((b'U', 1), 0), ((b'U', 2), 7)],
         &[(0, 3), (1, 3)],
+    ),
+    (
+        &ENUMERATED,
+        &[ItemSample::Var("V", 1)],
+        &[((b'U', 0), 99), ((b'U', 1), 99), ((b'U', 2), 0)],
+        &[(1, 3)],
+    ),
+    (
+        &ENUMERATED,
+        &[ItemSample::Var("V", 2)],
+        &[((b'U', 0), 99), ((b'U', 1), 99), ((b'U', 2), 0)],
+        &[(2, 3)],
     ),
 ];
 

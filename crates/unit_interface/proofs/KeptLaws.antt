@@ -22,20 +22,20 @@ use Rattle.unit_interface.proofs.FittingLaws.{IsSame, IsFitting, fitting, has_me
 
 -- ---- new ids
 
-below_or_last : (k n : ℕ) → k < suc n → (k < n) ⊎ (k ≡ n)
+pub below_or_last : (k n : ℕ) → k < suc n → (k < n) ⊎ (k ≡ n)
 below_or_last zero zero below = inr refl
 below_or_last zero (suc n) below = inl (omega arith)
 below_or_last (suc k) zero below = absurd (omega arith)
 below_or_last (suc k) (suc n) below =
     elim (below_or_last k n (omega (arith, below))) [ inl less ↦ inl (omega (arith, less)) | inr same ↦ inr (omega (arith, same)) ]
 
-length-new_ids : (reached : List ℕ) (count : ℕ) → length (new_ids reached count) ≡ count
+pub length-new_ids : (reached : List ℕ) (count : ℕ) → length (new_ids reached count) ≡ count
 length-new_ids reached zero = refl
 length-new_ids reached (suc count) =
     let rec = length-new_ids reached count in
     length-append (new_ids reached count) ((record { 0 = kept_before reached count }) ∷ []) ∙ omega (arith, rec)
 
-get_or-new_ids : (reached : List ℕ) (count number : ℕ) (d : TypeId) → number < count
+pub get_or-new_ids : (reached : List ℕ) (count number : ℕ) (d : TypeId) → number < count
     → (get_or (new_ids reached count) number d).0 ≡ kept_before reached number
 get_or-new_ids reached zero number d below = absurd (omega arith)
 get_or-new_ids reached (suc count) number d below =
@@ -54,11 +54,11 @@ get_or-new_ids reached (suc count) number d below =
 
 -- ---- a table that grows
 
-slice_get-seam : {A : Type 0} (xs : List A) (x : A) → slice_get (xs ++ x ∷ []) (length xs) ≡ Some x
+pub slice_get-seam : {A : Type 0} (xs : List A) (x : A) → slice_get (xs ++ x ∷ []) (length xs) ≡ Some x
 slice_get-seam [] x = refl
 slice_get-seam (y ∷ xs) x = slice_get-seam xs x
 
-same-longer : (own types : List TypeDef) (ids : List TypeId) (id : TypeId) (more : TypeDef) → IsSame own types ids id
+pub same-longer : (own types : List TypeDef) (ids : List TypeId) (id : TypeId) (more : TypeDef) → IsSame own types ids id
     → IsSame own (types ++ more ∷ []) ids id
 same-longer own types ids id more s =
     let within : (new_id ids id).0 < length types = slice_get_within types (new_id ids id).0 (renumbered ids s.there.unit s.one) s.there.at in
@@ -69,7 +69,7 @@ same-longer own types ids id more s =
       layout = get_or-given_by-front layout_by types (more ∷ []) (new_id ids id).0 (plain 0) within ∙ s.layout;
     }
 
-same-last : (own types : List TypeDef) (ids : List TypeId) (id : TypeId) (unit : ℕ) (one : TypeDef) → slice_get own id.0 ≡ Some one
+pub same-last : (own types : List TypeDef) (ids : List TypeId) (id : TypeId) (unit : ℕ) (one : TypeDef) → slice_get own id.0 ≡ Some one
     → (new_id ids id).0 ≡ length types → layout_by types (layouts_of types) (renumbered ids unit one) ≡ layout_at own id
     → IsSame own (types ++ renumbered ids unit one ∷ []) ids id
 same-last own types ids id unit one stands last layout =
@@ -86,7 +86,7 @@ same-last own types ids id unit one stands last layout =
 -- ---- the types that are kept
 
 -- those of the first types that are reached stand in a table under their new ids, and no others
-record IsKeptSo (own : Table) (reached : List ℕ) (ids : List TypeId) (table : Table) (number : ℕ) : Type 0 where
+pub record IsKeptSo (own : Table) (reached : List ℕ) (ids : List TypeId) (table : Table) (number : ℕ) : Type 0 where
   pub count : length table.types ≡ kept_before reached number
   pub same : (id : TypeId) → id.0 < number → is_in reached id.0 ≡ true → IsSame own.types table.types ids id
 
@@ -137,17 +137,17 @@ kept_past own table reached ids number out so = record {
   ];
 }
 
-origin_at : (own : Table) (number : ℕ) → IsWellFormed own → number < length own.types → (origin : Origin) × (slice_get own.origins number ≡ Some origin)
+pub origin_at : (own : Table) (number : ℕ) → IsWellFormed own → number < length own.types → (origin : Origin) × (slice_get own.origins number ≡ Some origin)
 origin_at own number well below =
     let d : Origin = record { unit = 0; number = 0 } in
     (get_or own.origins number d, slice_get-get_or own.origins number d (omega (arith, below, well.origins)))
 
-type_at : (own : Table) (number : ℕ) → number < length own.types → (one : TypeDef) × (slice_get own.types number ≡ Some one)
+pub type_at : (own : Table) (number : ℕ) → number < length own.types → (one : TypeDef) × (slice_get own.types number ≡ Some one)
 type_at own number below =
     let d : TypeDef = PointerTo (record { 0 = 0 }) in
     (get_or own.types number d, slice_get-get_or own.types number d below)
 
-kept_so : (own : Table) (reached : List ℕ) → IsWellFormed own → IsClosed own.types reached → (number : ℕ) → number ≤ length own.types
+pub kept_so : (own : Table) (reached : List ℕ) → IsWellFormed own → IsClosed own.types reached → (number : ℕ) → number ≤ length own.types
     → IsKeptSo own reached (new_ids reached (length own.types)) (kept own reached (new_ids reached (length own.types)) number) number
 kept_so own reached well closed zero within = record { count = refl; same = λ id below met. absurd (omega (arith, below)) }
 kept_so own reached well closed (suc number) within =

@@ -29,22 +29,22 @@ use Rattle.unit_interface.proofs.ReachLaws.{both_true}
 
 -- ---- equal bytes, equal keys
 
-same_itself : (xs : List ℕ) → same_bytes xs xs ≡ true
+pub same_itself : (xs : List ℕ) → same_bytes xs xs ≡ true
 same_itself [] = refl
 same_itself (x ∷ xs) = ap (λ (b : Bool). b && same_bytes xs xs) (eq-eqb x x refl) ∙ same_itself xs
 
-key_itself : (key : Key) → same_key key key ≡ true
+pub key_itself : (key : Key) → same_key key key ≡ true
 key_itself key = ap (λ (b : Bool). b && nat_eq key.number key.number) (same_itself key.unit) ∙ eq-eqb key.number key.number refl
 
 -- a name that is found stands there
-found_name : (units : List (List ℕ)) (unit : List ℕ) (place : ℕ) → position (same_bytes unit) units ≡ Some place
+pub found_name : (units : List (List ℕ)) (unit : List ℕ) (place : ℕ) → position (same_bytes unit) units ≡ Some place
     → (place < length units) × (get_or units place [] ≡ unit)
 found_name units unit place found =
     let f = position-Some (same_bytes unit) units place [] found in
     (f.0, sym (same_text unit (get_or units place []) (sym f.1)))
 
 -- what isn't found stands nowhere
-none_found : {A : Type 0} (p : A → Bool) (xs : List A) (k : ℕ) (x : A) → position p xs ≡ None → p x ≡ true → slice_get xs k ≡ Some x → ⊥
+pub none_found : {A : Type 0} (p : A → Bool) (xs : List A) (k : ℕ) (x : A) → position p xs ≡ None → p x ≡ true → slice_get xs k ≡ Some x → ⊥
 none_found {A} p xs k x none holds at = by (nat_lt (position_or_len p xs) (length xs)) refl none
   where
     by : (b : Bool) → nat_lt (position_or_len p xs) (length xs) ≡ b → (let o : Option ℕ = cond b (Some (position_or_len p xs)) None in o) ≡ None → ⊥
@@ -58,13 +58,13 @@ none_found {A} p xs k x none holds at = by (nat_lt (position_or_len p xs) (lengt
 -- ---- a further type
 
 -- units with a further one: it stands at its place, and the others stay
-record IsAdded (units : List (List ℕ)) (unit : List ℕ) (place : ℕ) (longer : List (List ℕ)) : Type 0 where
+pub record IsAdded (units : List (List ℕ)) (unit : List ℕ) (place : ℕ) (longer : List (List ℕ)) : Type 0 where
   pub at : get_or longer place [] ≡ unit
   pub within : place < length longer
   pub stay : (k : ℕ) → k < length units → get_or longer k [] ≡ get_or units k []
   pub more : length units ≤ length longer
 
-is_added : (units : List (List ℕ)) (unit : List ℕ) → IsAdded units unit (place_of units unit) (with_unit units unit)
+pub is_added : (units : List (List ℕ)) (unit : List ℕ) → IsAdded units unit (place_of units unit) (with_unit units unit)
 is_added units unit = by (position (same_bytes unit) units) refl
   where
     by : (o : Option ℕ) → position (same_bytes unit) units ≡ o → IsAdded units unit (unwrap_or o (length units)) (cond (is_some o) units (units ++ unit ∷ []))
@@ -78,7 +78,7 @@ is_added units unit = by (position (same_bytes unit) units) refl
       more = omega (arith, length-append units (unit ∷ []));
     }
 
-keys_stay : (units longer : List (List ℕ)) (origins : List Origin) → ((k : ℕ) → k < length units → get_or longer k [] ≡ get_or units k [])
+pub keys_stay : (units longer : List (List ℕ)) (origins : List Origin) → ((k : ℕ) → k < length units → get_or longer k [] ≡ get_or units k [])
     → All (λ (o : Origin). o.unit < length units) origins → map (key_of longer) origins ≡ map (key_of units) origins
 keys_stay units longer [] stay known = refl
 keys_stay units longer (origin ∷ origins) stay known =
@@ -88,7 +88,7 @@ keys_stay units longer (origin ∷ origins) stay known =
     ap (λ (k : Key). k ∷ map (key_of longer) origins) here
     ∙ ap (λ (ks : List Key). key_of units origin ∷ ks) (keys_stay units longer origins stay (All-tail (λ (o : Origin). o.unit < length units) origin origins known))
 
-keys_with : (table : Table) (unit : List ℕ) (number : ℕ) (one : TypeDef) → All (λ (o : Origin). o.unit < length table.units) table.origins
+pub keys_with : (table : Table) (unit : List ℕ) (number : ℕ) (one : TypeDef) → All (λ (o : Origin). o.unit < length table.units) table.origins
     → keys_of (with_type table unit number one) ≡ keys_of table ++ (record { unit = unit; number = number }) ∷ []
 keys_with table unit number one known =
     let longer : List (List ℕ) = with_unit table.units unit in
@@ -99,11 +99,11 @@ keys_with table unit number one known =
     ∙ ap (λ (u : List ℕ). keys_of table ++ (record { unit = u; number = number }) ∷ []) a.at
 
 -- no key stands twice
-abbrev AreApart : List Key → Type 0
+abbrev pub AreApart : List Key → Type 0
 AreApart keys = (one other : ℕ) (key : Key) → slice_get keys one ≡ Some key → slice_get keys other ≡ Some key → one ≡ other
 
 -- where a key stands in a list with a further one
-key_place : (keys : List Key) (last : Key) (k : ℕ) (key : Key) → slice_get (keys ++ last ∷ []) k ≡ Some key
+pub key_place : (keys : List Key) (last : Key) (k : ℕ) (key : Key) → slice_get (keys ++ last ∷ []) k ≡ Some key
     → (slice_get keys k ≡ Some key) ⊎ ((k ≡ length keys) × (last ≡ key))
 key_place [] last zero key at = inr (refl, cc)
 key_place [] last (suc k) key at = absurd (cc)
@@ -111,7 +111,7 @@ key_place (first ∷ keys) last zero key at = inl at
 key_place (first ∷ keys) last (suc k) key at =
     elim (key_place keys last k key at) [ inl before ↦ inl before | inr end ↦ inr (omega (arith, end.0), end.1) ]
 
-apart_push : (keys : List Key) (last : Key) → AreApart keys → position (same_key last) keys ≡ None → AreApart (keys ++ last ∷ [])
+pub apart_push : (keys : List Key) (last : Key) → AreApart keys → position (same_key last) keys ≡ None → AreApart (keys ++ last ∷ [])
 apart_push keys last apart none one other key at there =
     elim (key_place keys last one key at) [
       | inl here ↦ elim (key_place keys last other key there) [
@@ -124,7 +124,7 @@ apart_push keys last apart none one other key at there =
       ]
     ]
 
-keyed_with : (table : Table) (unit : List ℕ) (number : ℕ) (one : TypeDef) → IsKeyed table
+pub keyed_with : (table : Table) (unit : List ℕ) (number : ℕ) (one : TypeDef) → IsKeyed table
     → position (same_key (record { unit = unit; number = number })) (keys_of table) ≡ None → IsKeyed (with_type table unit number one)
 keyed_with table unit number one k none =
     let a = is_added table.units unit in
@@ -142,15 +142,15 @@ keyed_with table unit number one k none =
 -- ---- the types of another table
 
 -- keys with those of a list that are new
-abbrev known_after : List Key → List Key → List Key
+abbrev pub known_after : List Key → List Key → List Key
 known_after known [] = known
 known_after known (key ∷ keys) = known_after (with_key known key) keys
 
-after-push : (known keys : List Key) (key : Key) → known_after known (keys ++ key ∷ []) ≡ with_key (known_after known keys) key
+pub after-push : (known keys : List Key) (key : Key) → known_after known (keys ++ key ∷ []) ≡ with_key (known_after known keys) key
 after-push known [] key = refl
 after-push known (one ∷ keys) key = after-push (with_key known one) keys key
 
-id-at : (known keys : List Key) (number : ℕ) (key : Key) (d : TypeId) → slice_get keys number ≡ Some key
+pub id-at : (known keys : List Key) (number : ℕ) (key : Key) (d : TypeId) → slice_get keys number ≡ Some key
     → (get_or (ids_of known keys) number d).0 ≡ place_of_key (known_after known (take number keys)) key
 id-at known [] number key d at = cc
 id-at known (one ∷ keys) zero key d at =
@@ -159,20 +159,20 @@ id-at known (one ∷ keys) zero key d at =
 id-at known (one ∷ keys) (suc number) key d at = id-at (with_key known one) keys number key d at
 
 -- the first types of another table came into a table, and its keys with them
-record IsMergedSo (table other : Table) (number : ℕ) (now : Table) : Type 0 where
+pub record IsMergedSo (table other : Table) (number : ℕ) (now : Table) : Type 0 where
   pub keyed : IsKeyed now
   pub keys : keys_of now ≡ known_after (keys_of table) (take number (keys_of other))
 
-count_of : (table : Table) → IsKeyed table → length (keys_of table) ≡ length table.types
+pub count_of : (table : Table) → IsKeyed table → length (keys_of table) ≡ length table.types
 count_of table k = length-map table.origins (key_of table.units) ∙ k.paired
 
-key_at : (table : Table) (number : ℕ) (origin : Origin) → slice_get table.origins number ≡ Some origin
+pub key_at : (table : Table) (number : ℕ) (origin : Origin) → slice_get table.origins number ≡ Some origin
     → slice_get (keys_of table) number ≡ Some (key_of table.units origin)
 key_at table number origin from =
     slice_get-map (key_of table.units) table.origins number ∙ ap (option_map (key_of table.units)) from
 
 -- the keys after a further one
-keys-next : (table other : Table) (number : ℕ) (origin : Origin) → slice_get other.origins number ≡ Some origin
+pub keys-next : (table other : Table) (number : ℕ) (origin : Origin) → slice_get other.origins number ≡ Some origin
     → known_after (keys_of table) (take (suc number) (keys_of other))
     ≡ with_key (known_after (keys_of table) (take number (keys_of other))) (key_of other.units origin)
 keys-next table other number origin from =
@@ -262,7 +262,7 @@ merged_next table other now number one at so =
     by origin (Some place) found from = old_key table other now number place origin from found so
     by origin None none from = new_key table other now number one origin at from none so
 
-merged_so : (table other : Table) → IsKeyed table → (number : ℕ) → number ≤ length other.types
+pub merged_so : (table other : Table) → IsKeyed table → (number : ℕ) → number ≤ length other.types
     → IsMergedSo table other number (merged other (ids_in table other) table number)
 merged_so table other keyed zero within = record { keyed = keyed; keys = refl }
 merged_so table other keyed (suc number) within =
@@ -308,7 +308,7 @@ known_by count (origin ∷ origins) h =
     let both = both_true (nat_lt origin.unit count) (list_all (λ o. nat_lt o.unit count) origins) h in
     All-cons (λ (o : Origin). o.unit < count) origin origins (ltb-true origin.unit count both.0) (known_by count origins both.1)
 
-keyed_first : IsKeyed type_table
+pub keyed_first : IsKeyed type_table
 keyed_first =
     let numbered : AreNumbered 0 (keys_of type_table) =
     (refl, (refl, (refl, (refl, (refl, (refl, (refl, (refl, (refl, (refl, (refl, tt))))))))))) in

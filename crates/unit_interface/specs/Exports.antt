@@ -18,6 +18,7 @@ use Rattle.typed_tree.specs.declared.units.Unit.{Unit}
 use Rattle.unit_interface.specs.declared.interfaces.Interface.{Interface}
 use Rattle.unit_interface.specs.Order.{no_progress, visit}
 use Rattle.unit_interface.specs.Merge.{key_of, new_id, renumbered_header, added_type, with_listed}
+use Rattle.unit_interface.specs.Misfits.{is_enumeration}
 
 -- ---- the types that a declaration names, by their numbers
 
@@ -65,15 +66,25 @@ in_found None = []
 in_found (Some one) = in_type one
 
 -- The type behind an ordinal type of an enumeration is the set over the enumeration. It goes with the ordinal type, by which it is
--- known what that is a part of.
+-- known what that is a part of,
 abbrev pub behind : ℕ → TypeDef → List ℕ
 behind number (Ordinal host.Enumeration low high) = (number + 1) ∷ []
 behind number _ = []
 
--- the types that go with a type of a number: those that it names, and what is behind it
+-- and the ordinal type goes with the set: neither is shown without the other
+abbrev pub in_front : List TypeDef → ℕ → List ℕ
+in_front types zero = []
+in_front types (suc number) = cond (is_enumeration (slice_get types number)) (number ∷ []) []
+
+-- the types that a type of a number names, and what is behind it
 abbrev pub with_type : ℕ → Option TypeDef → List ℕ
 with_type number None = []
 with_type number (Some one) = in_type one ++ behind number one
+
+-- the types that go with a type of a number of a table: these, and what is in front of it
+abbrev pub goes_with : List TypeDef → ℕ → Option TypeDef → List ℕ
+goes_with types number None = []
+goes_with types number (Some one) = with_type number (Some one) ++ in_front types number
 
 abbrev pub is_in : List ℕ → ℕ → Bool
 is_in numbers number = list_any (nat_eq number) numbers
@@ -84,7 +95,7 @@ is_in numbers number = list_any (nat_eq number) numbers
 abbrev pub ReachedWithin : ℕ → List TypeDef → List Item → ℕ → Type 0
 ReachedWithin zero types items number = (is_in (in_items items) number ≡ true) × (number < length types)
 ReachedWithin (suc steps) types items number =
-    (by : ℕ) × ReachedWithin steps types items by × (is_in (with_type by (slice_get types by)) number ≡ true) × (number < length types)
+    (by : ℕ) × ReachedWithin steps types items by × (is_in (goes_with types by (slice_get types by)) number ≡ true) × (number < length types)
 
 -- the items reach a type of the table
 pub record IsReached (types : List TypeDef) (items : List Item) (number : ℕ) : Type 0 where
@@ -95,14 +106,14 @@ pub record IsReached (types : List TypeDef) (items : List Item) (number : ℕ) :
 abbrev pub known : ℕ → List ℕ → List ℕ
 known count numbers = filter (λ number. nat_lt number count) numbers
 
--- the types that go with each type, of those from a number on
-abbrev pub edges_from : ℕ → ℕ → List TypeDef → List (List ℕ)
-edges_from count number [] = []
-edges_from count number (one ∷ types) = known count (with_type number (Some one)) ∷ edges_from count (number + 1) types
+-- the types of a table that go with each type, of those from a number on
+abbrev pub edges_from : List TypeDef → ℕ → List TypeDef → List (List ℕ)
+edges_from table number [] = []
+edges_from table number (one ∷ types) = known (length table) (goes_with table number (Some one)) ∷ edges_from table (number + 1) types
 
 -- the types that go with each type, and behind them those that the items name
 abbrev pub type_edges : List TypeDef → List Item → List (List ℕ)
-type_edges types items = edges_from (length types) 0 types ++ known (length types) (in_items items) ∷ []
+type_edges types items = edges_from types 0 types ++ known (length types) (in_items items) ∷ []
 
 -- the types that a walk from the items meets, and behind them the number that stands for the items
 unfoldable pub reached : List TypeDef → List Item → List ℕ

@@ -8,7 +8,7 @@ use type_layout::{Name, Sequence, TypeId, Types};
 
 /// The unit that declares a type, and the type's number there.
 #[derive(Debug, Drop)]
-pub(crate) struct Key {
+pub struct Key {
     pub unit: Name,
     pub number: u32,
 }

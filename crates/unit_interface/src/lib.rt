@@ -17,6 +17,7 @@ mod visits;
 pub use edges::UsesOf;
 pub use exports::interface_of;
 pub use interfaces::Interface;
+pub use keys::Key;
 pub use merge::MergeError;
 pub use order::{Order, OrderError, initial_order};
 pub use resolving::{ResolveError, resolve, use_unit};

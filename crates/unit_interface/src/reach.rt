@@ -1,7 +1,8 @@
 //! The types that the items of a unit reach.
 
-ghost use Rattle.std.specs.Prelude.{◌≡◌, ◌++◌, ◌∷◌, [], Some, IfOk, OnOk, length};
-ghost use Rattle.unit_interface.specs.Exports.{in_option, in_params, in_header, in_fields, in_methods, in_type, behind, with_type, in_item, in_items, known, type_edges, reached};
+ghost use Rattle.std.specs.Prelude.{◌≡◌, ◌<◌, ◌++◌, ◌∷◌, [], Some, IfOk, OnOk, length, slice_get};
+ghost use Rattle.unit_interface.specs.Misfits.{is_enumeration};
+ghost use Rattle.unit_interface.specs.Exports.{in_option, in_params, in_header, in_fields, in_methods, in_type, behind, in_front, goes_with, in_item, in_items, known, type_edges, reached};
 
 use crate::edges::Places;
 use crate::visits::{Progress, visit};
@@ -119,6 +120,15 @@ fn known(alloc: Global, count: usize, numbers: &[usize]) -> Result<Places, Alloc
     Ok(some)
 }
 
+fn is_enumeration(one: &TypeDef) -> bool
+    ensures { result ≡ is_enumeration (Some one.now) }
+{
+    match one {
+        TypeDef::Ordinal { host, .. } => matches!(host, Host::Enumeration),
+        _ => false,
+    }
+}
+
 // Adds the type behind an ordinal type of an enumeration.
 fn add_behind(number: u32, one: &TypeDef, numbers: &mut Places) -> Result<(), AllocError>
     ensures { OnOk result (numbers.new ≡ numbers.old ++ behind number one.now) }
@@ -131,19 +141,28 @@ fn add_behind(number: u32, one: &TypeDef, numbers: &mut Places) -> Result<(), Al
     }
 }
 
-// The types that go with a type of a number.
-fn edges_of_type(
-    alloc: Global,
-    count: usize,
-    number: u32,
-    one: &TypeDef,
-) -> Result<Places, AllocError>
-    ensures { IfOk result (λ places. places ≡ known count (with_type number (Some one.now))) }
+// Adds the ordinal type of an enumeration that a type stands behind.
+fn add_in_front(types: &Types, number: u32, numbers: &mut Places) -> Result<(), AllocError>
+    requires known { number < length types.now.types }
+    ensures { OnOk result (numbers.new ≡ numbers.old ++ in_front types.now.types number) }
 {
+    if number > 0 && is_enumeration(types.get(TypeId(number - 1))) {
+        numbers.push(number as usize - 1)?;
+    }
+    Ok(())
+}
+
+// The types that go with the type of a number.
+fn edges_of_type(alloc: Global, types: &Types, number: u32) -> Result<Places, AllocError>
+    requires known { number < length types.now.types }
+    ensures { IfOk result (λ places. places ≡ known (length types.now.types) (goes_with types.now.types number (slice_get types.now.types number))) }
+{
+    let one = types.get(TypeId(number));
     let mut numbers = Places::new(alloc);
     add_type(one, &mut numbers)?;
     add_behind(number, one, &mut numbers)?;
-    known(alloc, count, numbers.as_slice())
+    add_in_front(types, number, &mut numbers)?;
+    known(alloc, types.count() as usize, numbers.as_slice())
 }
 
 fn edges_of_items(alloc: Global, count: usize, items: &[Item]) -> Result<Places, AllocError>
@@ -158,13 +177,12 @@ fn edges_of_items(alloc: Global, count: usize, items: &[Item]) -> Result<Places,
 fn type_edges(alloc: Global, types: &Types, items: &[Item]) -> Result<Vec<Places>, AllocError>
     ensures { IfOk result (λ edges. edges.items ≡ type_edges types.now.types items.now) }
 {
-    let count = types.count() as usize;
     let mut edges = Vec::new(alloc);
     for number in 0..types.count() {
-        let named = edges_of_type(alloc, count, number, types.get(TypeId(number)))?;
-        edges.push(named)?;
+        let beside = edges_of_type(alloc, types, number)?;
+        edges.push(beside)?;
     }
-    let named = edges_of_items(alloc, count, items)?;
+    let named = edges_of_items(alloc, types.count() as usize, items)?;
     edges.push(named)?;
     Ok(edges)
 }
