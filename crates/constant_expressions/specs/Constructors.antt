@@ -11,7 +11,7 @@ use Rattle.values.specs.Sets.{with_range}
 use Rattle.well_formed.specs.Fits.{definition}
 use Rattle.typing_rules.specs.declared.faults.Rule.TheVariants as rules
 use Rattle.typing_rules.specs.declared.sorts.Sort.{Sort}
-use Rattle.typing_rules.specs.Faults.{broken, not_yet}
+use Rattle.typing_rules.specs.Faults.{broken}
 use Rattle.typing_rules.specs.Judgements.{Judgement, makes, refuses, rule}
 use Rattle.typing_rules.specs.Selectors.{asking}
 use Rattle.typing_rules.specs.Sorts.{sort_of_type}
@@ -70,9 +70,9 @@ abbrev pub elements_with : List ℕ → List Span → List ℕ
 elements_with before [] = before
 elements_with before (one ∷ rest) = elements_with (with_range before (byte_of one.low.number) (byte_of one.high.number)) rest
 
--- a declaration of an enumeration adds the set over it, so that a type without one is not built yet
+-- the declaration of an enumeration adds the set over it, so that this is never told
 abbrev pub typed_set : Place → Option TypeId → List Span → Judgement Constant
-typed_set place None spans = refuses (not_yet place)
+typed_set place None spans = refuses (broken place rules.Listed)
 typed_set place (Some ty) spans = makes (set_constant ty (elements_with [] spans))
 
 -- the bounds of what a set is over

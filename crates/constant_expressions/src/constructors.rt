@@ -11,9 +11,7 @@ use scopes::SET_OF_BYTE;
 use set_rules::set_over;
 use std::alloc::{AllocError, Global};
 use type_layout::{Host, Place, TypeDef, TypeId, Types};
-use typing_rules::{
-    Refusal, Rule, Sort, are_of_one_host, broken, definition, not_yet, sort_of_type,
-};
+use typing_rules::{Refusal, Rule, Sort, are_of_one_host, broken, definition, sort_of_type};
 use values::sets::with_range;
 
 /// A constant in a set constructor: what it is, and its number if it is an ordinal.
@@ -135,7 +133,7 @@ fn set_by(
         return Err(Refusal::Because(broken(place, Rule::Listed)));
     }
     match over {
-        None => Err(Refusal::Because(not_yet(place))),
+        None => Err(Refusal::Because(broken(place, Rule::Listed))),
         Some(ty) => {
             let elements = elements_of(alloc, spans)?;
             set_constant(alloc, ty, elements.as_slice())

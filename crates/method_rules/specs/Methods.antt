@@ -14,7 +14,7 @@ use Rattle.scopes.specs.declared.members.Member.{Member}
 use Rattle.scopes.specs.Members.{narrow, member_of}
 use Rattle.scopes.specs.Environment.{Environment}
 use Rattle.typing_rules.specs.declared.faults.Rule.TheVariants as rules
-use Rattle.typing_rules.specs.Faults.{broken, not_yet}
+use Rattle.typing_rules.specs.Faults.{broken}
 use Rattle.typing_rules.specs.Judgements.{Judgement, makes, refuses, rule, either, part}
 use Rattle.typing_rules.specs.Joins.{IsLine, is_line}
 use Rattle.typing_rules.specs.Selectors.{asking}
@@ -63,9 +63,9 @@ routine_of number unit = record { unit = unit; number = number }
 abbrev pub routine_in : Environment → RoutineId → Option RoutineId
 routine_in g routine = option_map (routine_of routine.number) (unit_at g.units (slice_get g.types.units routine.unit))
 
--- methods of a unit that the scope does not name are not built yet
+-- a scope names the units that declare its types, so that this is never told
 abbrev pub routine_at : Place → Option RoutineId → Judgement RoutineId
-routine_at place None = refuses (not_yet place)
+routine_at place None = refuses (broken place rules.Selected)
 routine_at place (Some routine) = makes routine
 
 abbrev pub routine_named : Environment → Place → Method → Judgement RoutineId
@@ -73,7 +73,7 @@ routine_named g place method = routine_at place (routine_in g method.routine)
 
 -- a virtual method has a slot, so that this is never told
 abbrev pub callee_at : Place → Option ℕ → Judgement Callee
-callee_at place None = refuses (not_yet place)
+callee_at place None = refuses (broken place rules.Selected)
 callee_at place (Some slot) = makes (callee.Slot slot)
 
 -- A virtual method is the one that stands in its slot in the object's class as the call is made; any other is itself.

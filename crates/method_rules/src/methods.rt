@@ -12,7 +12,7 @@ use scopes::{Member, Scope, member_of};
 use std::alloc::Global;
 use type_layout::{Header, Method, Name, Place, RoutineId, TypeId, Types};
 use typed_tree::{Expr, PlaceExpr};
-use typing_rules::{Refusal, Rule, broken, definition, is_line, not_yet};
+use typing_rules::{Refusal, Rule, broken, definition, is_line};
 
 /// What a call runs: a routine, or the one in a slot of the object's class.
 #[derive(Clone, Copy, Debug, PartialEq, Eq)]
@@ -86,7 +86,7 @@ pub fn routine_named(scope: &Scope, place: Place, method: &Method) -> Result<Rou
     ensures { Gives routine_itself result (routine_named scope.now place method.now).run }
 {
     match routine_in(scope, method.routine) {
-        None => Err(Refusal::Because(not_yet(place))),
+        None => Err(Refusal::Because(broken(place, Rule::Selected))),
         Some(routine) => Ok(routine),
     }
 }
@@ -108,7 +108,7 @@ pub fn callee_of(
     let slot = slot_of(alloc, scope.types(), class, name)?;
     match slot {
         Some(slot) => Ok(Callee::Slot(slot)),
-        None => Err(Refusal::Because(not_yet(place))),
+        None => Err(Refusal::Because(broken(place, Rule::Selected))),
     }
 }
 

@@ -1,5 +1,5 @@
 -- Calls of standard procedures.
-use Rattle.std.specs.Prelude.{ℕ, ◌==◌, Bool, true, false, ◌&&◌, cond, List, [], ◌∷◌, ◌++◌, length, Option, Some, None}
+use Rattle.std.specs.Prelude.{ℕ, Bool, true, false, cond, List, [], ◌∷◌, ◌++◌, length, Option, Some, None}
 use Rattle.type_layout.specs.declared.definitions.TypeDef.{TypeDef}
 use Rattle.type_layout.specs.declared.texts.Place.{Place}
 use Rattle.typed_tree.specs.Expressions.{Expression, Load, Std}
@@ -8,7 +8,7 @@ use Rattle.typing_rules.specs.declared.faults.Fault.{Fault}
 use Rattle.typing_rules.specs.declared.faults.Rule.TheVariants as rules
 use Rattle.typing_rules.specs.declared.sorts.Sort.{Sort}
 use Rattle.typing_rules.specs.declared.sorts.Sort.TheVariants as sort
-use Rattle.typing_rules.specs.Faults.{broken, not_yet}
+use Rattle.typing_rules.specs.Faults.{broken}
 use Rattle.standard_rules.specs.declared.signatures.Want.TheVariants.{Integer}
 use Rattle.typing_rules.specs.Judgements.{Judgement, makes, refuses, rule, part, parts}
 use Rattle.typing_rules.specs.Sorts.{sort_of_type, sort_of}
@@ -20,7 +20,7 @@ use Rattle.standard_rules.specs.Standard.{Fits, fits, is_for_text, handed}
 use Rattle.procedure_rules.specs.declared.rows.Slot.{Slot}
 use Rattle.procedure_rules.specs.declared.rows.Slot.TheVariants.{Value, Pointer, Ordinal, Whole, Line, Link}
 use Rattle.procedure_rules.specs.declared.rows.Slots.{Slots}
-use Rattle.procedure_rules.specs.Rows.{listed, slots_of, is_procedure, is_allocation}
+use Rattle.procedure_rules.specs.Rows.{listed, slots_of, is_procedure}
 
 -- ---- one argument
 
@@ -67,14 +67,12 @@ by_slots types place _ _ = refuses (broken place rules.Called)
 
 -- ---- calls
 
--- What is told where no row has so many arguments: a procedure is called with others, and a function stands for a value alone. A
--- constructor or a destructor behind the pointer has rules of its own; to these it is a form that they don't have.
-abbrev pub unlisted : Place → ℕ → ℕ → Fault
-unlisted place number count =
-    cond (is_allocation number && count == 2) (not_yet place) (broken place (cond (is_procedure number) rules.Called rules.Stands))
+-- What is told where no row has so many arguments: a procedure is called with others, and a function stands for a value alone.
+abbrev pub unlisted : Place → ℕ → Fault
+unlisted place number = broken place (cond (is_procedure number) rules.Called rules.Stands)
 
 abbrev pub performed_by : List TypeDef → Place → ℕ → Option Slots → List Expression → Judgement Expression
-performed_by types place number None es = refuses (unlisted place number (length es))
+performed_by types place number None es = refuses (unlisted place number)
 performed_by types place number (Some slots) es = part (by_slots types place (listed slots) es) (λ all. makes (Std None number (arguments_of all)))
 
 -- the call of a standard procedure at a place

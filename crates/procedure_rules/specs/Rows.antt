@@ -56,7 +56,3 @@ is_listed (one ∷ all) number = one == number || is_listed all number
 -- whether a standard routine is a procedure
 abbrev pub is_procedure : ℕ → Bool
 is_procedure number = is_listed procedures number
-
--- New and Dispose, which may name a constructor or a destructor behind the pointer
-abbrev pub is_allocation : ℕ → Bool
-is_allocation number = number == 28 || number == 29

@@ -9,14 +9,14 @@ ghost use Rattle.call_rules.specs.Given.{view_handed};
 ghost use Rattle.procedure_rules.specs.Procedures.{is_pointer, holds, variable, taken, by_slots, unlisted, standard_performed, whole, told_number, told_into, told};
 ghost use Rattle.procedure_rules.specs.Rows.{listed};
 
-use crate::rows::{Slot, Slots, is_allocation, is_procedure, slots_of};
+use crate::rows::{Slot, Slots, is_procedure, slots_of};
 use call_rules::is_ordinal;
 use standard_rules::{Want, fits, handed, is_for_text};
 use std::alloc::Global;
 use type_layout::{Place, TypeId, Types};
 use typed_tree::{Arg, Expr, PlaceExpr, WriteItem};
 use typing_rules::{
-    Fault, Refusal, Rule, Sort, broken, is_integer, is_string, not_yet, sort_of, sort_of_type,
+    Fault, Refusal, Rule, Sort, broken, is_integer, is_string, sort_of, sort_of_type,
 };
 
 // The number of Str among the predeclared names.
@@ -123,12 +123,10 @@ fn by_count(
 }
 
 // What is told of a call with a number of arguments for which the table has no row.
-fn unlisted(place: Place, number: u32, count: usize) -> Fault
-    ensures { result ≡ unlisted place number count }
+fn unlisted(place: Place, number: u32) -> Fault
+    ensures { result ≡ unlisted place number }
 {
-    if is_allocation(number) && count == 2 {
-        not_yet(place)
-    } else if is_procedure(number) {
+    if is_procedure(number) {
         broken(place, Rule::Called)
     } else {
         broken(place, Rule::Stands)
@@ -148,7 +146,7 @@ pub fn standard_performed(
 {
     let count = values.len();
     let Some(slots) = slots_of(number, count) else {
-        return Err(Refusal::Because(unlisted(place, number, count)));
+        return Err(Refusal::Because(unlisted(place, number)));
     };
     let args = by_count(alloc, types, place, slots, values)?;
     Ok(Expr::Std {

@@ -1,7 +1,7 @@
 //! The table of the standard procedures.
 
 ghost use Rattle.std.specs.Prelude.{◌≡◌};
-ghost use Rattle.procedure_rules.specs.Rows.{count_of, slots_in, slots_of, is_listed, is_procedure, is_allocation};
+ghost use Rattle.procedure_rules.specs.Rows.{count_of, slots_in, slots_of, is_listed, is_procedure};
 
 use standard_rules::Want;
 
@@ -93,11 +93,4 @@ pub(crate) fn is_procedure(number: u32) -> bool
     ensures { result ≡ is_procedure number }
 {
     is_listed(&PROCEDURES, number)
-}
-
-/// New and Dispose, which may name a constructor or a destructor behind the pointer.
-pub(crate) fn is_allocation(number: u32) -> bool
-    ensures { result ≡ is_allocation number }
-{
-    number == 28 || number == 29
 }

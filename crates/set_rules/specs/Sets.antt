@@ -1,5 +1,5 @@
 -- Set constructors.
-use Rattle.std.specs.Prelude.{◌≡◌, ℤ, pos, Bool, true, ◌&&◌, List, [], ◌∷◌, Option, Some, None, map}
+use Rattle.std.specs.Prelude.{◌≡◌, pos, Bool, true, ◌&&◌, List, [], ◌∷◌, Option, Some, None, map}
 use Rattle.type_layout.specs.declared.definitions.TypeId.{TypeId}
 use Rattle.type_layout.specs.declared.definitions.Host.TheVariants as host
 use Rattle.type_layout.specs.declared.definitions.TypeDef.{TypeDef}
@@ -11,7 +11,7 @@ use Rattle.typed_tree.specs.declared.expressions.SetElement.TheVariants as eleme
 use Rattle.typed_tree.specs.Expressions.{Expression, Elements, Const, SetOf, NoElements, One, Span, view_expr}
 use Rattle.typing_rules.specs.declared.faults.Rule.TheVariants as rules
 use Rattle.typing_rules.specs.declared.sorts.Sort.{Sort}
-use Rattle.typing_rules.specs.Faults.{broken, not_yet}
+use Rattle.typing_rules.specs.Faults.{broken}
 use Rattle.typing_rules.specs.Judgements.{Judgement, makes, refuses, rule}
 use Rattle.typing_rules.specs.Selectors.{asking}
 use Rattle.typing_rules.specs.Sorts.{sort_of}
@@ -84,9 +84,9 @@ first_sort types [] = None
 first_sort types (single e ∷ items) = Some (sort_of types e)
 first_sort types (span low high ∷ items) = Some (sort_of types low)
 
--- a declaration of an enumeration adds the set over it, so that a type without one is not built yet
+-- the declaration of an enumeration adds the set over it, so that this is never told
 abbrev pub typed_set : Place → Option TypeId → List Item → Judgement Expression
-typed_set place None items = refuses (not_yet place)
+typed_set place None items = refuses (broken place rules.Listed)
 typed_set place (Some ty) items = makes (SetOf ty (elements_of items))
 
 abbrev pub constructed_by : List TypeDef → Place → Bool → Option Sort → List Item → Judgement Expression

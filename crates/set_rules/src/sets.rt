@@ -10,7 +10,7 @@ use scopes::SET_OF_BYTE;
 use std::alloc::Global;
 use type_layout::{Host, Place, Types};
 use typed_tree::{Expr, SetElement, Value};
-use typing_rules::{Refusal, Rule, Sort, are_of_one_host, broken, not_yet, ranged, sort_of};
+use typing_rules::{Refusal, Rule, Sort, are_of_one_host, broken, ranged, sort_of};
 
 // A constant lies in 0..255.
 fn is_small(expr: &Expr) -> bool
@@ -106,7 +106,7 @@ fn constructed_over(
         return Err(Refusal::Because(broken(place, Rule::Listed)));
     }
     match set_over(types, sort) {
-        None => Err(Refusal::Because(not_yet(place))),
+        None => Err(Refusal::Because(broken(place, Rule::Listed))),
         Some(ty) => {
             let elements = ranged_items(alloc, checked, items)?;
             Ok(Expr::SetOf { ty, elements })

@@ -1,5 +1,5 @@
 -- Calls and set constructors with their parts in vectors.
-use Rattle.std.proofs.Common.{◌≡◌, Result, Ok, Err, ap, refl, ◌∙◌, Vec, Global}
+use Rattle.std.proofs.Common.{◌≡◌, Result, Ok, ap, refl, ◌∙◌, Vec, Global}
 use Rattle.pascal_grammar.specs.declared.lexeme.Position.{Position}
 use Rattle.syntax_tree.specs.declared.expression.Argument.{Argument}
 use Rattle.syntax_tree.specs.declared.expression.Element.{Element}

@@ -1,5 +1,5 @@
 -- Expressions are judged lawfully.
-use Rattle.std.proofs.Common.{ℕ, Bool, true, false, not, cond, List, [], Option, Some, None}
+use Rattle.std.proofs.Common.{ℕ, Bool, not, List, [], Option, Some, None}
 use Rattle.type_layout.specs.declared.definitions.TypeId.{TypeId}
 use Rattle.type_layout.specs.declared.definitions.TypeDef.{TypeDef}
 use Rattle.type_layout.specs.declared.definitions.RoutineId.{RoutineId}
@@ -16,7 +16,7 @@ use Rattle.tp_lexer.specs.declared.token.Feature.{Feature}
 use Rattle.left_out_names.specs.Names.{feature_of}
 use Rattle.typing_rules.specs.declared.faults.Rule.TheVariants as rules
 use Rattle.typing_rules.specs.Faults.{broken}
-use Rattle.typing_rules.specs.Judgements.{Judgement, makes, refuses, either, part, parts}
+use Rattle.typing_rules.specs.Judgements.{Judgement, makes, refuses, part, parts}
 use Rattle.typing_rules.specs.Selectors.{selected, indexed, followed}
 use Rattle.typing_rules.specs.Laws.{Lawful}
 use Rattle.typing_rules.proofs.JudgementLaws.{lawful_makes, lawful_refuses, lawful_either, lawful_part, lawful_parts}
@@ -31,9 +31,9 @@ use Rattle.set_rules.proofs.SetLaws.{lawful_constructed}
 use Rattle.method_rules.specs.Methods.{Bound, bound}
 use Rattle.method_rules.proofs.MethodLaws.{lawful_bound, lawful_inherited}
 use Rattle.method_rules.proofs.MethodLaws as methods
-use Rattle.procedural_rules.specs.Through.{Held, held_routine}
+use Rattle.procedural_rules.specs.Through.{held_routine}
 use Rattle.procedural_rules.proofs.ProceduralLaws.{lawful_held_routine, lawful_called_through, lawful_settled, lawful_routine_value}
-use Rattle.allocation_rules.specs.Allocations.{Maker, constructor, blank}
+use Rattle.allocation_rules.specs.Allocations.{constructor, blank}
 use Rattle.allocation_rules.proofs.AllocationLaws.{lawful_constructor, lawful_made, lawful_newly, lawful_blank}
 use Rattle.tp_check_expr.specs.declared.names.Purpose.{Purpose}
 use Rattle.tp_check_expr.specs.declared.names.Purpose.TheVariants as purpose

@@ -2,7 +2,6 @@
 use Rattle.std.specs.Prelude.{◌≡◌, ◌⊎◌, ℕ, Option, Some, None, Result, Ok, Err}
 use Rattle.type_layout.specs.declared.texts.Place.{Place}
 use Rattle.tp_lexer.specs.declared.token.Feature.{Feature}
-use Rattle.tp_lexer.specs.declared.token.Feature.TheVariants as feature
 use Rattle.typing_rules.specs.declared.faults.Rule.{Rule}
 use Rattle.typing_rules.specs.declared.faults.Rule.TheVariants as rule
 use Rattle.typing_rules.specs.declared.faults.Cause.{Cause}
@@ -95,15 +94,12 @@ IsAnswered view c (Ok x) = view x ≡ c
 IsAnswered view c (Err NoMemory) = Unit {0}
 IsAnswered view c (Err _) = ⊥
 
--- a construct that breaks a rule; one of a feature that is left out; one whose form is not built yet; one of too many bytes
+-- a construct that breaks a rule; one of a feature that is left out; one of too many bytes
 abbrev pub broken : Place → Rule → Fault
 broken place rule = record { place = place; cause = cause.Breaks rule }
 
 abbrev pub left_out : Place → Feature → Fault
 left_out place one = record { place = place; cause = cause.LeftOut one }
-
-abbrev pub not_yet : Place → Fault
-not_yet place = left_out place feature.NotYet
 
 abbrev pub too_large : Place → ℕ → Fault
 too_large place bytes = record { place = place; cause = cause.TooLarge bytes }

@@ -1,7 +1,7 @@
 //! Why a source is not typed.
 
 ghost use Rattle.std.specs.Prelude.{◌≡◌};
-ghost use Rattle.typing_rules.specs.Faults.{number_of, broken_error, error_of, error_for, broken, left_out, not_yet, too_large, undeclared};
+ghost use Rattle.typing_rules.specs.Faults.{number_of, broken_error, error_of, error_for, broken, left_out, too_large, undeclared};
 ghost use Rattle.typing_rules.specs.declared.faults.Refusal.TheVariants.{NoMemory};
 
 use std::alloc::{AllocError, AllocFailed};
@@ -240,13 +240,6 @@ pub fn left_out(place: Place, feature: Feature) -> Fault
         place,
         cause: Cause::LeftOut(feature),
     }
-}
-
-/// What a construct at a place is refused for whose form is not built yet.
-pub fn not_yet(place: Place) -> Fault
-    ensures { result ≡ not_yet place }
-{
-    left_out(place, Feature::NotYet)
 }
 
 /// What a construct at a place is refused for whose bytes pass what may be, or how deep it is nested.

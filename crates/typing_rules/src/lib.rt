@@ -13,8 +13,8 @@ mod wanting;
 
 pub use assignments::{assigned, assigned_by, is_assignable, is_procedural, is_string, ranged};
 pub use faults::{
-    Cause, CheckError, Fault, Refusal, Rule, broken, error_for, error_of, left_out, not_yet,
-    too_large, undeclared,
+    Cause, CheckError, Fault, Refusal, Rule, broken, error_for, error_of, left_out, too_large,
+    undeclared,
 };
 pub use joins::{is_below, is_line, is_of_type};
 pub use laws::rule_laws;
