@@ -10,4 +10,4 @@ step g n before more kind a b e =
     a ∙ ap (λ (k : Option BlockKind). later_method k n before) b ∙ ap (λ (m : Option ℕ). later_method (kind_of g n) n m) e ∙ sym (ap (λ (m : ℕ). method_before g m) (add-one n))
 
 pub loop-number-preserved : goal.loop-number-preserved
-loop-number-preserved c = step c.args.scope.now c.loop-number.number c.loop-number.method _ _ c.later_method.ensures c.block.ensures c.loop-number.invariant
+loop-number-preserved c = step c.args.scope.now c.loop-number.number c.loop-number.method _ _ c.later_method-method.ensures c.block.ensures c.loop-number.invariant
