@@ -3,7 +3,7 @@ use Rattle.std.proofs.Common.{◌≡◌, ◌≤◌, ◌<◌, ◌^◌, ◌==◌, 
 use Rattle.std.specs.List.{sum_by}
 use Rattle.std.specs.Prelude.{slice_get}
 use Rattle.std.proofs.lemmas.List.{take_all}
-use Rattle.std.proofs.lemmas.List.Sums.{sum_by-append, sum_by-cons}
+use Rattle.std.proofs.lemmas.List.Sums.{sum_by-append}
 use Rattle.type_layout.specs.declared.definitions.Origin.{Origin}
 use Rattle.type_denoters.specs.Additions.{one_of}
 
@@ -22,7 +22,7 @@ pub next_count : (place : ℕ) (origins : List Origin) (number count : ℕ) (one
 next_count place origins number count one at is =
     rw (add-one, take-next origins number one at, sum_by-append (one_of place) (take number origins) (one ∷ []), is) (omega arith)
 
-at_most_one : (b : Bool) → (let n : ℕ = cond b 1 0 in n) ≤ 1
+at_most_one : (b : Bool) → cond b 1 0 ≤ 1
 at_most_one true = omega arith
 at_most_one false = omega arith
 
@@ -30,10 +30,11 @@ at_most_one false = omega arith
 at_most : (place : ℕ) (origins : List Origin) → sum_by (one_of place) origins ≤ length origins
 at_most place [] = omega arith
 at_most place (origin ∷ origins) =
+    let step : sum_by (one_of place) (origin ∷ origins) ≡ sum_by (one_of place) (origin ∷ []) + sum_by (one_of place) origins = sum_by-append (one_of place) (origin ∷ []) origins in
+    let alone : sum_by (one_of place) (origin ∷ []) ≡ 0 + one_of place origin = refl in
     let first : one_of place origin ≤ 1 = at_most_one (origin.unit == place) in
-    let rest : sum_by (one_of place) origins ≤ length origins = at_most place origins in
-    let sum : sum_by (one_of place) (origin ∷ origins) ≡ one_of place origin + sum_by (one_of place) origins = sum_by-cons (one_of place) origin origins in
-    omega (arith, first, rest, sum)
+    let rest = at_most place origins in
+    omega (arith, step, alone, first, rest)
 
 -- all are looked at, and 32 bits hold how many there are
 pub whole_count : (place : ℕ) (origins : List Origin) (number count : ℕ) → length origins ≤ number → length origins < 2 ^ 32
@@ -41,5 +42,4 @@ pub whole_count : (place : ℕ) (origins : List Origin) (number count : ℕ) →
     → count ≡ sum_by (one_of place) origins
 whole_count place origins number count past few is =
     let all : count ≡ min (sum_by (one_of place) origins) 4294967295 = is ∙ ap (λ (all : List Origin). min (sum_by (one_of place) all) 4294967295) (take_all number origins past) in
-    let most : sum_by (one_of place) origins ≤ length origins = at_most place origins in
-    omega (arith, all, few, most)
+    omega (arith, all, few, at_most place origins)
