@@ -1,5 +1,5 @@
 -- Tables that only grow.
-use Rattle.std.proofs.Common.{◌≡◌, ◌∙◌, ℕ, zero, suc, ◌<◌, ◌≤◌, true, false, List, [], ◌∷◌, ◌++◌, Option, Some, None, length, refl, sym, ap, subst, arith, append_assoc, append-nil, length-append}
+use Rattle.std.proofs.Common.{◌≡◌, ◌∙◌, ℕ, zero, suc, ◌<◌, ◌≤◌, Bool, true, false, List, [], ◌∷◌, ◌++◌, Option, Some, None, length, refl, sym, ap, subst, arith, append_assoc, append-nil, length-append}
 use Rattle.std.specs.Prelude.{position, slice_get}
 use Rattle.std.proofs.lemmas.List.Elements.{All-push, All-weaker}
 use Rattle.std.proofs.lemmas.List.Quantifiers.{position-Some}
@@ -118,7 +118,7 @@ pub declares_none : (unit : List ℕ) (before after : Table) → after ≡ befor
 declares_none unit before after same = record { types = []; is = same; followed = λ place is. absurd (none place is); methods = λ place one at. absurd (nothing place one at) }
   where
     none : (place : ℕ) → is_enumeration (slice_get [] place) ≡ true → ⊥
-    none place is = cc
+    none place is = let bad : false ≡ true = is in cc
 
     nothing : (place : ℕ) (one : TypeDef) → slice_get [] place ≡ Some one → ⊥
     nothing place one at = cc
@@ -134,12 +134,15 @@ declares_both unit one two three first second = record {
 same_kind : (one found : TypeDef) → Some one ≡ Some found → IsOfOneUnit one → IsOfOneUnit found
 same_kind one found same h = let is : one ≡ found = cc in subst IsOfOneUnit is h
 
+not_both : (b : Bool) → b ≡ true → b ≡ false → ⊥
+not_both b yes no = cc
+
 declares_one : (unit : List ℕ) (table : Table) (one : TypeDef) → is_enumeration (Some one) ≡ false → IsOfOneUnit one → Declares unit table (with_type table unit (count_of table unit) one)
 declares_one unit table one other whole = record { types = one ∷ []; is = refl; followed = at; methods = of }
   where
     at : AreFollowed (one ∷ [])
-    at zero is = absurd (cc)
-    at (suc place) is = absurd (cc)
+    at zero is = absurd (not_both (is_enumeration (Some one)) is other)
+    at (suc place) is = let bad : false ≡ true = is in absurd (cc)
 
     of : AreOfOneUnit (one ∷ [])
     of zero found is = same_kind one found is whole
@@ -152,8 +155,8 @@ declares_two unit table one two other whole behind = record { types = one ∷ tw
   where
     at : AreFollowed (one ∷ two ∷ [])
     at zero is = omega arith
-    at (suc zero) is = absurd (cc)
-    at (suc (suc place)) is = absurd (cc)
+    at (suc zero) is = absurd (not_both (is_enumeration (Some two)) is other)
+    at (suc (suc place)) is = let bad : false ≡ true = is in absurd (cc)
 
     of : AreOfOneUnit (one ∷ two ∷ [])
     of zero found is = same_kind one found is whole
