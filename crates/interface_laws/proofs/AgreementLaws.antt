@@ -26,7 +26,8 @@ use Rattle.tp_check_decl.specs.Shown.{with_nothing_else, Shows}
 use Rattle.tp_check_decl.specs.Checked.{judged}
 use Rattle.tp_check_decl.proofs.UsedLaws.{used_is}
 use Rattle.interface_laws.specs.Agreement.{IsPaired, IsClosed, IsShownBy, further_units}
-use Rattle.interface_laws.proofs.Growing.{Grows, then, GrowsTo, unchanged, next}
+use Rattle.interface_laws.specs.Declared.{Declares}
+use Rattle.interface_laws.proofs.Growing.{Grows, then, declares_none, GrowsTo, grown, unchanged, next}
 use Rattle.interface_laws.proofs.RoutinesGrow.{part_of_grows, heading_grows, all_grow, same_stage, same_draft}
 use Rattle.interface_laws.proofs.UsesGrow.{used_grows, uses_names}
 use Rattle.interface_laws.proofs.Shorter.{known_below, known_past, is_none, longer, is_reached_less, is_reached_more, reached_stays, same_types, same_shown}
@@ -118,26 +119,26 @@ shown_by name front items body g outer d unit grows grown h closed interface =
 
 -- ---- interface parts
 
-declared_grows : (unit : List ℕ) (s : Stage) (one : InterfaceDeclaration) (made : Stage) → (declared unit s one).holds made → GrowsTo s.draft.scope made.draft.scope
+declared_grows : (unit : List ℕ) (s : Stage) (one : InterfaceDeclaration) (made : Stage) → (declared unit s one).holds made → GrowsTo unit s.draft.scope made.draft.scope
 declared_grows unit s (i.Part one) made e = part_of_grows unit unit_site s one made e
-declared_grows unit s (i.Header one) made e = same_stage s.draft.scope made _ e.made (heading_grows true unit_site s.draft one e.part e.holds)
+declared_grows unit s (i.Header one) made e = same_stage unit s.draft.scope made _ e.made (heading_grows unit true unit_site s.draft one e.part e.holds)
 
-declared_grow : (unit : List ℕ) (s : Stage) (all : List InterfaceDeclaration) (made : Stage) → (all_declared unit s all).holds made → GrowsTo s.draft.scope made.draft.scope
-declared_grow unit s [] made e = same_stage s.draft.scope made s e (unchanged s.draft.scope _ refl refl)
+declared_grow : (unit : List ℕ) (s : Stage) (all : List InterfaceDeclaration) (made : Stage) → (all_declared unit s all).holds made → GrowsTo unit s.draft.scope made.draft.scope
+declared_grow unit s [] made e = same_stage unit s.draft.scope made s e (unchanged unit s.draft.scope _ refl refl)
 declared_grow unit s (one ∷ rest) made e =
-    next s.draft.scope e.part.draft.scope made.draft.scope (declared_grows unit s one e.part e.holds) (declared_grow unit e.part rest made e.made)
+    next unit s.draft.scope e.part.draft.scope made.draft.scope (declared_grows unit s one e.part e.holds) (declared_grow unit e.part rest made e.made)
 
-interface_grows : (name : List ℕ) (g : Environment) (all : List InterfaceDeclaration) (d : Drafted) → (interface_judged name g all).holds d → GrowsTo g d.scope
+pub interface_grows : (name : List ℕ) (g : Environment) (all : List InterfaceDeclaration) (d : Drafted) → (interface_judged name g all).holds d → GrowsTo name g d.scope
 unfolding interface_judged
 interface_grows name g all d e =
     let start = (empty_draft g).scope in
-    same_draft g d e.part.draft e.made (next g start e.part.draft.scope (unchanged g start refl refl) (declared_grow name (stage (empty_draft g) []) all e.part e.holds))
+    same_draft name g d e.part.draft e.made (next name g start e.part.draft.scope (unchanged name g start refl refl) (declared_grow name (stage (empty_draft g) []) all e.part e.holds))
 
-read_grows : (name : List ℕ) (g : Environment) (all : Works) (d : Drafted) → (declarations_judged name g all).holds d → GrowsTo g d.scope
+pub read_grows : (name : List ℕ) (g : Environment) (all : Works) (d : Drafted) → (declarations_judged name g all).holds d → GrowsTo name g d.scope
 unfolding declarations_judged
 read_grows name g all d e =
     let start = (empty_draft g).scope in
-    same_draft g d e.part.draft e.made (next g start e.part.draft.scope (unchanged g start refl refl) (all_grow name unit_site (stage (empty_draft g) []) all e.part e.holds))
+    same_draft name g d e.part.draft e.made (next name g start e.part.draft.scope (unchanged name g start refl refl) (all_grow name unit_site (stage (empty_draft g) []) all e.part e.holds))
 
 pub agree : (name : List ℕ) (says : Directives) (g : Environment) (have : List Interface) (tree : Tree) (unit : Whole) → IsPaired g.types → (judged name says g have tree).holds unit
     → IsShownBy name says g tree unit
@@ -147,7 +148,7 @@ agree name says g have (t.Program heading uses all body) unit paired h =
     record {
       outline = whole name f.part g [] [] [] None;
       holds = record { part = f.part; holds = f.holds; made = refl };
-      same = shown_by name f.part [] (Some body) g [] d.part unit (read_grows name g (view_declarations all.items) d.part d.holds).table paired d.made;
+      same = shown_by name f.part [] (Some body) g [] d.part unit (grown name g d.part.scope (read_grows name g (view_declarations all.items) d.part d.holds)) paired d.made;
     }
 agree name says g have (t.Unit here own uses outer interface all body) unit paired h =
     let i = h.made in
@@ -156,11 +157,11 @@ agree name says g have (t.Unit here own uses outer interface all body) unit pair
     let s = u.made in
     let first = interface_grows name g interface.items d i.holds in
     let last = all_grow name unit_site (stage (knowing d u.part) []) (view_declarations all.items) s.part s.holds in
-    let grows = then d.scope.types u.part.types s.part.draft.scope.types (used_grows have d.scope (drop outer uses.items) u.part u.holds) last.table in
+    let grows = then d.scope.types u.part.types s.part.draft.scope.types (used_grows have d.scope (drop outer uses.items) u.part u.holds) (grown name u.part s.part.draft.scope last) in
     record {
       outline = whole name h.part d.scope (items_of d.scope) d.globals [] None;
       holds = record { part = h.part; holds = h.holds; made = record { part = d; holds = i.holds; made = refl } };
-      same = shown_by name h.part (items_of d.scope) body d.scope d.globals s.part.draft unit grows (first.table.pairs paired) s.made;
+      same = shown_by name h.part (items_of d.scope) body d.scope d.globals s.part.draft unit grows ((grown name g d.scope first).pairs paired) s.made;
     }
 
 -- the names of a unit are those of the scope at its end
@@ -186,3 +187,9 @@ keep_names name says g have (t.Unit here own uses outer interface all body) unit
     ∙ last.names
     ∙ ap (λ (k : Environment). k.units) (used_is have d.scope (drop outer uses.items) u.part u.holds)
     ∙ uses_names have d.scope g names first.names
+
+pub declare : (name : List ℕ) (says : Directives) (g : Environment) (tree : Tree) (unit : Whole) → (outlined name says g tree).holds unit → Declares name g.types unit.types
+declare name says g (t.Program heading uses all body) unit h = declares_none name g.types unit.types (ap (λ (w : Whole). w.types) h.made)
+declare name says g (t.Unit here own uses outer interface all body) unit h =
+    let i = h.made in
+    subst (λ (table : Table). Declares name g.types table) (sym (ap (λ (w : Whole). w.types) i.made)) (interface_grows name g interface.items i.part i.holds).declares

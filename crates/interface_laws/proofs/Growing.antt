@@ -1,6 +1,6 @@
 -- Tables that only grow.
-use Rattle.std.proofs.Common.{◌≡◌, ◌∙◌, ℕ, ◌<◌, ◌≤◌, List, [], ◌∷◌, ◌++◌, Option, Some, None, length, refl, sym, ap, subst, arith, append_assoc, append-nil, length-append}
-use Rattle.std.specs.Prelude.{position}
+use Rattle.std.proofs.Common.{◌≡◌, ◌∙◌, ℕ, zero, suc, ◌<◌, ◌≤◌, true, false, List, [], ◌∷◌, ◌++◌, Option, Some, None, length, refl, sym, ap, subst, arith, append_assoc, append-nil, length-append}
+use Rattle.std.specs.Prelude.{position, slice_get}
 use Rattle.std.proofs.lemmas.List.Elements.{All-push, All-weaker}
 use Rattle.std.proofs.lemmas.List.Quantifiers.{position-Some}
 use Rattle.type_layout.specs.declared.definitions.TypeDef.{TypeDef}
@@ -8,7 +8,10 @@ use Rattle.type_layout.specs.declared.definitions.Origin.{Origin}
 use Rattle.type_layout.specs.Words.{same_bytes}
 use Rattle.type_layout.specs.Table.{Table, place_of, with_unit, with_type}
 use Rattle.scopes.specs.Environment.{Environment}
+use Rattle.unit_interface.specs.Misfits.{is_enumeration}
+use Rattle.type_denoters.specs.Additions.{count_of, with_type_of}
 use Rattle.interface_laws.specs.Agreement.{IsPaired}
+use Rattle.interface_laws.specs.Declared.{with_declared, AreFollowed, Declares}
 
 -- a table with further types, in which each has its origin if each had in the first
 pub record Grows (before after : Table) : Type 0 where
@@ -83,18 +86,83 @@ adds table origin number one =
       };
     }
 
+-- ---- what a unit declares
+
+pub declared_grows : (unit : List ℕ) (table : Table) (types : List TypeDef) → Grows table (with_declared unit table types)
+declared_grows unit table [] = stays table
+declared_grows unit table (one ∷ rest) =
+    let next = with_type table unit (count_of table unit) one in
+    then table next (with_declared unit next rest) (adds table unit (count_of table unit) one) (declared_grows unit next rest)
+
+pub with_both : (unit : List ℕ) (table : Table) (first second : List TypeDef) → with_declared unit table (first ++ second) ≡ with_declared unit (with_declared unit table first) second
+with_both unit table [] second = refl
+with_both unit table (one ∷ rest) second = with_both unit (with_type table unit (count_of table unit) one) rest second
+
+followed_tail : (one : TypeDef) (rest : List TypeDef) → AreFollowed (one ∷ rest) → AreFollowed rest
+followed_tail one rest all place is = omega (arith, all (suc place) is)
+
+followed_behind : (one : TypeDef) (first second : List TypeDef) → AreFollowed (one ∷ first) → AreFollowed (first ++ second) → AreFollowed (one ∷ (first ++ second))
+followed_behind one first second all rest zero is = omega (arith, all zero is, length-append first second)
+followed_behind one first second all rest (suc place) is = omega (arith, rest place is)
+
+followed_both : (first second : List TypeDef) → AreFollowed first → AreFollowed second → AreFollowed (first ++ second)
+followed_both [] second one two = two
+followed_both (x ∷ first) second one two = followed_behind x first second one (followed_both first second (followed_tail x first one) two)
+
+pub declares_none : (unit : List ℕ) (before after : Table) → after ≡ before → Declares unit before after
+declares_none unit before after same = record { types = []; is = same; followed = λ place is. absurd (none place is) }
+  where
+    none : (place : ℕ) → is_enumeration (slice_get [] place) ≡ true → ⊥
+    none place is = cc
+
+declares_both : (unit : List ℕ) (one two three : Table) → Declares unit one two → Declares unit two three → Declares unit one three
+declares_both unit one two three first second = record {
+  types = first.types ++ second.types;
+  is = second.is ∙ ap (λ (table : Table). with_declared unit table second.types) first.is ∙ sym (with_both unit one first.types second.types);
+  followed = followed_both first.types second.types first.followed second.followed;
+}
+
+declares_one : (unit : List ℕ) (table : Table) (one : TypeDef) → is_enumeration (Some one) ≡ false → Declares unit table (with_type table unit (count_of table unit) one)
+declares_one unit table one other = record { types = one ∷ []; is = refl; followed = at }
+  where
+    at : AreFollowed (one ∷ [])
+    at zero is = absurd (cc)
+    at (suc place) is = absurd (cc)
+
+-- any type, and another one behind it
+declares_two : (unit : List ℕ) (table : Table) (one two : TypeDef) → is_enumeration (Some two) ≡ false
+    → (let next : Table = with_type table unit (count_of table unit) one in Declares unit table (with_type next unit (count_of next unit) two))
+declares_two unit table one two other = record { types = one ∷ two ∷ []; is = refl; followed = at }
+  where
+    at : AreFollowed (one ∷ two ∷ [])
+    at zero is = omega arith
+    at (suc zero) is = absurd (cc)
+    at (suc (suc place)) is = absurd (cc)
+
 -- ---- what is known
 
--- the table grew, and the names of units are the same
-pub record GrowsTo (g h : Environment) : Type 0 where
-  pub table : Grows g.types h.types
+-- the table has what the unit declares besides, and the names of units are the same
+pub record GrowsTo (unit : List ℕ) (g h : Environment) : Type 0 where
+  pub declares : Declares unit g.types h.types
   pub names : h.units ≡ g.units
 
-pub unchanged : (g h : Environment) → h.types ≡ g.types → h.units ≡ g.units → GrowsTo g h
-unchanged g h same named = let P : Table → Type 0 = λ t. Grows g.types t in record { table = subst P (sym same) (stays g.types); names = named }
+-- so the table grew
+pub grown : (unit : List ℕ) (g h : Environment) → GrowsTo unit g h → Grows g.types h.types
+grown unit g h grows = subst (λ (table : Table). Grows g.types table) (sym grows.declares.is) (declared_grows unit g.types grows.declares.types)
 
-pub same_table : (g h k : Environment) → k ≡ h → GrowsTo g h → GrowsTo g k
-same_table g h k e grows = let P : Environment → Type 0 = λ x. GrowsTo g x in subst P (sym e) grows
+pub unchanged : (unit : List ℕ) (g h : Environment) → h.types ≡ g.types → h.units ≡ g.units → GrowsTo unit g h
+unchanged unit g h same named = record { declares = declares_none unit g.types h.types same; names = named }
 
-pub next : (g h k : Environment) → GrowsTo g h → GrowsTo h k → GrowsTo g k
-next g h k one two = record { table = then g.types h.types k.types one.table two.table; names = two.names ∙ one.names }
+pub same_table : (unit : List ℕ) (g h k : Environment) → k ≡ h → GrowsTo unit g h → GrowsTo unit g k
+same_table unit g h k e grows = let P : Environment → Type 0 = λ x. GrowsTo unit g x in subst P (sym e) grows
+
+pub next : (unit : List ℕ) (g h k : Environment) → GrowsTo unit g h → GrowsTo unit h k → GrowsTo unit g k
+next unit g h k one two = record { declares = declares_both unit g.types h.types k.types one.declares two.declares; names = two.names ∙ one.names }
+
+-- a type is added, which is no ordinal type of an enumeration
+pub one_more : (unit : List ℕ) (g : Environment) (one : TypeDef) → is_enumeration (Some one) ≡ false → GrowsTo unit g (with_type_of unit g one)
+one_more unit g one other = record { declares = declares_one unit g.types one other; names = refl }
+
+-- or any type with another one behind it
+pub two_more : (unit : List ℕ) (g : Environment) (one two : TypeDef) → is_enumeration (Some two) ≡ false → GrowsTo unit g (with_type_of unit (with_type_of unit g one) two)
+two_more unit g one two other = record { declares = declares_two unit g.types one two other; names = refl }

@@ -1,7 +1,7 @@
-mod Growing
-mod TypesGrow
-mod RoutinesGrow
+pub mod Growing
+pub mod TypesGrow
+pub mod RoutinesGrow
 mod Renumbered
 mod Shorter
-mod UsesGrow
-mod AgreementLaws
+pub mod UsesGrow
+pub mod AgreementLaws

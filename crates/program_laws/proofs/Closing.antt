@@ -2,12 +2,8 @@
 use Rattle.std.proofs.Common.{◌≡◌, ℕ, true, List, [], ◌∷◌, Some, Contains, subst}
 use Rattle.std.specs.List.{All, AllZip}
 use Rattle.std.proofs.lemmas.List.Elements.{All-weaker, All-cons, All-nil}
-use Rattle.tp_outside.specs.Folder.{Folder}
-use Rattle.tp_lexer.specs.declared.token.Text.{Text}
 use Rattle.typed_tree.specs.declared.units.Unit.{Unit}
-use Rattle.typed_tree.specs.declared.units.Program.{Program}
 use Rattle.source_gathering.specs.declared.sources.Source.{Source}
-use Rattle.source_gathering.specs.Walk.{Gathers}
 use Rattle.source_gathering.specs.Whole.{AreNew}
 use Rattle.source_gathering.proofs.WholeLaws.{is_whole}
 use Rattle.scopes.specs.Predeclared.{first}
@@ -21,7 +17,7 @@ use Rattle.tp_check_decl.specs.Shown.{Shows, outlined}
 use Rattle.tp_check_decl.proofs.CheckLaws.{lawful_outlined}
 use Rattle.source_interfaces.specs.Scopes.{outer_units, outer_scope}
 use Rattle.source_interfaces.specs.Interfaces.{IsShownIn, AreShown, IsAcyclic}
-use Rattle.front_end.specs.Typed.{IsUnitOf, in_order, IsProgram}
+use Rattle.front_end.specs.Typed.{IsUnitOf, in_order}
 use Rattle.closed_scopes.specs.Scopes.{IsCompleteScope, IsClosedInterface, IsClosedUse, AreClosedUses}
 use Rattle.closed_scopes.proofs.Beginning.{first_complete}
 use Rattle.closed_scopes.proofs.Using.{uses_complete}
@@ -32,24 +28,24 @@ use Rattle.program_laws.proofs.Sources.{stands}
 use Rattle.program_laws.proofs.Depth.{IsOf, of_shown, AreUses, of_source, inherited, all_inherited}
 
 module _ (sources : List Source) (new : AreNew [] sources) (have : List Interface) (shown : AreShown sources have) where
-  closed_uses : (names : List (List ℕ)) → AreUses IsClosedInterface have names → AreClosedUses have names
+  pub closed_uses : (names : List (List ℕ)) → AreUses IsClosedInterface have names → AreClosedUses have names
   closed_uses [] h = tt
   closed_uses (name ∷ names) h = (h.0, closed_uses names h.1)
 
-  outer_complete : (s : Source) → AreUses IsClosedInterface have (names_of (outer_units s)) → uses_fit have (first s.name) (names_of (outer_units s)) ≡ true → IsCompleteScope (outer_scope have s)
+  pub outer_complete : (s : Source) → AreUses IsClosedInterface have (names_of (outer_units s)) → uses_fit have (first s.name) (names_of (outer_units s)) ≡ true → IsCompleteScope (outer_scope have s)
   outer_complete s closed fits = uses_complete have (first s.name) (names_of (outer_units s)) (first_complete s.name) (closed_uses (names_of (outer_units s)) closed) fits
 
   closed_over : (s : Source) (i : Interface) → AreUses IsClosedInterface have (names_of (outer_units s)) → IsOf have s i → IsClosedInterface i
   closed_over s i closed own = interface_closed s.name s.says (outer_scope have s) s.tree i (outer_complete s closed own.fits) own.shows
 
   module _ (acyclic : IsAcyclic sources) where
-    use_closed : (name : List ℕ) → IsClosedUse have name
-    use_closed name other i is = inherited sources new have shown IsClosedInterface (λ s i uses own. closed_over s i uses own) acyclic name other i is
+    pub use_closed : (name : List ℕ) → IsClosedUse have name
+    use_closed name other i is = inherited sources new have shown IsClosedInterface (λ place s i at is uses own. closed_over s i uses own) acyclic name other i is
 
-    uses_closed : (names : List (List ℕ)) → AreUses IsClosedInterface have names
-    uses_closed names = all_inherited sources new have shown IsClosedInterface (λ s i uses own. closed_over s i uses own) acyclic names
+    pub uses_closed : (names : List (List ℕ)) → AreUses IsClosedInterface have names
+    uses_closed names = all_inherited sources new have shown IsClosedInterface (λ place s i at is uses own. closed_over s i uses own) acyclic names
 
-    complete_over : (s : Source) → uses_fit have (first s.name) (names_of (outer_units s)) ≡ true → IsCompleteScope (outer_scope have s)
+    pub complete_over : (s : Source) → uses_fit have (first s.name) (names_of (outer_units s)) ≡ true → IsCompleteScope (outer_scope have s)
     complete_over s fits = outer_complete s (uses_closed (names_of (outer_units s))) fits
 
     -- each interface, also one that stands behind another of its name
@@ -74,7 +70,7 @@ module _ (sources : List Source) (new : AreNew [] sources) (have : List Interfac
 
 -- ---- the laws
 
-new_of : (sources : List Source) (have : List Interface) → AreInOrder sources have → AreNew [] sources
+pub new_of : (sources : List Source) (have : List Interface) → AreInOrder sources have → AreNew [] sources
 new_of sources have o = (is_whole o.held o.name o.texts sources o.gathers).once
 
 pub interfaces : (sources : List Source) (have : List Interface) → AreInOrder sources have → All IsClosedInterface have

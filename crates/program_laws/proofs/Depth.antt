@@ -1,5 +1,5 @@
 -- What interfaces inherit from those that they are made over, all interfaces of the sources have.
-use Rattle.std.proofs.Common.{◌≡◌, ◌⊎◌, ℕ, zero, suc, ◌<◌, ◌≤◌, true, false, List, [], ◌∷◌, length, Option, Some, None, refl, sym, ap, ◌∙◌, subst, arith, inl, inr, nat_eq}
+use Rattle.std.proofs.Common.{◌≡◌, ◌⊎◌, ℕ, zero, suc, ◌<◌, true, false, List, [], ◌∷◌, length, Option, Some, None, refl, sym, ap, ◌∙◌, subst, arith, inl, inr, nat_eq}
 use Rattle.std.specs.Prelude.{slice_get, is_some}
 use Rattle.std.specs.List.{list_any}
 use Rattle.std.proofs.lemmas.Option.{slice_get_within}
@@ -36,8 +36,8 @@ AreUses Q have [] = Unit {0}
 AreUses Q have (name ∷ names) = IsUse Q have name × AreUses Q have names
 
 -- what a source shows has it where what its interface part uses has
-abbrev pub Inherits : (Interface → Type 0) → List Interface → Type 0
-Inherits Q have = (s : Source) (i : Interface) → AreUses Q have (names_of (outer_units s)) → IsOf have s i → Q i
+abbrev pub Inherits : (Interface → Type 0) → List Source → List Interface → Type 0
+Inherits Q sources have = (place : ℕ) (s : Source) (i : Interface) → slice_get sources place ≡ Some s → interface_named have s.name ≡ Some i → AreUses Q have (names_of (outer_units s)) → IsOf have s i → Q i
 
 module _ (sources : List Source) (new : AreNew [] sources) (have : List Interface) (shown : AreShown sources have) where
   abbrev edges : List (List ℕ)
@@ -58,14 +58,14 @@ module _ (sources : List Source) (new : AreNew [] sources) (have : List Interfac
     pub deep : IsDeep edges steps to
 
   -- the source of a unit that has an interface
-  record IsHad (name : List ℕ) : Type 0 where
+  pub record IsHad (name : List ℕ) : Type 0 where
     pub place : ℕ
     pub found : place_of (all_uses sources) name ≡ Some place
     pub source : Source
     pub stands : slice_get sources place ≡ Some source
     pub named : name ≡ source.name
 
-  had : (name : List ℕ) (i : Interface) → interface_named have name ≡ Some i → IsHad name
+  pub had : (name : List ℕ) (i : Interface) → interface_named have name ≡ Some i → IsHad name
   had name i is =
       let n = named_by (IsShownIn sources have) have name shown (ap (λ (o : Option Interface). is_some o) is) in
       let t = n.holds.source in
@@ -84,9 +84,9 @@ module _ (sources : List Source) (new : AreNew [] sources) (have : List Interfac
       found_is : (a b : Interface) → Some a ≡ Some b → a ≡ b
       found_is a b e = cc
 
-  module _ (Q : Interface → Type 0) (inherits : Inherits Q have) where
+  module _ (Q : Interface → Type 0) (inherits : Inherits Q sources have) where
     -- what the source at a place shows has it
-    abbrev IsSo : ℕ → Type 0
+    abbrev pub IsSo : ℕ → Type 0
     IsSo place = (s : Source) → slice_get sources place ≡ Some s → (i : Interface) → interface_named have s.name ≡ Some i → Q i
 
     abbrev IsSoOrDeep : ℕ → ℕ → Type 0
@@ -142,7 +142,7 @@ module _ (sources : List Source) (new : AreNew [] sources) (have : List Interfac
         nothing t is = cc
     at_place steps place (Some s) at each =
         elim (uses_so steps each (names_of (outer_units s))) [
-          | inl so ↦ inl (λ t there i is. inherits t i (subst (λ (x : Source). AreUses Q have (names_of (outer_units x))) (some_is s t (sym at ∙ there)) so) (of_source place t i there is))
+          | inl so ↦ inl (λ t there i is. inherits place t i there is (subst (λ (x : Source). AreUses Q have (names_of (outer_units x))) (some_is s t (sym at ∙ there)) so) (of_source place t i there is))
           | inr d ↦ inr (deeper steps place s at d)
         ]
 
@@ -150,7 +150,8 @@ module _ (sources : List Source) (new : AreNew [] sources) (have : List Interfac
     so_or_deep zero place = inr tt
     so_or_deep (suc steps) place = at_place steps place (slice_get sources place) refl (λ to. so_or_deep steps to)
 
-    all_so : IsAcyclic sources → (place : ℕ) → IsSo place
+    -- so what the source at each place shows has it
+    pub all_so : IsAcyclic sources → (place : ℕ) → IsSo place
     all_so acyclic place s at i is =
         elim (so_or_deep (length edges) place) [
           | inl so ↦ so s at i is

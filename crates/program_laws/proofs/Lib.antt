@@ -1,7 +1,7 @@
-mod Sources
+pub mod Sources
 mod Alike
 mod Fronts
-mod Programs
-mod Missing
-mod Depth
-mod Closing
+pub mod Programs
+pub mod Missing
+pub mod Depth
+pub mod Closing

@@ -77,7 +77,7 @@ class_free unit class.NoMemory lawful cause = tt
 
 -- ---- units of the sources in order
 
-record IsUnitIn (have : List Interface) (source : Source) : Type 0 where
+pub record IsUnitIn (have : List Interface) (source : Source) : Type 0 where
   pub unit : Unit
   pub is : IsUnitOf have source unit
 
@@ -101,7 +101,7 @@ unit_head have sources rest place p s (Some t) true later (unit ∷ units) at fo
 unit_head have sources rest place p s (Some t) false later (unit ∷ units) at found all other among more = more units all.1 among
 
 -- a source of which the order has the place has its unit
-unit_in : (have : List Interface) (sources : List Source) (places : List ℕ) (units : List Unit) (place : ℕ) (s : Source) → AllZip (IsUnitOf have) (sources_at sources places) units
+pub unit_in : (have : List Interface) (sources : List Source) (places : List ℕ) (units : List Unit) (place : ℕ) (s : Source) → AllZip (IsUnitOf have) (sources_at sources places) units
     → list_any (nat_eq place) places ≡ true → slice_get sources place ≡ Some s → IsUnitIn have s
 unit_in have sources [] units place s all among at = absurd (cc)
 unit_in have sources (p ∷ places) units place s all among at =

@@ -35,7 +35,7 @@ not_met met (one ∷ rest) new (suc place) s at =
     let same = same_bytes s.name in
     (neither (list_any same met) (list_any same (one.name ∷ [])) (list_any same (met ++ one.name ∷ [])) (list_any-append same met (one.name ∷ [])) (not_met (met ++ one.name ∷ []) rest new.1 place s at)).0
 
-first_alone : (met : List (List ℕ)) (one : Source) (rest : List Source) → AreNew (met ++ one.name ∷ []) rest → (place : ℕ) (s : Source) → slice_get rest place ≡ Some s → s.name ≡ one.name → ⊥
+pub first_alone : (met : List (List ℕ)) (one : Source) (rest : List Source) → AreNew (met ++ one.name ∷ []) rest → (place : ℕ) (s : Source) → slice_get rest place ≡ Some s → s.name ≡ one.name → ⊥
 first_alone met one rest new place s at named =
     let same = same_bytes s.name in
     let both = neither (list_any same met) (list_any same (one.name ∷ [])) (list_any same (met ++ one.name ∷ [])) (list_any-append same met (one.name ∷ [])) (not_met (met ++ one.name ∷ []) rest new place s at) in

@@ -1,5 +1,5 @@
 -- How many types of a unit are among the first of a table.
-use Rattle.std.proofs.Common.{◌≡◌, ◌≤◌, ℕ, zero, suc, ◌+◌, min, List, [], ◌∷◌, ◌++◌, length, take, Some, refl, ap, ◌∙◌, arith, add-one}
+use Rattle.std.proofs.Common.{◌≡◌, ◌≤◌, ◌<◌, ◌^◌, ◌==◌, ℕ, zero, suc, ◌+◌, min, Bool, true, false, cond, List, [], ◌∷◌, ◌++◌, length, take, Some, refl, ap, ◌∙◌, arith, add-one}
 use Rattle.std.specs.List.{sum_by}
 use Rattle.std.specs.Prelude.{slice_get}
 use Rattle.std.proofs.lemmas.List.{take_all}
@@ -22,8 +22,19 @@ pub next_count : (place : ℕ) (origins : List Origin) (number count : ℕ) (one
 next_count place origins number count one at is =
     rw (add-one, take-next origins number one at, sum_by-append (one_of place) (take number origins) (one ∷ []), is) (omega arith)
 
--- all are
-pub whole_count : (place : ℕ) (origins : List Origin) (number count : ℕ) → length origins ≤ number
+at_most_one : (b : Bool) → (let n : ℕ = cond b 1 0 in n) ≤ 1
+at_most_one true = omega arith
+at_most_one false = omega arith
+
+-- a unit has no more types than there are
+at_most : (place : ℕ) (origins : List Origin) → sum_by (one_of place) origins ≤ length origins
+at_most place [] = omega arith
+at_most place (origin ∷ origins) = omega (arith, at_most_one (origin.unit == place), at_most place origins)
+
+-- all are looked at, and 32 bits hold how many there are
+pub whole_count : (place : ℕ) (origins : List Origin) (number count : ℕ) → length origins ≤ number → length origins < 2 ^ 32
     → count ≡ min (sum_by (one_of place) (take number origins)) 4294967295
-    → count ≡ min (sum_by (one_of place) origins) 4294967295
-whole_count place origins number count past is = is ∙ ap (λ (all : List Origin). min (sum_by (one_of place) all) 4294967295) (take_all number origins past)
+    → count ≡ sum_by (one_of place) origins
+whole_count place origins number count past few is =
+    let all : count ≡ min (sum_by (one_of place) origins) 4294967295 = is ∙ ap (λ (all : List Origin). min (sum_by (one_of place) all) 4294967295) (take_all number origins past) in
+    omega (arith, all, few, at_most place origins)

@@ -63,9 +63,9 @@ is_addable table origin one = is_defined_over table.types one && has_methods_of 
 abbrev pub one_of : ℕ → Origin → ℕ
 one_of unit origin = cond (origin.unit == unit) 1 0
 
--- how many types of a unit a table has; a number that 32 bits can't hold stays at the greatest one
+-- how many types of a unit a table has
 abbrev pub count_of : Table → List ℕ → ℕ
-count_of table unit = min (sum_by (one_of (place_of table.units unit)) table.origins) 4294967295
+count_of table unit = sum_by (one_of (place_of table.units unit)) table.origins
 
 -- a type of a unit, which is numbered by how many of that unit there are before it
 abbrev pub with_type_of : List ℕ → Environment → TypeDef → Environment

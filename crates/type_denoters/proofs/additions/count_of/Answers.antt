@@ -1,4 +1,4 @@
-use Rattle.std.proofs.Common.{◌≡◌, ◌∙◌, ℕ, ap, refl, min, arith}
+use Rattle.std.proofs.Common.{◌≡◌, ◌∙◌, ℕ, ap, refl, arith}
 use Rattle.std.specs.List.{sum_by}
 use Rattle.type_layout.specs.Table.{place_of}
 use Rattle.type_denoters.specs.Additions.{one_of}
@@ -12,7 +12,7 @@ loop-number-preserved c =
 
 pub returns : goal.returns
 returns c =
-    let same = c.count-number-end.ensures.well_formed.origins in
-    let whole = whole_count c.unwrap_or-place.result c.args.types.now.origins c.loop-number.number c.loop-number.count (omega (arith, same, c.loop-number-test.false, c.count-number-end.ensures.value)) c.loop-number.invariant in
+    let well = c.count-number-end.ensures.well_formed in
+    let whole = whole_count c.unwrap_or-place.result c.args.types.now.origins c.loop-number.number c.loop-number.count (omega (arith, well.origins, c.loop-number-test.false, c.count-number-end.ensures.value)) (omega (arith, well.origins, well.few)) c.loop-number.invariant in
     let found : c.unwrap_or-place.result ≡ place_of c.args.types.now.units c.args.unit.now = c.unwrap_or-place.ensures ∙ rw (c.unit_place.ensures, c.units.ensures) refl in
-    whole ∙ ap (λ (place : ℕ). min (sum_by (one_of place) c.args.types.now.origins) 4294967295) found
+    whole ∙ ap (λ (place : ℕ). sum_by (one_of place) c.args.types.now.origins) found

@@ -1,0 +1,30 @@
+-- What the declarations of a unit do to the table of types.
+use Rattle.std.specs.Prelude.{◌≡◌, ℕ, ◌+◌, ◌<◌, true, List, [], ◌∷◌, length, slice_get}
+use Rattle.type_layout.specs.declared.definitions.TypeDef.{TypeDef}
+use Rattle.type_layout.specs.Table.{Table, with_type}
+use Rattle.source_tree.specs.declared.source.Tree.{Tree}
+use Rattle.source_directives.specs.declared.collected.Directives.{Directives}
+use Rattle.scopes.specs.Environment.{Environment}
+use Rattle.unit_interface.specs.Misfits.{is_enumeration}
+use Rattle.type_denoters.specs.Additions.{count_of}
+use Rattle.tp_check_decl.specs.Units.{Whole}
+use Rattle.tp_check_decl.specs.Shown.{outlined}
+
+-- a table with further types of a unit, each numbered by how many of the unit's there are before it
+abbrev pub with_declared : List ℕ → Table → List TypeDef → Table
+with_declared unit table [] = table
+with_declared unit table (one ∷ rest) = with_declared unit (with_type table unit (count_of table unit) one) rest
+
+-- behind each ordinal type of an enumeration stands another type
+abbrev pub AreFollowed : List TypeDef → Type 0
+AreFollowed types = (place : ℕ) → is_enumeration (slice_get types place) ≡ true → place + 1 < length types
+
+-- a table with what a unit declares
+pub record Declares (unit : List ℕ) (before after : Table) : Type 0 where
+  pub types : List TypeDef
+  pub is : after ≡ with_declared unit before types
+  pub followed : AreFollowed types
+
+-- An interface part adds types of its unit to the table that it is read over, and does nothing else to it.
+abbrev pub Declare : Type 0
+Declare = (name : List ℕ) (says : Directives) (g : Environment) (tree : Tree) (unit : Whole) → (outlined name says g tree).holds unit → Declares name g.types unit.types

@@ -1,0 +1,2 @@
+//! Trees without gaps, which are those that some list of lexemes spells.
+#![tactic(auto)]
