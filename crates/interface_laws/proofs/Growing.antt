@@ -1,5 +1,5 @@
 -- Tables that only grow.
-use Rattle.std.proofs.Common.{◌≡◌, ◌∙◌, ℕ, zero, suc, ◌<◌, ◌≤◌, true, false, List, [], ◌∷◌, ◌++◌, Option, Some, None, length, refl, sym, ap, subst, arith, append_assoc, append-nil, length-append}
+use Rattle.std.proofs.Common.{◌≡◌, ◌∙◌, ℕ, zero, suc, ◌<◌, ◌≤◌, Bool, true, false, List, [], ◌∷◌, ◌++◌, Option, Some, None, length, refl, sym, ap, subst, arith, append_assoc, append-nil, length-append}
 use Rattle.std.specs.Prelude.{position, slice_get}
 use Rattle.std.proofs.lemmas.List.Elements.{All-push, All-weaker}
 use Rattle.std.proofs.lemmas.List.Quantifiers.{position-Some}
@@ -11,7 +11,7 @@ use Rattle.scopes.specs.Environment.{Environment}
 use Rattle.unit_interface.specs.Misfits.{is_enumeration}
 use Rattle.type_denoters.specs.Additions.{count_of, with_type_of}
 use Rattle.interface_laws.specs.Agreement.{IsPaired}
-use Rattle.interface_laws.specs.Declared.{with_declared, AreFollowed, Declares}
+use Rattle.interface_laws.specs.Declared.{with_declared, AreFollowed, IsOfOneUnit, AreOfOneUnit, Declares}
 
 -- a table with further types, in which each has its origin if each had in the first
 pub record Grows (before after : Table) : Type 0 where
@@ -109,35 +109,59 @@ followed_both : (first second : List TypeDef) → AreFollowed first → AreFollo
 followed_both [] second one two = two
 followed_both (x ∷ first) second one two = followed_behind x first second one (followed_both first second (followed_tail x first one) two)
 
+methods_both : (first second : List TypeDef) → AreOfOneUnit first → AreOfOneUnit second → AreOfOneUnit (first ++ second)
+methods_both [] second one two place found at = two place found at
+methods_both (x ∷ first) second one two zero found at = one zero found at
+methods_both (x ∷ first) second one two (suc place) found at = methods_both first second (λ k f is. one (suc k) f is) two place found at
+
 pub declares_none : (unit : List ℕ) (before after : Table) → after ≡ before → Declares unit before after
-declares_none unit before after same = record { types = []; is = same; followed = λ place is. absurd (none place is) }
+declares_none unit before after same = record { types = []; is = same; followed = λ place is. absurd (none place is); methods = λ place one at. absurd (nothing place one at) }
   where
     none : (place : ℕ) → is_enumeration (slice_get [] place) ≡ true → ⊥
-    none place is = cc
+    none place is = let bad : false ≡ true = is in cc
+
+    nothing : (place : ℕ) (one : TypeDef) → slice_get [] place ≡ Some one → ⊥
+    nothing place one at = cc
 
 declares_both : (unit : List ℕ) (one two three : Table) → Declares unit one two → Declares unit two three → Declares unit one three
 declares_both unit one two three first second = record {
   types = first.types ++ second.types;
   is = second.is ∙ ap (λ (table : Table). with_declared unit table second.types) first.is ∙ sym (with_both unit one first.types second.types);
   followed = followed_both first.types second.types first.followed second.followed;
+  methods = methods_both first.types second.types first.methods second.methods;
 }
 
-declares_one : (unit : List ℕ) (table : Table) (one : TypeDef) → is_enumeration (Some one) ≡ false → Declares unit table (with_type table unit (count_of table unit) one)
-declares_one unit table one other = record { types = one ∷ []; is = refl; followed = at }
+same_kind : (one found : TypeDef) → Some one ≡ Some found → IsOfOneUnit one → IsOfOneUnit found
+same_kind one found same h = let is : one ≡ found = cc in subst IsOfOneUnit is h
+
+not_both : (b : Bool) → b ≡ true → b ≡ false → ⊥
+not_both b yes no = cc
+
+declares_one : (unit : List ℕ) (table : Table) (one : TypeDef) → is_enumeration (Some one) ≡ false → IsOfOneUnit one → Declares unit table (with_type table unit (count_of table unit) one)
+declares_one unit table one other whole = record { types = one ∷ []; is = refl; followed = at; methods = of }
   where
     at : AreFollowed (one ∷ [])
-    at zero is = absurd (cc)
-    at (suc place) is = absurd (cc)
+    at zero is = absurd (not_both (is_enumeration (Some one)) is other)
+    at (suc place) is = let bad : false ≡ true = is in absurd (cc)
+
+    of : AreOfOneUnit (one ∷ [])
+    of zero found is = same_kind one found is whole
+    of (suc place) found is = absurd (cc)
 
 -- any type, and another one behind it
-declares_two : (unit : List ℕ) (table : Table) (one two : TypeDef) → is_enumeration (Some two) ≡ false
+declares_two : (unit : List ℕ) (table : Table) (one two : TypeDef) → is_enumeration (Some two) ≡ false → IsOfOneUnit one → IsOfOneUnit two
     → (let next : Table = with_type table unit (count_of table unit) one in Declares unit table (with_type next unit (count_of next unit) two))
-declares_two unit table one two other = record { types = one ∷ two ∷ []; is = refl; followed = at }
+declares_two unit table one two other whole behind = record { types = one ∷ two ∷ []; is = refl; followed = at; methods = of }
   where
     at : AreFollowed (one ∷ two ∷ [])
     at zero is = omega arith
-    at (suc zero) is = absurd (cc)
-    at (suc (suc place)) is = absurd (cc)
+    at (suc zero) is = absurd (not_both (is_enumeration (Some two)) is other)
+    at (suc (suc place)) is = let bad : false ≡ true = is in absurd (cc)
+
+    of : AreOfOneUnit (one ∷ two ∷ [])
+    of zero found is = same_kind one found is whole
+    of (suc zero) found is = same_kind two found is behind
+    of (suc (suc place)) found is = absurd (cc)
 
 -- ---- what is known
 
@@ -160,9 +184,10 @@ pub next : (unit : List ℕ) (g h k : Environment) → GrowsTo unit g h → Grow
 next unit g h k one two = record { declares = declares_both unit g.types h.types k.types one.declares two.declares; names = two.names ∙ one.names }
 
 -- a type is added, which is no ordinal type of an enumeration
-pub one_more : (unit : List ℕ) (g : Environment) (one : TypeDef) → is_enumeration (Some one) ≡ false → GrowsTo unit g (with_type_of unit g one)
-one_more unit g one other = record { declares = declares_one unit g.types one other; names = refl }
+pub one_more : (unit : List ℕ) (g : Environment) (one : TypeDef) → is_enumeration (Some one) ≡ false → IsOfOneUnit one → GrowsTo unit g (with_type_of unit g one)
+one_more unit g one other whole = record { declares = declares_one unit g.types one other whole; names = refl }
 
 -- or any type with another one behind it
-pub two_more : (unit : List ℕ) (g : Environment) (one two : TypeDef) → is_enumeration (Some two) ≡ false → GrowsTo unit g (with_type_of unit (with_type_of unit g one) two)
-two_more unit g one two other = record { declares = declares_two unit g.types one two other; names = refl }
+pub two_more : (unit : List ℕ) (g : Environment) (one two : TypeDef) → is_enumeration (Some two) ≡ false → IsOfOneUnit one → IsOfOneUnit two
+    → GrowsTo unit g (with_type_of unit (with_type_of unit g one) two)
+two_more unit g one two other whole behind = record { declares = declares_two unit g.types one two other whole behind; names = refl }

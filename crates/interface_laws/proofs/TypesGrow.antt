@@ -6,6 +6,7 @@ use Rattle.type_layout.specs.declared.definitions.Field.{Field}
 use Rattle.type_layout.specs.declared.definitions.TypeDef.{TypeDef}
 use Rattle.type_layout.specs.declared.definitions.TypeDef.TheVariants.{SetOf}
 use Rattle.type_layout.specs.declared.texts.Place.{Place}
+use Rattle.type_layout.specs.Table.{place_of}
 use Rattle.syntax_tree.specs.declared.identifier.Identifier.{Identifier}
 use Rattle.type_tree.specs.declared.parameter.Method as written
 use Rattle.type_tree.specs.declared.types.TypeDenoter.{TypeDenoter}
@@ -27,6 +28,7 @@ use Rattle.type_denoters.specs.Denoters.{set_base_of, ground, with_set, range_by
 use Rattle.type_parts.specs.Promised.{promises}
 use Rattle.type_parts.specs.Objects.{object_allowed}
 use Rattle.type_parts.specs.Parts.{whole, next_routine, types_declared, type_part}
+use Rattle.interface_laws.specs.Declared.{IsOfOneUnit}
 use Rattle.interface_laws.proofs.Growing.{GrowsTo, unchanged, same_table, next, one_more, two_more}
 
 -- what is known with a type
@@ -37,9 +39,13 @@ added_is : (unit : List ℕ) (g : Environment) (place : Place) (asked : Rule) (o
 unfolding added
 added_is unit g place asked one made h = ap (λ (d : Denoted). d.scope) h.made.made
 
+added_whole : (unit : List ℕ) (g : Environment) (place : Place) (asked : Rule) (one : TypeDef) (made : Denoted) → (added unit g place asked one).holds made → IsOfOneUnit one
+unfolding added
+added_whole unit g place asked one made h = record { unit = place_of g.types.units unit; methods = h.holds.asked.methods }
+
 added_grows : (unit : List ℕ) (g : Environment) (place : Place) (asked : Rule) (one : TypeDef) (made : Denoted) → (added unit g place asked one).holds made → is_enumeration (Some one) ≡ false
     → GrowsTo unit g made.scope
-added_grows unit g place asked one made h other = same_table unit g (with_type_of unit g one) made.scope (added_is unit g place asked one made h) (one_more unit g one other)
+added_grows unit g place asked one made h other = same_table unit g (with_type_of unit g one) made.scope (added_is unit g place asked one made h) (one_more unit g one other (added_whole unit g place asked one made h))
 
 pub entered_grows : (unit : List ℕ) (g : Environment) (place : Place) (name : List ℕ) (one : Entry) (h : Environment) → (entered g place name one).holds h → GrowsTo unit g h
 unfolding entered
@@ -56,7 +62,7 @@ module _ (unit : List ℕ) where
       let from = added_is unit g first asked one made begun in
       same_table unit g (with_type_of unit (with_type_of unit g one) (SetOf base)) h
       (over.made ∙ to ∙ ap (λ (k : Environment). with_type_of unit k (SetOf base)) from)
-      (two_more unit g one (SetOf base) refl)
+      (two_more unit g one (SetOf base) refl (added_whole unit g first asked one made begun) (added_whole unit made.scope place rules.SetBase (SetOf base) over.part over.holds))
 
   range_by_grows : (g : Environment) (place : Place) (s t : Sort) (low high : ℤ) (made : Denoted) → (range_by unit g place s t low high).holds made → GrowsTo unit g made.scope
   range_by_grows g place s t low high made e =

@@ -1,7 +1,7 @@
 -- What the declarations of a unit do to the table of types.
-use Rattle.std.specs.Prelude.{◌≡◌, ℕ, ◌+◌, ◌<◌, true, List, [], ◌∷◌, length, slice_get}
+use Rattle.std.specs.Prelude.{◌≡◌, ℕ, ◌+◌, ◌<◌, true, List, [], ◌∷◌, Some, length, slice_get}
 use Rattle.type_layout.specs.declared.definitions.TypeDef.{TypeDef}
-use Rattle.type_layout.specs.Table.{Table, with_type}
+use Rattle.type_layout.specs.Table.{Table, HasMethodsOf, with_type}
 use Rattle.source_tree.specs.declared.source.Tree.{Tree}
 use Rattle.source_directives.specs.declared.collected.Directives.{Directives}
 use Rattle.scopes.specs.Environment.{Environment}
@@ -19,11 +19,20 @@ with_declared unit table (one ∷ rest) = with_declared unit (with_type table un
 abbrev pub AreFollowed : List TypeDef → Type 0
 AreFollowed types = (place : ℕ) → is_enumeration (slice_get types place) ≡ true → place + 1 < length types
 
+-- the routines of an object's methods are of one unit
+pub record IsOfOneUnit (one : TypeDef) : Type 0 where
+  pub unit : ℕ
+  pub methods : HasMethodsOf unit one
+
+abbrev pub AreOfOneUnit : List TypeDef → Type 0
+AreOfOneUnit types = (place : ℕ) (one : TypeDef) → slice_get types place ≡ Some one → IsOfOneUnit one
+
 -- a table with what a unit declares
 pub record Declares (unit : List ℕ) (before after : Table) : Type 0 where
   pub types : List TypeDef
   pub is : after ≡ with_declared unit before types
   pub followed : AreFollowed types
+  pub methods : AreOfOneUnit types
 
 -- An interface part adds types of its unit to the table that it is read over, and does nothing else to it.
 abbrev pub Declare : Type 0

@@ -22,14 +22,19 @@ pub next_count : (place : ℕ) (origins : List Origin) (number count : ℕ) (one
 next_count place origins number count one at is =
     rw (add-one, take-next origins number one at, sum_by-append (one_of place) (take number origins) (one ∷ []), is) (omega arith)
 
-at_most_one : (b : Bool) → (let n : ℕ = cond b 1 0 in n) ≤ 1
+at_most_one : (b : Bool) → cond b 1 0 ≤ 1
 at_most_one true = omega arith
 at_most_one false = omega arith
 
 -- a unit has no more types than there are
 at_most : (place : ℕ) (origins : List Origin) → sum_by (one_of place) origins ≤ length origins
 at_most place [] = omega arith
-at_most place (origin ∷ origins) = omega (arith, at_most_one (origin.unit == place), at_most place origins)
+at_most place (origin ∷ origins) =
+    let step : sum_by (one_of place) (origin ∷ origins) ≡ sum_by (one_of place) (origin ∷ []) + sum_by (one_of place) origins = sum_by-append (one_of place) (origin ∷ []) origins in
+    let alone : sum_by (one_of place) (origin ∷ []) ≡ 0 + one_of place origin = refl in
+    let first : one_of place origin ≤ 1 = at_most_one (origin.unit == place) in
+    let rest = at_most place origins in
+    omega (arith, step, alone, first, rest)
 
 -- all are looked at, and 32 bits hold how many there are
 pub whole_count : (place : ℕ) (origins : List Origin) (number count : ℕ) → length origins ≤ number → length origins < 2 ^ 32

@@ -1,0 +1,6 @@
+//! The laws on types of used units that fit those of a scope.
+#![tactic(auto)]
+
+mod laws;
+
+pub use laws::fitting_laws;

@@ -1,0 +1,3 @@
+pub mod Uses
+pub mod Refusals
+pub mod Readings

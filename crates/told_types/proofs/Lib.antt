@@ -1,0 +1,13 @@
+pub mod Twice
+pub mod Keys
+pub mod Named
+pub mod Known
+pub mod Carried
+pub mod Arrived
+pub mod Merged
+pub mod First
+pub mod Kept
+pub mod Shown
+pub mod Longer
+pub mod Ordered
+pub mod Agreed

@@ -1,0 +1,6 @@
+//! The laws on tables that tell of the types of units what their interfaces tell.
+#![tactic(auto)]
+
+mod laws;
+
+pub use laws::told_laws;
