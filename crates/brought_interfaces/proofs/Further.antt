@@ -18,7 +18,7 @@ use Rattle.brought_interfaces.specs.Laws.{FurtherLaw}
 use Rattle.brought_interfaces.proofs.Brought.{interface_brings}
 
 pub further_keeps : AreClosed → StayConstants → FurtherLaw
-further_keeps closing stay name have one i other found shown faithful d h r named k room =
+further_keeps closing stay name have one i other found shown d h r named faithful k room =
     let g : Environment = d.scope in
     let used : with_use have g one.name ≡ with_interface g i =
     ap (λ (b : Bool). cond b (with_overlay g) (with_found g (interface_named have one.name))) other ∙ ap (λ (o : Option Interface). with_found g o) found in
@@ -27,5 +27,5 @@ further_keeps closing stay name have one i other found shown faithful d h r name
     ap (λ (o : Option Interface). found_fits g o) (sym found) ∙ ap (λ (b : Bool). b || found_fits g (interface_named have one.name)) (sym other) ∙ k.asked in
     let complete : IsCompleteScope g = record { ordered = r.table.ordered; closed = known_closed g (scope_of d []) r.known r.table } in
     let fit : IsFit (with_interface g i).types.types = subst (λ (e : Environment). IsFit e.types.types) is room.types in
-    let brings = interface_brings closing name g i (scope_of d []) r.known r.table complete named shown fits (faithful d r) fit in
+    let brings = interface_brings closing name g i (scope_of d []) r.known r.table complete named shown fits faithful fit in
     subst (λ (e : Environment). IsJoined d (knowing d e)) (sym is) (brought_draft stay name d (with_interface g i) r named brings)

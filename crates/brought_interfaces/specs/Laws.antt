@@ -10,9 +10,11 @@ use Rattle.unit_interface.specs.Resolve.{is_overlay, interface_named}
 use Rattle.closed_scopes.specs.Scopes.{IsCompleteScope, IsClosedInterface}
 use Rattle.sound_tables.specs.Laws.{IsFit}
 use Rattle.known_names.specs.Known.{AreKnown}
-use Rattle.routines.specs.Drafts.{Drafted}
+use Rattle.routines.specs.Drafts.{Drafted, knowing}
+use Rattle.tp_check_decl.specs.Interfaces.{further_used}
 use Rattle.checked_routines.specs.Reading.{IsTabled, IsRead}
-use Rattle.checked_units.specs.Begun.{UseKeeps}
+use Rattle.checked_routines.specs.Rooms.{HasRoom}
+use Rattle.checked_units.specs.Begun.{IsJoined}
 use Rattle.checked_units.specs.Bringing.{Brings}
 use Rattle.brought_interfaces.specs.Faithful.{IsFaithful}
 
@@ -21,7 +23,7 @@ abbrev pub InterfaceLaw : Type 0
 InterfaceLaw = (name : List ℕ) (g : Environment) (i : Interface) (s : Scope) → AreKnown g s → IsTabled g.types → IsCompleteScope g → slice_get g.units 0 ≡ Some name
     → IsClosedInterface i → types_fit g.types i.types ≡ true → IsFaithful name g i → IsFit (with_interface g i).types.types → Brings name g (with_interface g i) s
 
--- Behind an interface part it keeps what is known, where it is faithful to what is known there.
+-- Behind an interface part it keeps what is known, where it is faithful to that.
 abbrev pub FurtherLaw : Type 0
 FurtherLaw = (name : List ℕ) (have : List Interface) (one : Identifier) (i : Interface) → is_overlay one.name ≡ false → interface_named have one.name ≡ Some i → IsClosedInterface i
-    → ((d : Drafted) → IsRead d [] → IsFaithful name d.scope i) → UseKeeps name have one
+    → (d : Drafted) (h : Environment) → IsRead d [] → slice_get d.scope.units 0 ≡ Some name → IsFaithful name d.scope i → (further_used have d.scope one).holds h → HasRoom (knowing d h) → IsJoined d (knowing d h)

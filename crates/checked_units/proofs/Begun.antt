@@ -26,7 +26,7 @@ use Rattle.checked_routines.proofs.Grown.{grows_itself, grows_on, room_before, h
 use Rattle.checked_routines.proofs.Opened.{heading_read}
 use Rattle.checked_routines.proofs.Kept.{part_locals, stage_kept, all_kept}
 use Rattle.checked_units.proofs.Used.{all_used_grow, room_types}
-use Rattle.checked_units.specs.Begun.{IsBegun, UseKeeps, EachUse, HaveLiterals, interface_variables, IsBlock, IsInterface}
+use Rattle.checked_units.specs.Begun.{IsBegun, UsesKeep, HaveLiterals, interface_variables, IsBlock, IsInterface}
 
 nothing_at : {A : Type 0} → (number : ℕ) (one : A) → slice_get [] number ≡ Some one → ⊥
 nothing_at zero one e = let bad : ⊥ = cc in bad
@@ -81,7 +81,7 @@ module _ (name : List ℕ) (keeps : PartsKeep name) where
   declared_grows s t (i.Part one) k = part_grows name unit_site s t one k
   declared_grows s t (i.Header one) k = subst (λ (x : Stage). Grows s.draft x.draft) (sym k.made) (heading_grows true unit_site s.draft one k.part k.holds)
 
-  all_grows : (all : List InterfaceDeclaration) (s t : Stage) → (all_declared name s all).holds t → Grows s.draft t.draft
+  pub all_grows : (all : List InterfaceDeclaration) (s t : Stage) → (all_declared name s all).holds t → Grows s.draft t.draft
   all_grows [] s t k = subst (λ (x : Stage). Grows s.draft x.draft) (sym k) (grows_itself s.draft)
   all_grows (one ∷ rest) s t k = grows_on s.draft k.part.draft t.draft (declared_grows s k.part one k.holds) (all_grows rest k.part t k.made)
 
@@ -126,7 +126,7 @@ module _ (name : List ℕ) (keeps : PartsKeep name) where
 
   -- ---- further used units
 
-  pub uses_left : (have : List Interface) (d : Drafted) (h : Environment) (all : List Identifier) → EachUse (UseKeeps name have) all → IsRead d [] → slice_get d.scope.units 0 ≡ Some name → (all_used have d.scope all).holds h
+  pub uses_left : (have : List Interface) (d : Drafted) (h : Environment) (all : List Identifier) → UsesKeep have d all → IsRead d [] → slice_get d.scope.units 0 ≡ Some name → (all_used have d.scope all).holds h
       → HasRoom (knowing d h) → IsLeft name d (knowing d h)
   uses_left have d h [] uses read named k room =
       let whole : knowing d h ≡ d = ap (λ (x : Environment). knowing d x) k in
@@ -134,6 +134,7 @@ module _ (name : List ℕ) (keeps : PartsKeep name) where
   uses_left have d h (one ∷ rest) uses read named k room =
       let more = all_used_grow have k.part rest h k.made in
       let fits = room_types (knowing d k.part) (knowing d h) more.0 more.1 refl refl room in
-      let step = uses.0 d k.part read named k.holds fits in
-      let others = uses_left have (knowing d k.part) h rest uses.1 step.read (step.named ∙ named) k.made room in
+      let both = uses k.part k.holds fits in
+      let step = both.0 in
+      let others = uses_left have (knowing d k.part) h rest both.1 step.read (step.named ∙ named) k.made room in
       record { read = others.read; since = extends_on (scope_of d []) (scope_of (knowing d k.part) []) (scope_of (knowing d h) []) step.since others.since; named = others.named }

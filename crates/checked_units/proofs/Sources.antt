@@ -1,6 +1,6 @@
 -- Checked sources are well-formed units.
 use Rattle.std.proofs.Common.{◌≡◌, ℕ, ◌+◌, ◌<◌, List, [], ◌∷◌, length, map, Option, Some, None, refl, subst, ap, ◌∙◌, arith, length-append}
-use Rattle.std.specs.Prelude.{◌^◌, drop}
+use Rattle.std.specs.Prelude.{◌^◌, drop, slice_get}
 use Rattle.std.proofs.lemmas.List.{length-map}
 use Rattle.std.proofs.lemmas.List.Elements.{All-nil}
 use Rattle.type_layout.specs.Table.{Table}
@@ -21,10 +21,10 @@ use Rattle.routines.specs.Drafts.{Drafted, knowing, Stage, stage}
 use Rattle.tp_check_decl.specs.Units.{Whole, view_routine, view_unit}
 use Rattle.tp_check_decl.specs.Endings.{ended}
 use Rattle.tp_check_decl.specs.Programs.{program_judged}
-use Rattle.tp_check_decl.specs.Interfaces.{items_of, unit_judged}
+use Rattle.tp_check_decl.specs.Interfaces.{items_of, interface_judged, unit_judged}
 use Rattle.wider_scopes.specs.Laws.{StatementsStay}
 use Rattle.sound_tables.specs.Laws.{IsFit}
-use Rattle.checked_routines.specs.Reading.{scope_of}
+use Rattle.checked_routines.specs.Reading.{scope_of, IsRead}
 use Rattle.checked_routines.specs.Rooms.{HasRoom}
 use Rattle.checked_routines.specs.Laws.{PartsKeep}
 use Rattle.checked_parts.specs.Laws.{PartLaw}
@@ -32,9 +32,9 @@ use Rattle.constant_values.specs.Laws.{StayConstants}
 use Rattle.checked_routines.proofs.Steps.{extends_on}
 use Rattle.checked_routines.proofs.Grown.{room_before, all_grow}
 use Rattle.tp_check_decl.specs.Programs.{unit_site}
-use Rattle.checked_units.specs.Begun.{IsBegun, UseKeeps, EachUse, further_uses, IsKeptPart, IsBlock, IsInterface, IsRoomy}
+use Rattle.checked_units.specs.Begun.{IsBegun, UsesKeep, IsKeptPart, IsBlock, IsInterface, IsRoomy}
 use Rattle.checked_units.specs.Laws.{SourceLaw, BareLaw}
-use Rattle.checked_units.proofs.Uses.{bare_begun, bare_keeps}
+use Rattle.checked_units.proofs.Uses.{bare_begun, bare_keep}
 use Rattle.checked_units.proofs.Begun.{block_left, interface_left, program_left, uses_left}
 use Rattle.checked_units.proofs.Finished.{count_all}
 use Rattle.checked_units.proofs.Used.{all_used_grow, room_types}
@@ -62,18 +62,46 @@ ended_room name front items (Some body) d unit h room =
       types = subst (λ (table : Table). IsFit table.types) (ap (λ (w : Whole). w.types) h.made) room.types;
     }
 
+module _ (name : List ℕ) (g : Environment) (unit : typed.Unit) (room : IsRoomy unit) where
+  -- the draft of a program
+  pub program_room : (says : Directives) (uses : List Identifier) (all : Works) (body : CompoundStatement) → (h : (program_judged name says g uses all body).holds (view_unit unit)) → HasRoom h.made.made.part
+  program_room says uses all body h = ended_room name h.made.part [] (Some body) h.made.made.part unit h.made.made.made room
+
+  -- that of a unit behind its implementation part, before it, and before the units that this uses
+  last_room : (says : Directives) (have : List Interface) (own : Identifier) (uses : List Identifier) (outer : ℕ) (interface : List InterfaceDeclaration) (all : Works) (body : Option CompoundStatement)
+      → (h : (unit_judged name says g have own uses outer interface all body).holds (view_unit unit)) → HasRoom h.made.made.made.part.draft
+  last_room says have own uses outer interface all body h =
+      ended_room name h.part (items_of h.made.part.scope) body h.made.made.made.part.draft unit h.made.made.made.made room
+
+  middle_room : (says : Directives) (have : List Interface) (own : Identifier) (uses : List Identifier) (outer : ℕ) (interface : List InterfaceDeclaration) (all : Works) (body : Option CompoundStatement)
+      → (h : (unit_judged name says g have own uses outer interface all body).holds (view_unit unit)) → HasRoom (knowing h.made.part h.made.made.part)
+  middle_room says have own uses outer interface all body h =
+      let d : Drafted = h.made.part in
+      let late : Environment = h.made.made.part in
+      let s : Stage = h.made.made.made.part in
+      room_before (knowing d late) s.draft (all_grow all name unit_site (stage (knowing d late) []) s h.made.made.made.holds)
+      (last_room says have own uses outer interface all body h)
+
+  pub unit_room : (says : Directives) (have : List Interface) (own : Identifier) (uses : List Identifier) (outer : ℕ) (interface : List InterfaceDeclaration) (all : Works) (body : Option CompoundStatement)
+      → (h : (unit_judged name says g have own uses outer interface all body).holds (view_unit unit)) → HasRoom h.made.part
+  unit_room says have own uses outer interface all body h =
+      let d : Drafted = h.made.part in
+      let late : Environment = h.made.made.part in
+      let more = all_used_grow have d.scope (drop outer uses) late h.made.made.holds in
+      room_types d (knowing d late) more.0 more.1 refl refl (middle_room says have own uses outer interface all body h)
+
 module _ (stay : StatementsStay) (name : List ℕ) (g : Environment) (keeps : PartsKeep name) (begun : IsBegun name g) (unit : typed.Unit) (room : IsRoomy unit) where
   program_formed : (says : Directives) (uses : List Identifier) (all : Works) (body : CompoundStatement) → IsBlock all → IsKeptPart (Some body) → (program_judged name says g uses all body).holds (view_unit unit) → IsWellFormed unit
   program_formed says uses all body block kept h =
       let front = h.made in
       let declared = front.made in
       let d : Drafted = declared.part in
-      let fits = ended_room name front.part [] (Some body) d unit declared.made room in
-      let left = program_left name keeps g d all begun block fits declared.holds in
+      let left = program_left name keeps g d all begun block (program_room name g unit room says uses all body h) declared.holds in
       formed stay name d left.read left.named unit room.routines front.part [] (Some body) declared.made kept (λ every behind finish u. All-nil (IsItem unit))
 
-  unit_formed : (says : Directives) (have : List Interface) (own : Identifier) (uses : List Identifier) (outer : ℕ) (interface : List InterfaceDeclaration) (all : Works) (body : Option CompoundStatement) → EachUse (UseKeeps name have) (drop outer uses)
-      → IsInterface interface → IsBlock all → IsKeptPart body → (unit_judged name says g have own uses outer interface all body).holds (view_unit unit) → IsWellFormed unit
+  unit_formed : (says : Directives) (have : List Interface) (own : Identifier) (uses : List Identifier) (outer : ℕ) (interface : List InterfaceDeclaration) (all : Works) (body : Option CompoundStatement)
+      → ((d : Drafted) → (interface_judged name g interface).holds d → IsRead d [] → slice_get d.scope.units 0 ≡ Some name → UsesKeep have d (drop outer uses)) → IsInterface interface → IsBlock all → IsKeptPart body
+      → (unit_judged name says g have own uses outer interface all body).holds (view_unit unit) → IsWellFormed unit
   unit_formed says have own uses outer interface all body brings inside block kept h =
       let front = h.made in
       let d : Drafted = front.part in
@@ -82,12 +110,10 @@ module _ (stay : StatementsStay) (name : List ℕ) (g : Environment) (keeps : Pa
       let implementation = used.made in
       let s : Stage = implementation.part in
       let e : Drafted = s.draft in
-      let end_room = ended_room name h.part (items_of d.scope) body e unit implementation.made room in
-      let middle_room = room_before (knowing d late) e (all_grow all name unit_site (stage (knowing d late) []) s implementation.holds) end_room in
-      let more = all_used_grow have d.scope _ late used.holds in
-      let first_room = room_types d (knowing d late) more.0 more.1 refl refl middle_room in
-      let first = interface_left name keeps g d interface begun inside first_room front.holds in
-      let second = uses_left name keeps have d late (drop outer uses) brings first.read first.named used.holds middle_room in
+      let end_room = last_room name g unit room says have own uses outer interface all body h in
+      let first = interface_left name keeps g d interface begun inside (unit_room name g unit room says have own uses outer interface all body h) front.holds in
+      let second = uses_left name keeps have d late (drop outer uses) (brings d front.holds first.read first.named) first.read first.named used.holds
+      (middle_room name g unit room says have own uses outer interface all body h) in
       let third = block_left name keeps (knowing d late) e all second.read second.named block s refl end_room implementation.holds in
       let since = extends_on (scope_of d []) (scope_of (knowing d late) []) (scope_of e []) second.since third.since in
       formed stay name e third.read third.named unit room.routines h.part (items_of d.scope) body implementation.made kept
@@ -101,4 +127,4 @@ source_formed stay keeps name says g have (t.Unit here own uses outer interface 
 
 pub bare_formed : StatementsStay → PartLaw → StayConstants → BareLaw
 bare_formed stay keeps constants name says have uses tree unit other are further source room h =
-    source_formed stay keeps name says (resolved have name uses) have tree unit (bare_keeps constants name other have (further_uses tree) further) (bare_begun constants name other have uses are) source room h
+    source_formed stay keeps name says (resolved have name uses) have tree unit (bare_keep constants name other have (resolved have name uses) tree further) (bare_begun constants name other have uses are) source room h

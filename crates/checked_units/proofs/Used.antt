@@ -10,7 +10,7 @@ use Rattle.syntax_tree.specs.declared.identifier.Identifier.{Identifier}
 use Rattle.scopes.specs.Environment.{Environment}
 use Rattle.unit_interface.specs.declared.interfaces.Interface.{Interface}
 use Rattle.unit_interface.specs.Merge.{with_listed, is_new, merged, ids_in, with_interface}
-use Rattle.unit_interface.specs.Resolve.{is_overlay, interface_named, with_found, with_overlay, with_use}
+use Rattle.unit_interface.specs.Resolve.{is_overlay, interface_named, with_found, with_overlay, with_use, with_uses}
 use Rattle.routines.specs.Drafts.{Numbered, Drafted}
 use Rattle.tp_check_decl.specs.Interfaces.{all_used}
 use Rattle.sound_tables.specs.Laws.{IsFit}
@@ -50,12 +50,17 @@ found_more : (g : Environment) (found : Option Interface) → HasMore g.types.ty
 found_more g None = none_more g.types.types g.types.types refl
 found_more g (Some interface) = interface_more g interface
 
-use_more : (have : List Interface) (g : Environment) (name : List ℕ) → HasMore g.types.types (with_use have g name).types.types
+pub use_more : (have : List Interface) (g : Environment) (name : List ℕ) → HasMore g.types.types (with_use have g name).types.types
 use_more have g name = by (is_overlay name)
   where
     by : (b : Bool) → HasMore g.types.types (cond b (with_overlay g) (with_found g (interface_named have name))).types.types
     by true = none_more g.types.types g.types.types refl
     by false = found_more g (interface_named have name)
+
+pub uses_more : (have : List Interface) (g : Environment) (names : List (List ℕ)) → HasMore g.types.types (with_uses have g names).types.types
+uses_more have g [] = none_more g.types.types g.types.types refl
+uses_more have g (name ∷ names) =
+    more_on g.types.types (with_use have g name).types.types (with_uses have (with_use have g name) names).types.types (use_more have g name) (uses_more have (with_use have g name) names)
 
 pub all_used_grow : (have : List Interface) (g : Environment) (all : List Identifier) (h : Environment) → (all_used have g all).holds h → HasMore g.types.types h.types.types
 all_used_grow have g [] h k = none_more g.types.types h.types.types (ap (λ (x : Environment). x.types.types) k)

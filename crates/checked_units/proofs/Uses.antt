@@ -1,15 +1,19 @@
 -- Scopes over used units, step by step.
-use Rattle.std.proofs.Common.{◌≡◌, ℕ, Bool, true, cond, List, [], ◌∷◌, sym, subst, ap, ◌∙◌}
+use Rattle.std.proofs.Common.{◌≡◌, ℕ, Bool, true, cond, List, [], ◌∷◌, Some, drop, sym, subst, ap, ◌∙◌}
+use Rattle.std.specs.Prelude.{slice_get}
 use Rattle.syntax_tree.specs.declared.identifier.Identifier.{Identifier}
 use Rattle.scopes.specs.Predeclared.{first}
 use Rattle.scopes.specs.Environment.{Environment}
 use Rattle.unit_interface.specs.declared.interfaces.Interface.{Interface}
 use Rattle.unit_interface.specs.Resolve.{overlay, is_overlay, interface_named, with_found, with_overlay, with_use, with_uses, resolved}
-use Rattle.routines.specs.Drafts.{knowing}
+use Rattle.source_tree.specs.declared.source.Tree.{Tree}
+use Rattle.source_tree.specs.declared.source.Tree.TheVariants as t
+use Rattle.routines.specs.Drafts.{Drafted, knowing}
+use Rattle.tp_check_decl.specs.Interfaces.{further_used}
 use Rattle.tp_check_decl.specs.Programs.{empty_draft}
-use Rattle.checked_routines.specs.Reading.{scope_of}
+use Rattle.checked_routines.specs.Reading.{scope_of, IsRead}
 use Rattle.constant_values.specs.Laws.{StayConstants}
-use Rattle.checked_units.specs.Begun.{IsBegun, IsJoined, UseKeeps, EachUse}
+use Rattle.checked_units.specs.Begun.{IsBegun, IsJoined, EachUse, further_uses, UsesKeep, FurtherKeep}
 use Rattle.checked_units.specs.Laws.{AreOverlay}
 use Rattle.checked_units.proofs.Bringing.{brought_draft, brought_begun}
 use Rattle.checked_units.proofs.Overlay.{overlay_brings}
@@ -31,11 +35,18 @@ module _ (stay : StayConstants) (name : List ℕ) (other : name ≡ overlay → 
   pub bare_begun : (words : List (List ℕ)) → AreOverlay words → IsBegun name (resolved have name words)
   bare_begun words are = uses_begun (first name) words are (first_begun name)
 
-  use_keeps : (one : Identifier) → is_overlay one.name ≡ true → UseKeeps name have one
-  use_keeps one is d h r named k room =
+  pub overlay_joins : (one : Identifier) → is_overlay one.name ≡ true → (d : Drafted) (h : Environment) → IsRead d [] → slice_get d.scope.units 0 ≡ Some name → (further_used have d.scope one).holds h
+      → IsJoined d (knowing d h)
+  overlay_joins one is d h r named k =
       subst (λ (e : Environment). IsJoined d (knowing d e)) (sym (k.made ∙ overlay_is d.scope one.name is))
       (brought_draft stay name d (with_overlay d.scope) r named (overlay_brings name d.scope (scope_of d []) r.known named other r.table))
 
-  pub bare_keeps : (uses : List Identifier) → EachUse (λ (one : Identifier). is_overlay one.name ≡ true) uses → EachUse (UseKeeps name have) uses
-  bare_keeps [] are = tt
-  bare_keeps (one ∷ rest) are = (use_keeps one are.0, bare_keeps rest are.1)
+  uses_keep : (d : Drafted) (uses : List Identifier) → EachUse (λ (one : Identifier). is_overlay one.name ≡ true) uses → IsRead d [] → slice_get d.scope.units 0 ≡ Some name → UsesKeep have d uses
+  uses_keep d [] are r named = tt
+  uses_keep d (one ∷ rest) are r named = λ h k room.
+      let step = overlay_joins one are.0 d h r named k in
+      (step, uses_keep (knowing d h) rest are.1 step.read (step.named ∙ named))
+
+  pub bare_keep : (g : Environment) (tree : Tree) → EachUse (λ (one : Identifier). is_overlay one.name ≡ true) (further_uses tree) → FurtherKeep name g have tree
+  bare_keep g (t.Program heading uses all body) are = tt
+  bare_keep g (t.Unit here own uses outer interface all body) are = λ d k r named. uses_keep d (drop outer uses.items) are r named

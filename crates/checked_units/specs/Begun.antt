@@ -11,7 +11,7 @@ use Rattle.scopes.specs.Environment.{Environment}
 use Rattle.unit_interface.specs.declared.interfaces.Interface.{Interface}
 use Rattle.routines.specs.Trees.{Works, view_declarations}
 use Rattle.routines.specs.Drafts.{Drafted, knowing}
-use Rattle.tp_check_decl.specs.Interfaces.{further_used}
+use Rattle.tp_check_decl.specs.Interfaces.{interface_judged, further_used}
 use Rattle.tp_check_decl.specs.Programs.{empty_draft}
 use Rattle.sound_tables.specs.Laws.{IsFit}
 use Rattle.declared_values.specs.Literals.{HasLiterals}
@@ -37,9 +37,10 @@ pub record IsJoined (d e : Drafted) : Type 0 where
   pub since : Extends (scope_of d []) (scope_of e [])
   pub named : slice_get e.scope.units 0 ≡ slice_get d.scope.units 0
 
-abbrev pub UseKeeps : List ℕ → List Interface → Identifier → Type 0
-UseKeeps name have one =
-    (d : Drafted) (h : Environment) → IsRead d [] → slice_get d.scope.units 0 ≡ Some name → (further_used have d.scope one).holds h → HasRoom (knowing d h) → IsJoined d (knowing d h)
+-- Units that come into the scope of a draft, one behind the other: each keeps what is known.
+abbrev pub UsesKeep : List Interface → Drafted → List Identifier → Type 0
+UsesKeep have d [] = Unit {0}
+UsesKeep have d (one ∷ rest) = (h : Environment) → (further_used have d.scope one).holds h → HasRoom (knowing d h) → IsJoined d (knowing d h) × UsesKeep have (knowing d h) rest
 
 abbrev pub EachUse : (Identifier → Type 0) → List Identifier → Type 0
 EachUse P [] = Unit {0}
@@ -50,9 +51,11 @@ abbrev pub further_uses : Tree → List Identifier
 further_uses (t.Program heading uses all body) = []
 further_uses (t.Unit here own uses outer interface all body) = drop outer uses.items
 
--- each of them keeps what is known
-abbrev pub UsesKeep : List ℕ → List Interface → Tree → Type 0
-UsesKeep name have tree = EachUse (UseKeeps name have) (further_uses tree)
+-- they keep what is known behind the interface part of a source
+abbrev pub FurtherKeep : List ℕ → Environment → List Interface → Tree → Type 0
+FurtherKeep name g have (t.Program heading uses all body) = Unit {0}
+FurtherKeep name g have (t.Unit here own uses outer interface all body) =
+    (d : Drafted) → (interface_judged name g interface.items).holds d → IsRead d [] → slice_get d.scope.units 0 ≡ Some name → UsesKeep have d (drop outer uses.items)
 
 -- ---- sources
 

@@ -14,13 +14,13 @@ use Rattle.tp_check_decl.specs.Units.{view_unit}
 use Rattle.tp_check_decl.specs.Programs.{empty_draft}
 use Rattle.tp_check_decl.specs.Checked.{IsTypedAs}
 use Rattle.checked_routines.specs.Reading.{scope_of, IsRead}
-use Rattle.checked_units.specs.Begun.{IsBegun, IsJoined, EachUse, further_uses, UsesKeep, IsSource, IsRoomy}
+use Rattle.checked_units.specs.Begun.{IsBegun, IsJoined, EachUse, further_uses, FurtherKeep, IsSource, IsRoomy}
 use Rattle.checked_units.specs.Bringing.{Brings}
 
 -- Over a scope whose names are there, each source that is typed is a well-formed unit, where the units that its implementation part
--- uses keep what is known.
+-- uses keep what is known behind its interface part.
 abbrev pub SourceLaw : Type 0
-SourceLaw = (name : List ℕ) (says : Directives) (g : Environment) (have : List Interface) (tree : Tree) (unit : typed.Unit) → UsesKeep name have tree → IsBegun name g
+SourceLaw = (name : List ℕ) (says : Directives) (g : Environment) (have : List Interface) (tree : Tree) (unit : typed.Unit) → FurtherKeep name g have tree → IsBegun name g
     → IsSource tree → IsRoomy unit → IsTypedAs name says g have tree (view_unit unit) → IsWellFormed unit
 
 abbrev pub AreOverlay : List (List ℕ) → Type 0

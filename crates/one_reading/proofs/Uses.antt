@@ -5,9 +5,8 @@ use Rattle.pascal_grammar.specs.Productions as p
 use Rattle.syntax_tree.specs.declared.identifier.Identifier.{Identifier}
 use Rattle.syntax_tree.specs.Expressions.{Parsed, of, name_of}
 use Rattle.type_tree.specs.Parameters.{next_identifiers}
-use Rattle.source_tree.specs.declared.source.Tree.{Tree}
 use Rattle.source_tree.specs.declared.source.Tree.TheVariants as t
-use Rattle.source_tree.specs.Sources.{of_tree, uses_clause}
+use Rattle.source_tree.specs.Sources.{uses_clause}
 use Rattle.source_gathering.proofs.UsedLaws.{used_once}
 use Rattle.one_reading.specs.Laws.{AlikeUses}
 

@@ -111,7 +111,7 @@ module _ (unit : TypedUnit) (reached : List ℕ) (table : Table)
       (exactly to below).1 (record { steps = suc h.steps; within = (ty.0, h.within, goes_along own ty.0 to (slice_get own ty.0) named, below) })
 
   module _ (level : length other.origins ≡ length other.types) (alike : IsKnownAlike table other) (beside : AreBeside table other)
-      (byte : f (type_id 1) ≡ type_id 1) (chars : f char ≡ char) (truths : f boolean ≡ boolean) where
+      (byte : Needed (type_id 1) → f (type_id 1) ≡ type_id 1) (chars : Needed char → f char ≡ char) (truths : Needed boolean → f boolean ≡ boolean) where
     told : (ty : TypeId) (one : TypeDef) → Needed ty → definition own ty ≡ Some one → IsTold (with_types table other).types f ty one
     told ty one need at =
         let k = kept_there ty one need at in

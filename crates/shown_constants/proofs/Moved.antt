@@ -87,9 +87,9 @@ module _ (a b : List TypeDef) (f : TypeId → TypeId) (Needed : TypeId → Type 
 
   -- the base of a set over all of a host is one too
   over_moves : (h : SetBase) (base : TypeId) → Needed base → IsHost a h base → (other : SetBase) × IsHost b other (f base)
-  over_moves over.Integers base need is = (over.Integers, ap f is ∙ t.byte)
-  over_moves over.Chars base need is = (over.Chars, ap f is ∙ t.char)
-  over_moves over.Booleans base need is = (over.Booleans, ap f is ∙ t.boolean)
+  over_moves over.Integers base need is = (over.Integers, ap f is ∙ t.byte (subst Needed is need))
+  over_moves over.Chars base need is = (over.Chars, ap f is ∙ t.char (subst Needed is need))
+  over_moves over.Booleans base need is = (over.Booleans, ap f is ∙ t.boolean (subst Needed is need))
   over_moves (over.Enumeration of) base need is =
       let here : IsEnumerated a base = subst (λ (x : TypeId). IsEnumerated a x) (sym is.0) is.1 in
       (over.Enumeration (f base), (refl, enumerated_moves base need (definition a base) refl here))

@@ -1,5 +1,5 @@
 -- When a table knows the types of another one as they are.
-use Rattle.std.specs.Prelude.{◌≡◌, ℕ, ◌+◌, ◌<◌, length, ℤ, false, List, [], ◌∷◌, Some, slice_get, get_or}
+use Rattle.std.specs.Prelude.{◌≡◌, ℕ, ◌+◌, ◌<◌, length, ℤ, true, false, List, [], ◌∷◌, Some, slice_get, get_or}
 use Rattle.type_layout.specs.declared.definitions.TypeId.{TypeId}
 use Rattle.type_layout.specs.declared.definitions.Host.TheVariants as host
 use Rattle.type_layout.specs.declared.definitions.TypeDef.{TypeDef}
@@ -14,7 +14,7 @@ use Rattle.scopes.specs.Predeclared.{type_id}
 use Rattle.typing_rules.specs.Sorts.{char, boolean}
 use Rattle.typed_tree.specs.declared.units.Unit.{Unit as TypedUnit}
 use Rattle.unit_interface.specs.declared.interfaces.Interface.{Interface}
-use Rattle.unit_interface.specs.Exports.{new_ids}
+use Rattle.unit_interface.specs.Exports.{is_in, new_ids}
 
 -- a type of another table stands in a list of types under an id, with the new ids of what it names
 pub record IsThere (ids : List TypeId) (types : List TypeDef) (id : TypeId) (one : TypeDef) : Type 0 where
@@ -46,17 +46,17 @@ pub record IsWhole (types : List TypeDef) : Type 0 where
 abbrev pub twice : List TypeId → List TypeId → TypeId → TypeId
 twice ids kids ty = new_id ids (new_id kids ty)
 
--- Byte, Char and Boolean have the ids that they have in each table
-pub record AreFixed (ids kids : List TypeId) : Type 0 where
-  pub byte : twice ids kids (type_id 1) ≡ type_id 1
-  pub chars : twice ids kids char ≡ char
-  pub truths : twice ids kids boolean ≡ boolean
+-- those of Byte, Char and Boolean that are reached have the ids that they have in each table
+pub record AreFixed (reached : List ℕ) (ids kids : List TypeId) : Type 0 where
+  pub byte : is_in reached 1 ≡ true → twice ids kids (type_id 1) ≡ type_id 1
+  pub chars : is_in reached char.0 ≡ true → twice ids kids char ≡ char
+  pub truths : is_in reached boolean.0 ≡ true → twice ids kids boolean ≡ boolean
 
 -- A table into which the interface of a unit comes: it has what it knows of the interface's types as they are.
 pub record IsKnownOf (unit : TypedUnit) (i : Interface) (reached : List ℕ) (table : Table) : Type 0 where
   pub alike : IsKnownAlike table i.types
   pub beside : AreBeside table i.types
-  pub fixed : AreFixed (ids_in table i.types) (new_ids reached (length unit.types.types))
+  pub fixed : AreFixed reached (ids_in table i.types) (new_ids reached (length unit.types.types))
 
 -- ---- constants
 

@@ -25,11 +25,11 @@ pub record IsTold (b : List TypeDef) (f : TypeId → TypeId) (ty : TypeId) (one 
   pub bounds : bounds_of (Some other) ≡ bounds_of (Some one)
 
 -- The types of one table that are needed are there in another, under the ids that a function gives; with a set its base, and behind an
--- enumeration the set, which is behind it there too. Those that every table begins with keep their ids.
+-- enumeration the set, which is behind it there too. Those of Byte, Char and Boolean that are needed keep their ids.
 pub record AreTold (a b : List TypeDef) (f : TypeId → TypeId) (Needed : TypeId → Type 0) : Type 0 where
   pub told : (ty : TypeId) (one : TypeDef) → Needed ty → definition a ty ≡ Some one → IsTold b f ty one
   pub base : (ty base : TypeId) → Needed ty → definition a ty ≡ Some (type.SetOf base) → Needed base × ((one : TypeDef) × (definition a base ≡ Some one))
   pub behind : (ty : TypeId) (low high : ℤ) → Needed ty → definition a ty ≡ Some (type.Ordinal host.Enumeration low high) → Needed (type_id (ty.0 + 1)) × (f (type_id (ty.0 + 1)) ≡ type_id ((f ty).0 + 1))
-  pub byte : f (type_id 1) ≡ type_id 1
-  pub char : f char ≡ char
-  pub boolean : f boolean ≡ boolean
+  pub byte : Needed (type_id 1) → f (type_id 1) ≡ type_id 1
+  pub char : Needed char → f char ≡ char
+  pub boolean : Needed boolean → f boolean ≡ boolean

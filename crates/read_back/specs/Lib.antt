@@ -1,0 +1,5 @@
+pub mod Written
+pub mod Values
+pub mod Reading
+pub mod Trees
+pub mod Laws
