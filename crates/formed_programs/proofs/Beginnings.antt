@@ -11,7 +11,6 @@ use Rattle.unit_interface.specs.declared.interfaces.Interface.{Interface}
 use Rattle.unit_interface.specs.Keyed.{IsKeyed}
 use Rattle.routines.specs.Trees.{view_declarations}
 use Rattle.routines.specs.Drafts.{Drafted}
-use Rattle.tp_check_decl.specs.declared.fronts.Front.{Front}
 use Rattle.tp_check_decl.specs.Units.{Whole, whole, view_unit}
 use Rattle.tp_check_decl.specs.Interfaces.{items_of}
 use Rattle.tp_check_decl.specs.Shown.{outlined}
@@ -51,7 +50,7 @@ module _ (name : List ℕ) (parts : PartsKeep name) (says : Directives) (have : 
     (behind : (after : Table) → Declares name g.types after → IsToldBut have name after) where
   pub begins : (tree : Tree) (unit : typed.Unit) → IsTypedAs name says g have tree (view_unit unit) → IsSource tree → IsRoomy unit → IsBeginning name says g tree
   begins (t.Program heading uses all body) unit h source room =
-      let front : Front = h.made.part in
+      let front = h.made.part in
       record {
         unit = whole name front g [] [] [] None;
         holds = record { part = front; holds = h.made.holds; made = refl };
@@ -61,7 +60,7 @@ module _ (name : List ℕ) (parts : PartsKeep name) (says : Directives) (have : 
         constants = tt;
       }
   begins (t.Unit here own uses outer interface all body) unit h source room =
-      let front : Front = h.part in
+      let front = h.part in
       let d : Drafted = h.made.part in
       let left = interface_left name parts g d interface.items begun source.0 (unit_room name g unit room says have own uses.items outer interface.items (view_declarations all.items) body h) h.made.holds in
       let declares = (interface_grows name g interface.items d h.made.holds).declares in

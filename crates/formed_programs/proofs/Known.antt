@@ -21,7 +21,6 @@ use Rattle.unit_interface.specs.Resolve.{overlay, is_overlay, interface_named, w
 use Rattle.typing_rules.proofs.JudgementLaws.{exact}
 use Rattle.source_order.specs.Orders.{names_of}
 use Rattle.routines.specs.Drafts.{Drafted, knowing}
-use Rattle.tp_check_decl.specs.declared.fronts.Front.{Front}
 use Rattle.tp_check_decl.specs.Units.{Whole, whole, view_unit}
 use Rattle.tp_check_decl.specs.Programs.{empty_draft}
 use Rattle.tp_check_decl.specs.Interfaces.{items_of, unit_front, interface_judged, further_used}
@@ -267,7 +266,7 @@ module _ (laws : Laws) (sources : List Source) (have : List Interface) (o : AreI
         abbrev g : Environment
         g = outer_scope have s
 
-        middle : (front : Front) (here : _) (own : Identifier) (uses : _) (outer : ℕ) (interface : _) (all : _) (body : _) → (shows : IsShownAs name s.says g (t.Unit here own uses outer interface all body) mine)
+        middle : (front : _) (here : _) (own : Identifier) (uses : _) (outer : ℕ) (interface : _) (all : _) (body : _) → (shows : IsShownAs name s.says g (t.Unit here own uses outer interface all body) mine)
             → IsTold have shows.unit.types → (unit_front name s.says own uses.items).holds front → (d : Drafted) → (interface_judged name g interface.items).holds d → IsRead d [] → slice_get d.scope.units 0 ≡ Some name → IsMiddle d
         middle front here own uses outer interface all body shows within fronted d h r named =
             let w : Whole = whole name front d.scope (items_of d.scope) d.globals [] None in
