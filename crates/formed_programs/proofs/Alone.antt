@@ -45,7 +45,7 @@ unit_formed bare have source unit h alone room =
 -- ---- programs
 
 -- what holds of all sources holds of those at some places
-at_place : (P : Source → Type 0) (sources : List Source) (place : ℕ) (one : Source) → All P sources → slice_get sources place ≡ Some one → P one
+pub at_place : (P : Source → Type 0) (sources : List Source) (place : ℕ) (one : Source) → All P sources → slice_get sources place ≡ Some one → P one
 at_place P [] zero one h e = (let bad : ⊥ = cc in absurd bad)
 at_place P [] (suc place) one h e = (let bad : ⊥ = cc in absurd bad)
 at_place P (first ∷ rest) zero one h e = (let same : first ≡ one = cc in subst P same (All-head P first rest h))

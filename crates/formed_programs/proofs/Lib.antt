@@ -1,2 +1,9 @@
 mod Alone
 mod Using
+mod Faithful
+mod Constants
+mod Tables
+mod Rooms
+mod Beginnings
+mod Known
+mod Whole

@@ -15,10 +15,10 @@ use Rattle.closed_scopes.proofs.Using.{use_complete}
 use Rattle.sound_tables.specs.Laws.{IsFit}
 use Rattle.constant_values.specs.Laws.{StayConstants}
 use Rattle.checked_routines.specs.Reading.{scope_of}
-use Rattle.checked_units.specs.Begun.{IsBegun, further_uses}
+use Rattle.checked_units.specs.Begun.{IsBegun}
 use Rattle.checked_units.specs.Laws.{SourceLaw, UsedLaw}
 use Rattle.checked_units.proofs.Overlay.{overlay_brings}
-use Rattle.checked_units.proofs.Uses.{bare_keeps}
+use Rattle.checked_units.proofs.Uses.{bare_keep}
 use Rattle.brought_interfaces.specs.Faithful.{IsFaithful}
 use Rattle.brought_interfaces.specs.Laws.{InterfaceLaw}
 use Rattle.formed_programs.specs.Laws.{IsFaithfulUse, AreFaithful, UsingLaw}
@@ -51,4 +51,4 @@ module _ (used : UsedLaw) (brings : InterfaceLaw) (have : List Interface) (name 
 pub using_formed : StayConstants → SourceLaw → UsedLaw → InterfaceLaw → UsingLaw
 using_formed stay law used brings have source unit h s room =
     let begun = uses_begun used brings have source.name s.named s.closed (first source.name) (names_of (outer_units source)) (used source.name).alone (first_complete source.name) s.faithful h.fits in
-    law source.name source.says (outer_scope have source) have source.tree unit (bare_keeps stay source.name s.named have (further_uses source.tree) s.further) begun s.written room h.typed
+    law source.name source.says (outer_scope have source) have source.tree unit (bare_keep stay source.name s.named have (outer_scope have source) source.tree s.further) begun s.written room h.typed

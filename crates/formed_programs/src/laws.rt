@@ -1,19 +1,25 @@
 //! The laws on well-formed units of programs.
 
-ghost use Rattle.formed_programs.specs.Laws.{UnitLaw, UsingLaw, ProgramLaw};
+ghost use Rattle.formed_programs.specs.Laws.{UnitLaw, UsingLaw, ProgramLaw, WholeLaw};
 
-use brought_interfaces::interface_law;
+use brought_interfaces::{further_use_law, interface_law};
+use checked_parts::part_keeping_law;
 use checked_units::checked_unit_laws;
 use constant_values::constant_value_law;
+use shown_constants::shown_constant_law;
 
-/// Where sources use no unit but OVERLAY, the typed unit of each is well formed, and so are all units of a program. So is the typed
-/// unit of a source whose interface part uses others, where what these tell is known alike.
+/// All units of a program are well formed. Where sources use no unit but OVERLAY, the typed unit of each is, whatever else is there; and
+/// so is that of a source whose interface part uses others, where what these tell is known alike.
 pub fn formed_program_laws()
     ensures unit { UnitLaw }
     ensures program { ProgramLaw }
     ensures using { UsingLaw }
+    ensures whole { WholeLaw }
 {
     checked_unit_laws();
+    part_keeping_law();
     interface_law();
+    further_use_law();
+    shown_constant_law();
     constant_value_law();
 }

@@ -1,5 +1,6 @@
 use Rattle.formed_programs.proofs.Alone.{unit_formed, program_formed}
 use Rattle.formed_programs.proofs.Using.{using_formed}
+use Rattle.formed_programs.proofs.Whole.{whole_formed}
 use Rattle.formed_programs.proofs.laws.formed_program_laws.Goals as goal
 
 pub returns-clause-unit : goal.returns-clause-unit
@@ -11,3 +12,14 @@ returns-clause-program c = program_formed (unit_formed c.checked_unit_laws.ensur
 pub returns-clause-using : goal.returns-clause-using
 returns-clause-using c =
     using_formed c.constant_value_law.ensures.kept c.checked_unit_laws.ensures.sources c.checked_unit_laws.ensures.used c.interface_law.ensures
+
+pub returns-clause-whole : goal.returns-clause-whole
+returns-clause-whole c = whole_formed (record {
+  stay = c.constant_value_law.ensures.kept;
+  parts = c.part_keeping_law.ensures;
+  source = c.checked_unit_laws.ensures.sources;
+  used = c.checked_unit_laws.ensures.used;
+  brings = c.interface_law.ensures;
+  further = c.further_use_law.ensures;
+  shown = c.shown_constant_law.ensures;
+})

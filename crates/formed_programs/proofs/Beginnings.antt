@@ -1,0 +1,76 @@
+-- What a typed unit tells of what it declares first: a program of nothing, a unit of its interface part.
+use Rattle.std.proofs.Common.{ℕ, List, [], None, refl}
+use Rattle.type_layout.specs.Table.{Table}
+use Rattle.source_directives.specs.declared.collected.Directives.{Directives}
+use Rattle.source_tree.specs.declared.source.Tree.{Tree}
+use Rattle.source_tree.specs.declared.source.Tree.TheVariants as t
+use Rattle.typed_tree.specs.declared.units.Unit as typed
+use Rattle.scopes.specs.Environment.{Environment}
+use Rattle.scopes.specs.Predeclared.{type_table}
+use Rattle.unit_interface.specs.declared.interfaces.Interface.{Interface}
+use Rattle.unit_interface.specs.Keyed.{IsKeyed}
+use Rattle.routines.specs.Trees.{view_declarations}
+use Rattle.routines.specs.Drafts.{Drafted}
+use Rattle.tp_check_decl.specs.declared.fronts.Front.{Front}
+use Rattle.tp_check_decl.specs.Units.{Whole, whole, view_unit}
+use Rattle.tp_check_decl.specs.Interfaces.{items_of}
+use Rattle.tp_check_decl.specs.Shown.{outlined}
+use Rattle.tp_check_decl.specs.Checked.{IsTypedAs}
+use Rattle.checked_routines.specs.Reading.{scope_of, IsRead}
+use Rattle.checked_routines.specs.Laws.{PartsKeep}
+use Rattle.checked_parts.proofs.Closed.{known_closed}
+use Rattle.checked_units.specs.Begun.{IsBegun, IsSource, IsRoomy}
+use Rattle.checked_units.proofs.Begun.{interface_left}
+use Rattle.checked_units.proofs.Sources.{unit_room}
+use Rattle.closed_scopes.specs.Scopes.{IsCompleteScope}
+use Rattle.interface_laws.specs.Declared.{Declares}
+use Rattle.interface_laws.proofs.AgreementLaws.{interface_grows}
+use Rattle.told_types.specs.Told.{IsClosedTable, IsToldBut}
+use Rattle.told_interfaces.proofs.Declaring.{paired_of, keys_stay}
+use Rattle.fitting_types.specs.Fits.{IsToldScope}
+use Rattle.fitting_types.proofs.Uses.{closed_table}
+use Rattle.shown_constants.specs.Agreed.{AreOwnConstants}
+use Rattle.formed_programs.proofs.Faithful.{HasSystem}
+use Rattle.formed_programs.proofs.Constants.{values_shown}
+use Rattle.formed_programs.proofs.Tables.{stay_on}
+
+-- what was read over a scope is complete
+pub read_complete : (d : Drafted) → IsRead d [] → IsCompleteScope d.scope
+read_complete d r = record { ordered = r.table.ordered; closed = known_closed d.scope (scope_of d []) r.known r.table }
+
+-- the unit that is shown: its table is closed and begins with SYSTEM's types, and the constants are values of its types
+pub record IsBeginning (name : List ℕ) (says : Directives) (g : Environment) (tree : Tree) : Type 0 where
+  pub unit : Whole
+  pub holds : (outlined name says g tree).holds unit
+  pub keyed : IsKeyed unit.types
+  pub closed : IsClosedTable unit.types
+  pub system : HasSystem unit.types
+  pub constants : AreOwnConstants unit.types.types unit.items
+
+module _ (name : List ℕ) (parts : PartsKeep name) (says : Directives) (have : List Interface) (g : Environment) (begun : IsBegun name g) (scope : IsToldScope have g) (system : HasSystem g.types)
+    (behind : (after : Table) → Declares name g.types after → IsToldBut have name after) where
+  pub begins : (tree : Tree) (unit : typed.Unit) → IsTypedAs name says g have tree (view_unit unit) → IsSource tree → IsRoomy unit → IsBeginning name says g tree
+  begins (t.Program heading uses all body) unit h source room =
+      let front : Front = h.made.part in
+      record {
+        unit = whole name front g [] [] [] None;
+        holds = record { part = front; holds = h.made.holds; made = refl };
+        keyed = scope.told.keyed;
+        closed = closed_table g scope.complete;
+        system = system;
+        constants = tt;
+      }
+  begins (t.Unit here own uses outer interface all body) unit h source room =
+      let front : Front = h.part in
+      let d : Drafted = h.made.part in
+      let left = interface_left name parts g d interface.items begun source.0 (unit_room name g unit room says have own uses.items outer interface.items (view_declarations all.items) body h) h.made.holds in
+      let declares = (interface_grows name g interface.items d h.made.holds).declares in
+      let told = behind d.scope.types declares in
+      record {
+        unit = whole name front d.scope (items_of d.scope) d.globals [] None;
+        holds = record { part = front; holds = h.holds; made = record { part = d; holds = h.made.holds; made = refl } };
+        keyed = told.keyed;
+        closed = closed_table d.scope (read_complete d left.read);
+        system = stay_on type_table g.types d.scope.types system (keys_stay name g.types d.scope.types (paired_of g.types scope.told.keyed) declares);
+        constants = values_shown d left.read;
+      }

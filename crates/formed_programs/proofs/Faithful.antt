@@ -1,0 +1,136 @@
+-- A told interface is faithful in a told scope.
+use Rattle.std.proofs.Common.{◌≡◌, ◌∙◌, ℕ, ◌+◌, ◌<◌, ◌≤◌, true, false, not, List, length, take, Option, Some, get_or, refl, arith, ap, subst}
+use Rattle.std.specs.Prelude.{slice_get}
+use Rattle.std.proofs.lemmas.Bool.{lt-ltb}
+use Rattle.std.proofs.lemmas.Option.{slice_get_within}
+use Rattle.type_layout.specs.declared.definitions.TypeId.{TypeId}
+use Rattle.type_layout.specs.declared.definitions.Host.TheVariants as host
+use Rattle.type_layout.specs.declared.definitions.TypeDef.{TypeDef}
+use Rattle.type_layout.specs.declared.definitions.TypeDef.TheVariants as type
+use Rattle.type_layout.specs.Table.{Table}
+use Rattle.typed_tree.specs.declared.units.Unit as typed
+use Rattle.scopes.specs.Environment.{Environment}
+use Rattle.scopes.specs.Predeclared.{type_table, type_id}
+use Rattle.unit_interface.specs.declared.keys.Key.{Key}
+use Rattle.unit_interface.specs.declared.interfaces.Interface.{Interface}
+use Rattle.unit_interface.specs.Merge.{key_of, keys_of, ids_in, new_id, is_new, merged}
+use Rattle.unit_interface.specs.Exports.{with_type, is_in, kept_before, new_ids, IsInterfaceOf}
+use Rattle.unit_interface.specs.Keyed.{IsKeyed}
+use Rattle.unit_interface.proofs.KeyLaws.{AreApart, known_after, id-at, key_at, count_of, merged_so}
+use Rattle.closed_constants.specs.Bounds.{AreBelow}
+use Rattle.closed_scopes.proofs.Merging.{longer}
+use Rattle.told_types.specs.Told.{Stands, IsClosedTable, AreClosedHomes, IsToldInterface}
+use Rattle.told_types.proofs.Keys.{place_at, after_front}
+use Rattle.told_types.proofs.Known.{key_there, own_named, same_id}
+use Rattle.told_types.proofs.Merged.{next_beside}
+use Rattle.told_types.proofs.Agreed.{known_alike}
+use Rattle.told_types.proofs.Shown.{kept_key}
+use Rattle.fitting_types.specs.Fits.{IsToldScope}
+use Rattle.fitting_types.proofs.Uses.{closed_table}
+use Rattle.shown_constants.specs.Agreed.{twice, IsWhole, AreFixed, IsKnownOf, AreOwnConstants}
+use Rattle.shown_constants.specs.Laws.{ShownConstants}
+use Rattle.shown_constants.proofs.Kept.{new_id_is}
+use Rattle.brought_interfaces.specs.Faithful.{IsFaithful}
+
+-- the types of a table stand at their places in another
+abbrev pub Stay : Table → Table → Type 0
+Stay table later = (place : ℕ) (key : Key) → slice_get (keys_of table) place ≡ Some key → slice_get (keys_of later) place ≡ Some key
+
+-- SYSTEM's types do
+abbrev pub HasSystem : Table → Type 0
+HasSystem table = Stay type_table table
+
+-- The unit that shows an interface: its table is closed and begins with SYSTEM's types, and the constants that it shows are values of
+-- its types.
+pub record IsOfUnit (i : Interface) : Type 0 where
+  pub unit : typed.Unit
+  pub shows : IsInterfaceOf unit i
+  pub keyed : IsKeyed unit.types
+  pub closed : IsClosedTable unit.types
+  pub system : HasSystem unit.types
+  pub constants : AreOwnConstants unit.types.types unit.items
+
+whole_of : (table : Table) → IsClosedTable table → IsWhole table.types
+whole_of table closed = record {
+  based = λ ty base at. (own_named table ty.0 (type.SetOf base) closed at).0;
+  followed = λ number low high at.
+      let all : AreBelow (length table.types) (with_type number (Some (type.Ordinal host.Enumeration low high))) =
+      subst (λ (o : Option TypeDef). AreBelow (length table.types) (with_type number o)) at (closed.types number) in
+      all.0;
+}
+
+-- the id of a type whose key a table knows
+known_id : (table other : Table) → IsKeyed table → (number place : ℕ) (key : Key) (d : TypeId) → number ≤ length other.types → slice_get (keys_of other) number ≡ Some key
+    → slice_get (keys_of table) place ≡ Some key → (get_or (ids_in table other) number d).0 ≡ place
+known_id table other keyed number place key d low at there =
+    let so = merged_so table other keyed number low in
+    let known : List Key = known_after (keys_of table) (take number (keys_of other)) in
+    let apart : AreApart known = subst AreApart so.keys so.keyed.apart in
+    id-at (keys_of table) (keys_of other) number key d at ∙ place_at known key place apart (after_front (keys_of table) (take number (keys_of other)) place key there)
+
+module _ (have : List Interface) (homes : AreClosedHomes have) (g : Environment) (h : IsToldScope have g) (i : Interface) (own : IsToldInterface have i) where
+  abbrev ids : List TypeId
+  ids = ids_in g.types i.types
+
+  low_key : (number : ℕ) (key : Key) → slice_get (keys_of i.types) number ≡ Some key → number < length i.types.types
+  low_key number key at = omega (arith, slice_get_within (keys_of i.types) number key at, count_of i.types own.told.keyed)
+
+  -- a type whose key the scope knows isn't new there
+  not_new : (number : ℕ) (key : Key) → slice_get (keys_of i.types) number ≡ Some key → Stands (keys_of g.types) key → is_new ids (merged i.types ids g.types number) number ≡ true → ⊥
+  not_new number key at s new =
+      let low = low_key number key at in
+      let this : TypeId = record { 0 = number } in
+      let now : Table = merged i.types ids g.types number in
+      let id : (get_or ids number this).0 ≡ s.place = known_id g.types i.types h.told.keyed number s.place key this (omega (arith, low)) at s.at in
+      let within : s.place < length g.types.types = omega (arith, slice_get_within (keys_of g.types) s.place key s.at, count_of g.types h.told.keyed) in
+      let grown : length g.types.types ≤ length (merged i.types ids g.types (0 + number)).types = longer g.types i.types h.complete.ordered.paired own.closed.paired 0 number (omega (arith, low)) in
+      let more : length g.types.types ≤ length now.types = subst (λ (n : ℕ). length g.types.types ≤ length (merged i.types ids g.types n).types) (let e : 0 + number ≡ number = omega arith in e) grown in
+      let old : is_new ids now number ≡ false = ap not (lt-ltb (get_or ids number this).0 (length now.types) (omega (arith, id, within, more))) in
+      let bad : ⊥ = cc in
+      bad
+
+  module _ (system : HasSystem g.types) (u : IsOfUnit i) where
+    abbrev kids : List TypeId
+    kids = new_ids u.shows.reached (length u.unit.types.types)
+
+    -- a predeclared type that is reached has its own id
+    fixed_at : (n : ℕ) → n < 11 → is_in u.shows.reached n ≡ true → twice ids kids (type_id n) ≡ type_id n
+    fixed_at n low reached =
+        let eleven : length (keys_of type_table) ≡ 11 = refl in
+        let k = key_there type_table n (omega (arith, low, eleven)) in
+        let key : Key = k.0 in
+        let there = u.system n key k.1 in
+        let within : n < length u.unit.types.types = omega (arith, slice_get_within (keys_of u.unit.types) n key there, count_of u.unit.types u.keyed) in
+        let q : TypeId = new_id kids (type_id n) in
+        let place : q.0 ≡ kept_before u.shows.reached n = new_id_is u.shows.reached (length u.unit.types.types) n (type_id n) within in
+        let kept : slice_get (keys_of i.types) (kept_before u.shows.reached n) ≡ Some key = kept_key u.unit i u.shows u.keyed n key reached there in
+        let id : (get_or ids (kept_before u.shows.reached n) q).0 ≡ n =
+        known_id g.types i.types h.told.keyed (kept_before u.shows.reached n) n key q (let l = low_key (kept_before u.shows.reached n) key kept in omega (arith, l)) kept (system n key k.1) in
+        same_id (new_id ids q) (type_id n) (ap (λ (m : ℕ). (get_or ids m q).0) place ∙ id)
+
+    fixed : AreFixed u.shows.reached ids kids
+    fixed = record {
+      byte = λ reached. fixed_at 1 (omega arith) reached;
+      chars = λ reached. fixed_at 5 (omega arith) reached;
+      truths = λ reached. fixed_at 6 (omega arith) reached;
+    }
+
+    known_of : IsKnownOf u.unit i u.shows.reached g.types
+    known_of = record {
+      alike = λ number one d at old.
+          let k = known_alike have homes g.types i h.told (closed_table g h.complete) own number one d at old in
+          record { unit = k.unit; at = k.at };
+      beside = next_beside have homes g.types i h.told (closed_table g h.complete) own;
+      fixed = fixed;
+    }
+
+    -- what is shown of another unit than the one that is read, whose own types stand in the scope
+    pub faithful : ShownConstants → (name : List ℕ) → (i.name ≡ name → ⊥) → ((number : ℕ) (key : Key) → slice_get (keys_of i.types) number ≡ Some key → key.unit ≡ name → Stands (keys_of g.types) key)
+        → IsFaithful name g i
+    faithful shown name other stands = record {
+      other = other;
+      foreign = λ number origin from new is.
+          (let key : Key = key_of i.types.units origin in
+          not_new number key (key_at i.types number origin from) (stands number key (key_at i.types number origin from) is) new);
+      constants = shown u.unit i g.types u.shows u.closed.paired own.closed.paired h.complete.ordered.paired (whole_of u.unit.types u.closed) known_of u.constants;
+    }

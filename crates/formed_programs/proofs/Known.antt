@@ -1,0 +1,309 @@
+-- The units of a program are well formed, where what they show of one another is told.
+use Rattle.std.proofs.Common.{◌≡◌, ◌∙◌, ℕ, Bool, true, false, cond, List, [], ◌∷◌, Option, Some, None, refl, sym, ap, subst}
+use Rattle.std.specs.Prelude.{slice_get, is_some, drop}
+use Rattle.std.proofs.lemmas.Option.{same_Some}
+use Rattle.type_layout.specs.declared.definitions.TypeDef.{TypeDef}
+use Rattle.type_layout.specs.Words.{same_bytes}
+use Rattle.type_layout.specs.Table.{Table}
+use Rattle.syntax_tree.specs.declared.identifier.Identifier.{Identifier}
+use Rattle.source_tree.specs.declared.source.Tree.{Tree}
+use Rattle.source_tree.specs.declared.source.Tree.TheVariants as t
+use Rattle.source_tree.specs.Sources.{used}
+use Rattle.source_gathering.specs.declared.sources.Source.{Source}
+use Rattle.typed_tree.specs.declared.units.Unit as typed
+use Rattle.well_formed.specs.WellFormed.{IsWellFormed}
+use Rattle.scopes.specs.Environment.{Environment}
+use Rattle.scopes.specs.Predeclared.{system, type_table, first}
+use Rattle.unit_interface.specs.declared.keys.Key.{Key}
+use Rattle.unit_interface.specs.declared.interfaces.Interface.{Interface}
+use Rattle.unit_interface.specs.Merge.{keys_of, with_interface}
+use Rattle.unit_interface.specs.Resolve.{overlay, is_overlay, interface_named, with_overlay, with_found, with_use, with_uses}
+use Rattle.typing_rules.proofs.JudgementLaws.{exact}
+use Rattle.source_order.specs.Orders.{names_of}
+use Rattle.routines.specs.Drafts.{Drafted, knowing}
+use Rattle.tp_check_decl.specs.declared.fronts.Front.{Front}
+use Rattle.tp_check_decl.specs.Units.{Whole, whole, view_unit}
+use Rattle.tp_check_decl.specs.Programs.{empty_draft}
+use Rattle.tp_check_decl.specs.Interfaces.{items_of, unit_front, interface_judged, further_used}
+use Rattle.tp_check_decl.specs.Shown.{outlined, with_nothing_else, Shows, IsShownAs}
+use Rattle.tp_check_decl.specs.Checked.{IsTypedAs}
+use Rattle.tp_check_decl.proofs.CheckLaws.{lawful_outlined}
+use Rattle.source_interfaces.specs.Scopes.{outer_units, outer_scope}
+use Rattle.source_interfaces.specs.Interfaces.{IsShownIn, IsDone}
+use Rattle.front_end.specs.Typed.{IsUnitOf}
+use Rattle.sound_tables.specs.Laws.{IsFit}
+use Rattle.sound_tables.proofs.Fits.{fit_front}
+use Rattle.constant_values.specs.Laws.{StayConstants}
+use Rattle.checked_routines.specs.Reading.{scope_of, IsRead}
+use Rattle.checked_routines.specs.Rooms.{HasRoom}
+use Rattle.checked_routines.proofs.Steps.{extends_itself}
+use Rattle.checked_parts.specs.Laws.{PartLaw}
+use Rattle.checked_units.specs.Begun.{IsBegun, IsJoined, EachUse, further_uses, UsesKeep, FurtherKeep, IsRoomy}
+use Rattle.checked_units.specs.Laws.{SourceLaw, UsedLaw}
+use Rattle.checked_units.proofs.Overlay.{overlay_brings}
+use Rattle.checked_units.proofs.Used.{uses_more}
+use Rattle.checked_units.proofs.Uses.{overlay_joins}
+use Rattle.shown_constants.specs.Laws.{ShownConstants}
+use Rattle.brought_interfaces.specs.Faithful.{IsFaithful}
+use Rattle.brought_interfaces.specs.Laws.{InterfaceLaw, FurtherLaw}
+use Rattle.interface_laws.proofs.AgreementLaws.{interface_grows}
+use Rattle.program_laws.specs.Closing.{AreInOrder}
+use Rattle.program_laws.proofs.Sources.{named_by, shown_some}
+use Rattle.program_laws.proofs.Depth.{IsOf, IsUse, AreUses, Inherits, of_source, inherited, all_inherited}
+use Rattle.program_laws.proofs.Closing.{new_of}
+use Rattle.told_types.specs.Told.{home_of, Stands, AreClosedHomes, IsTold, IsToldInterface}
+use Rattle.told_types.proofs.Shown.{shown_key}
+use Rattle.told_interfaces.proofs.Declaring.{paired_of, keys_stay}
+use Rattle.told_interfaces.proofs.Inherited.{own_home, comes, homes, each_told, told_behind, told_within}
+use Rattle.told_interfaces.proofs.Origins.{AreForeignUses, uses_foreign}
+use Rattle.fitting_types.specs.Fits.{IsToldScope, IsToldUse}
+use Rattle.fitting_types.proofs.Uses.{types_told, used_told, first_scope}
+use Rattle.formed_programs.specs.Laws.{IsApart, IsWritten}
+use Rattle.formed_programs.proofs.Faithful.{Stay, HasSystem, IsOfUnit, faithful}
+use Rattle.formed_programs.proofs.Tables.{not_same, stay_on, use_stays}
+use Rattle.formed_programs.proofs.Beginnings.{IsBeginning, begins, read_complete}
+use Rattle.formed_programs.proofs.Rooms.{AreOther, outer_other, further_apart, typed_fit}
+
+-- the laws that these rest on
+pub record Laws : Type 0 where
+  pub stay : StayConstants
+  pub parts : PartLaw
+  pub source : SourceLaw
+  pub used : UsedLaw
+  pub brings : InterfaceLaw
+  pub further : FurtherLaw
+  pub shown : ShownConstants
+
+-- the unit of a source, of which 32 bits hold all numbers
+pub record IsTyped (have : List Interface) (s : Source) : Type 0 where
+  pub unit : typed.Unit
+  pub is : IsUnitOf have s unit
+  pub room : IsRoomy unit
+
+module _ (laws : Laws) (sources : List Source) (have : List Interface) (o : AreInOrder sources have) (all : (place : ℕ) → IsDone sources have place)
+    (written : (place : ℕ) (s : Source) → slice_get sources place ≡ Some s → IsWritten s) where
+  abbrev whole_homes : AreClosedHomes have
+  whole_homes = homes sources have o
+
+  abbrev told : (name : List ℕ) → IsToldUse have name
+  told = each_told sources have o
+
+  found_name : (name : List ℕ) (i : Interface) → interface_named have name ≡ Some i → i.name ≡ name
+  found_name name i found =
+      let n = named_by (IsShownIn sources have) have name o.shown (ap (λ (x : Option Interface). is_some x) found) in
+      sym (n.named ∙ ap (λ (x : Interface). x.name) (same_Some n.interface i (sym n.found ∙ found)))
+
+  -- ---- scopes of used units
+
+  -- the scope stays told, and begins with SYSTEM's types
+  record IsSo (g : Environment) : Type 0 where
+    scope : IsToldScope have g
+    predeclared : HasSystem g.types
+
+  use_so : (g : Environment) (word : List ℕ) → IsSo g → IsSo (with_use have g word)
+  use_so g word h = record {
+    scope = used_told have whole_homes g word h.scope (told word);
+    predeclared = stay_on type_table g.types (with_use have g word).types h.predeclared (use_stays have g word h.scope.told.keyed (λ is i at. (told word is i at).told.keyed));
+  }
+
+  uses_so : (g : Environment) (words : List (List ℕ)) → IsSo g → IsSo (with_uses have g words)
+  uses_so g [] h = h
+  uses_so g (word ∷ words) h = uses_so (with_use have g word) words (use_so g word h)
+
+  first_so : (name : List ℕ) → IsSo (first name)
+  first_so name = record { scope = first_scope have whole_homes name; predeclared = λ place key at. at }
+
+  outer_so : (s : Source) → IsSo (outer_scope have s)
+  outer_so s = uses_so (first s.name) (names_of (outer_units s)) (first_so s.name)
+
+  module _ (place : ℕ) (s : Source) (at : slice_get sources place ≡ Some s) where
+    abbrev own : IsWritten s
+    own = written place s at
+
+    no_system : same_bytes s.name system ≡ false
+    no_system = not_same s.name system own.named.system
+
+    -- no type of the units that the interface part uses is of this one
+    foreign : AreForeignUses sources (new_of sources have o) have o.shown (comes have) s.name place s at refl own.named.system o.acyclic (names_of (outer_units s))
+    foreign = uses_foreign sources (new_of sources have o) have o.shown (comes have) s.name place s at refl own.named.system o.acyclic
+
+    -- ---- the scope that the interface part begins with
+
+    module _ (g : Environment) (i : Interface) (h : IsSo g) (word : List ℕ) (is : is_overlay word ≡ false) (found : interface_named have word ≡ Some i) (u : IsOfUnit i) (other : word ≡ s.name → ⊥) where
+      use_faithful : ((number : ℕ) (key : Key) → slice_get (keys_of i.types) number ≡ Some key → key.unit ≡ s.name → Stands (keys_of g.types) key) → IsFaithful s.name g i
+      use_faithful stands =
+          faithful have whole_homes g h.scope i (told word is i found) h.predeclared u laws.shown s.name (λ same. other (sym (found_name word i found) ∙ same)) stands
+
+    found_begun : (g : Environment) (word : List ℕ) (found : Option Interface) → interface_named have word ≡ found → is_overlay word ≡ false → IsBegun s.name g → IsSo g → IsUse IsOfUnit have word
+        → ((i : Interface) → found ≡ Some i → (number : ℕ) (key : Key) → slice_get (keys_of i.types) number ≡ Some key → key.unit ≡ s.name → ⊥) → (word ≡ s.name → ⊥)
+        → IsFit (with_found g found).types.types → IsBegun s.name (with_found g found)
+    found_begun g word None named is begun h shows none other fit = begun
+    found_begun g word (Some i) named is begun h shows none other fit =
+        let tells = told word is i named in
+        let f = use_faithful g i h word is named (shows is i named) other (λ number key there mine. absurd (none i refl number key there mine)) in
+        (laws.used s.name).begun g (with_interface g i) begun
+        (laws.brings s.name g i (scope_of (empty_draft g) []) begun.known begun.table h.scope.complete begun.named tells.closed (types_told have whole_homes g i h.scope tells) f fit)
+
+    use_begun : (g : Environment) (word : List ℕ) → IsBegun s.name g → IsSo g → IsUse IsOfUnit have word
+        → (is_overlay word ≡ false → (i : Interface) → interface_named have word ≡ Some i → (number : ℕ) (key : Key) → slice_get (keys_of i.types) number ≡ Some key → key.unit ≡ s.name → ⊥) → (word ≡ s.name → ⊥)
+        → IsFit (with_use have g word).types.types → IsBegun s.name (with_use have g word)
+    use_begun g word begun h shows none other fit = by (is_overlay word) refl fit
+      where
+        by : (b : Bool) → is_overlay word ≡ b → IsFit (cond b (with_overlay g) (with_found g (interface_named have word))).types.types → IsBegun s.name (cond b (with_overlay g) (with_found g (interface_named have word)))
+        by true is e = (laws.used s.name).begun g (with_overlay g) begun (overlay_brings s.name g (scope_of (empty_draft g) []) begun.known begun.named own.named.overlay begun.table)
+        by false is e = found_begun g word (interface_named have word) refl is begun h shows (λ i found. none is i found) other e
+
+    uses_begun : (g : Environment) (words : List (List ℕ)) → IsBegun s.name g → IsSo g → AreUses IsOfUnit have words
+        → AreForeignUses sources (new_of sources have o) have o.shown (comes have) s.name place s at refl own.named.system o.acyclic words → AreOther s.name words
+        → IsFit (with_uses have g words).types.types → IsBegun s.name (with_uses have g words)
+    uses_begun g [] begun h uses none other fit = begun
+    uses_begun g (word ∷ words) begun h uses none other fit =
+        let next : Environment = with_use have g word in
+        let more = uses_more have next words in
+        let here : IsFit next.types.types = fit_front next.types.types more.0 (subst (λ (l : List TypeDef). IsFit l) more.1 fit) in
+        uses_begun next words (use_begun g word begun h uses.0 none.0 other.0 here) (use_so g word h) uses.1 none.1 other.1 fit
+
+    outer_begun : (k : IsTyped have s) → AreUses IsOfUnit have (names_of (outer_units s)) → IsBegun s.name (outer_scope have s)
+    outer_begun k uses =
+        uses_begun (first s.name) (names_of (outer_units s)) (laws.used s.name).alone (first_so s.name) uses foreign (outer_other s own.apart)
+        (typed_fit s.name s.says (outer_scope have s) have s.tree k.unit k.is.typed k.room)
+
+    -- ---- what the source shows
+
+    beginning : (k : IsTyped have s) → IsBegun s.name (outer_scope have s) → IsBeginning s.name s.says (outer_scope have s) s.tree
+    beginning k begun =
+        let h = outer_so s in
+        begins s.name (laws.parts s.name) s.says have (outer_scope have s) begun h.scope h.predeclared (λ after d. told_behind sources have o place s at no_system after d) s.tree k.unit k.is.typed own.written k.room
+
+    of_unit : (k : IsTyped have s) (i : Interface) → IsBegun s.name (outer_scope have s) → IsOf have s i → IsOfUnit i
+    of_unit k i begun of =
+        let g = outer_scope have s in
+        let b = beginning k begun in
+        let same : of.shows.unit ≡ b.unit = (exact (outlined s.name s.says g) (lawful_outlined s.name s.says g)).one s.tree of.shows.unit b.unit of.shows.holds b.holds in
+        record {
+          unit = with_nothing_else b.unit;
+          shows = subst (λ (w : Whole). Shows w i) same of.shows.shows;
+          keyed = b.keyed;
+          closed = b.closed;
+          system = b.system;
+          constants = b.constants;
+        }
+
+  module _ (typed_units : (place : ℕ) (s : Source) → slice_get sources place ≡ Some s → IsTyped have s) where
+    inherits : Inherits IsOfUnit sources have
+    inherits place s i at found uses of =
+        let k = typed_units place s at in
+        of_unit place s at k i (outer_begun place s at k uses) of
+
+    each_of_unit : (name : List ℕ) → IsUse IsOfUnit have name
+    each_of_unit name = inherited sources (new_of sources have o) have o.shown IsOfUnit inherits o.acyclic name
+
+    all_of_unit : (names : List (List ℕ)) → AreUses IsOfUnit have names
+    all_of_unit names = all_inherited sources (new_of sources have o) have o.shown IsOfUnit inherits o.acyclic names
+
+    module _ (place : ℕ) (s : Source) (at : slice_get sources place ≡ Some s) (mine : Interface) (is_mine : interface_named have s.name ≡ Some mine) where
+      abbrev name : List ℕ
+      name = s.name
+
+      -- ---- units that come in behind the interface part
+
+      -- the unit's own types that others tell of stand in a table
+      abbrev HasOwn : Table → Type 0
+      HasOwn table = (key : Key) → Stands (keys_of mine.types) key → Stands (keys_of table) key
+
+      record IsMiddle (d : Drafted) : Type 0 where
+        read : IsRead d []
+        named : slice_get d.scope.units 0 ≡ Some name
+        so : IsSo d.scope
+        own : HasOwn d.scope.types
+
+      home_mine : home_of have name ≡ Some mine.types
+      home_mine = own_home have name mine (no_system place s at) is_mine
+
+      -- a type of the unit itself that another unit tells of
+      own_there : (d : Drafted) → IsMiddle d → (i : Interface) → IsToldInterface have i → (number : ℕ) (key : Key) → slice_get (keys_of i.types) number ≡ Some key → key.unit ≡ name → Stands (keys_of d.scope.types) key
+      own_there d m i tells number key there is =
+          let h = tells.at_home number key there in
+          let same : h.home ≡ mine.types = same_Some h.home mine.types (sym h.is ∙ ap (home_of have) is ∙ home_mine) in
+          m.own key (subst (λ (table : Table). Stands (keys_of table) key) same h.stands)
+
+      found_joins : (d : Drafted) (e : Environment) (one : Identifier) → IsMiddle d → (one.name ≡ name → ⊥) → (further_used have d.scope one).holds e → HasRoom (knowing d e) → is_overlay one.name ≡ false
+          → (found : Option Interface) → interface_named have one.name ≡ found → e ≡ with_found d.scope found → IsJoined d (knowing d e)
+      found_joins d e one m other h room is None named same =
+          subst (λ (x : Environment). IsJoined d (knowing d x)) (sym same) (record { read = m.read; since = extends_itself (scope_of d []); named = refl })
+      found_joins d e one m other h room is (Some i) named same =
+          let tells = told one.name is i named in
+          let f = use_faithful place s at d.scope i m.so one.name is named (each_of_unit one.name is i named) other (own_there d m i tells) in
+          laws.further name have one i is named tells.closed d e m.read m.named f h room
+
+      joins : (d : Drafted) (e : Environment) (one : Identifier) → IsMiddle d → (one.name ≡ name → ⊥) → (further_used have d.scope one).holds e → HasRoom (knowing d e) → IsJoined d (knowing d e)
+      joins d e one m other h room = by (is_overlay one.name) refl
+        where
+          by : (b : Bool) → is_overlay one.name ≡ b → IsJoined d (knowing d e)
+          by true is = overlay_joins laws.stay name (written place s at).named.overlay have one is d e m.read m.named h
+          by false is =
+              found_joins d e one m other h room is (interface_named have one.name) refl
+              (h.made ∙ ap (λ (b : Bool). cond b (with_overlay d.scope) (with_found d.scope (interface_named have one.name))) is)
+
+      next_middle : (d : Drafted) (e : Environment) (one : Identifier) → IsMiddle d → e ≡ with_use have d.scope one.name → IsJoined d (knowing d e) → IsMiddle (knowing d e)
+      next_middle d e one m same j =
+          let stays : Stay d.scope.types (with_use have d.scope one.name).types = use_stays have d.scope one.name m.so.scope.told.keyed (λ is i found. (told one.name is i found).told.keyed) in
+          record {
+            read = j.read;
+            named = j.named ∙ m.named;
+            so = subst IsSo (sym same) (use_so d.scope one.name m.so);
+            own = subst (λ (x : Environment). HasOwn x.types) (sym same) (λ key stands. (let there = m.own key stands in record { place = there.place; at = stays there.place key there.at }));
+          }
+
+      uses_keep : (d : Drafted) (uses : List Identifier) → EachUse (IsApart name) uses → IsMiddle d → UsesKeep have d uses
+      uses_keep d [] apart m = tt
+      uses_keep d (one ∷ rest) apart m = λ e h room.
+          let j = joins d e one m apart.0 h room in
+          (j, uses_keep (knowing d e) rest apart.1 (next_middle d e one m h.made j))
+
+      -- ---- behind the interface part
+
+      module _ (unit : typed.Unit) (is : IsUnitOf have s unit) where
+        abbrev g : Environment
+        g = outer_scope have s
+
+        middle : (front : Front) (here : _) (own : Identifier) (uses : _) (outer : ℕ) (interface : _) (all : _) (body : _) → (shows : IsShownAs name s.says g (t.Unit here own uses outer interface all body) mine)
+            → IsTold have shows.unit.types → (unit_front name s.says own uses.items).holds front → (d : Drafted) → (interface_judged name g interface.items).holds d → IsRead d [] → slice_get d.scope.units 0 ≡ Some name → IsMiddle d
+        middle front here own uses outer interface all body shows within fronted d h r named =
+            let w : Whole = whole name front d.scope (items_of d.scope) d.globals [] None in
+            let tree : Tree = t.Unit here own uses outer interface all body in
+            let holds : (outlined name s.says g tree).holds w = record { part = front; holds = fronted; made = record { part = d; holds = h; made = refl } } in
+            let same : shows.unit ≡ w = (exact (outlined name s.says g) (lawful_outlined name s.says g)).one tree shows.unit w shows.holds holds in
+            let shown : Shows w mine = subst (λ (x : Whole). Shows x mine) same shows.shows in
+            let scope = outer_so s in
+            let declares = (interface_grows name g interface.items d h).declares in
+            let whole_told : IsTold have d.scope.types = subst (λ (x : Whole). IsTold have x.types) same within in
+            record {
+              read = r;
+              named = named;
+              so = record {
+                scope = record { told = whole_told; complete = read_complete d r };
+                predeclared = stay_on type_table g.types d.scope.types scope.predeclared (keys_stay name g.types d.scope.types (paired_of g.types scope.scope.told.keyed) declares);
+              };
+              own = λ key stands. shown_key (with_nothing_else w) mine shown whole_told.keyed stands.place key stands.at;
+            }
+
+        keeps : (tree : Tree) → IsTypedAs name s.says g have tree (view_unit unit) → (shows : IsShownAs name s.says g tree mine) → IsTold have shows.unit.types → EachUse (IsApart name) (further_uses tree)
+            → FurtherKeep name g have tree
+        keeps (t.Program heading uses all body) j shows within apart = tt
+        keeps (t.Unit here own uses outer interface all body) j shows within apart = λ d h r named.
+            uses_keep d (drop outer uses.items) apart (middle j.part here own uses outer interface all body shows within j.holds d h r named)
+
+        -- the unit is well formed
+        pub known_formed : IsRoomy unit → IsWellFormed unit
+        known_formed room =
+            let w = written place s at in
+            let of = of_source sources (new_of sources have o) have o.shown place s mine at is_mine in
+            let begun = outer_begun place s at (record { unit = unit; is = is; room = room }) (all_of_unit (names_of (outer_units s))) in
+            laws.source name s.says g have s.tree unit (keeps s.tree is.typed of.shows (told_within sources have o place s mine at (no_system place s at) is_mine of) (further_apart name s.tree w.apart)) begun w.written room is.typed
+
+    -- so is each typed unit of a source
+    pub each_formed : (place : ℕ) (s : Source) → slice_get sources place ≡ Some s → (unit : typed.Unit) → IsUnitOf have s unit → IsRoomy unit → IsWellFormed unit
+    each_formed place s at unit is room =
+        let n = named_by (IsShownIn sources have) have s.name o.shown (shown_some have s.name (all place s at)) in
+        known_formed place s at n.interface n.found unit is room

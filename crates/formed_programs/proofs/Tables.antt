@@ -1,0 +1,47 @@
+-- The tables of scopes and of the drafts behind interface parts.
+use Rattle.std.proofs.Common.{◌≡◌, ◌∙◌, ℕ, Bool, true, false, cond, List, [], ◌∷◌, ◌++◌, Option, Some, None, refl, sym, ap, append_assoc, append-nil}
+use Rattle.std.specs.Cmp.Lexicographic.{same_text}
+use Rattle.type_layout.specs.declared.definitions.TypeDef.{TypeDef}
+use Rattle.type_layout.specs.Words.{same_bytes}
+use Rattle.type_layout.specs.Table.{Table, with_type}
+use Rattle.scopes.specs.Environment.{Environment}
+use Rattle.unit_interface.specs.declared.interfaces.Interface.{Interface}
+use Rattle.unit_interface.specs.Keyed.{IsKeyed}
+use Rattle.unit_interface.specs.Resolve.{is_overlay, interface_named, with_overlay, with_found, with_use}
+use Rattle.type_denoters.specs.Additions.{count_of}
+use Rattle.interface_laws.specs.Declared.{with_declared, Declares}
+use Rattle.told_types.proofs.Arrived.{key_stays}
+use Rattle.formed_programs.proofs.Faithful.{Stay}
+
+-- ---- names
+
+pub not_same : (one other : List ℕ) → (one ≡ other → ⊥) → same_bytes one other ≡ false
+not_same one other apart = by (same_bytes one other) refl
+  where
+    by : (b : Bool) → same_bytes one other ≡ b → b ≡ false
+    by true e = absurd (apart (same_text one other (sym e)))
+    by false e = refl
+
+-- ---- keys stay
+
+pub stay_on : (one two three : Table) → Stay one two → Stay two three → Stay one three
+stay_on one two three h k place key at = k place key (h place key at)
+
+-- with a used unit
+pub use_stays : (have : List Interface) (g : Environment) (name : List ℕ) → IsKeyed g.types → (is_overlay name ≡ false → (i : Interface) → interface_named have name ≡ Some i → IsKeyed i.types)
+    → Stay g.types (with_use have g name).types
+use_stays have g name keyed own = by (is_overlay name) refl (interface_named have name) refl
+  where
+    by : (b : Bool) → is_overlay name ≡ b → (found : Option Interface) → interface_named have name ≡ found → Stay g.types (cond b (with_overlay g) (with_found g found)).types
+    by true is found at = λ place key e. e
+    by false is None at = λ place key e. e
+    by false is (Some i) at = λ place key e. key_stays g.types i.types keyed (own is i at) place key e
+
+-- ---- what a unit declares
+
+declared_types : (unit : List ℕ) (table : Table) (types : List TypeDef) → (with_declared unit table types).types ≡ table.types ++ types
+declared_types unit table [] = sym (append-nil table.types)
+declared_types unit table (one ∷ rest) = declared_types unit (with_type table unit (count_of table unit) one) rest ∙ append_assoc table.types (one ∷ []) rest
+
+pub declares_more : (unit : List ℕ) (table after : Table) (d : Declares unit table after) → after.types ≡ table.types ++ d.types
+declares_more unit table after d = ap (λ (one : Table). one.types) d.is ∙ declared_types unit table d.types
