@@ -1,5 +1,5 @@
 -- A program whose source is not there.
-use Rattle.std.proofs.Common.{◌≡◌, ℕ, List, [], ◌∷◌, Option, Some, None, Result, Ok, Err, refl, inl, inr, sym, ap, ◌∙◌, subst}
+use Rattle.std.proofs.Common.{◌≡◌, ℕ, List, [], ◌∷◌, Option, None, Ok, Err, inl, inr, sym, ap, ◌∙◌, subst}
 use Rattle.tp_outside.specs.Folder.{Folder}
 use Rattle.tp_lexer.specs.declared.token.Text.{Text}
 use Rattle.source_gathering.specs.declared.error.GatherError.{GatherError}
@@ -9,13 +9,12 @@ use Rattle.source_gathering.specs.declared.wanted.Wanted.{Wanted}
 use Rattle.source_gathering.specs.Files.{source_file, absent, opened_by, opened}
 use Rattle.source_gathering.specs.Texts.{number_of, with_file}
 use Rattle.source_gathering.specs.Sources.{IsUnreadable, IsMisspelled}
-use Rattle.source_gathering.specs.Walk.{start, due, Walks, Gathers, Meets, IsRefused, Unless}
+use Rattle.source_gathering.specs.Walk.{start, due, Walks, Gathers, IsRefused, Unless}
 use Rattle.refusals.specs.Outcomes.{gather_outcome}
 use Rattle.outcomes.specs.declared.refusal.Refusal.{Refusal}
 use Rattle.outcomes.specs.declared.refusal.Refusal.TheVariants as refusal
-use Rattle.outcomes.specs.declared.outcome.Outcome.{Outcome}
 use Rattle.outcomes.specs.declared.outcome.Outcome.TheVariants as outcome
-use Rattle.front_end.specs.Untyped.{IsUngathered, IsNoProgram}
+use Rattle.front_end.specs.Untyped.{IsNoProgram}
 
 module _ (held : Folder) (name : List ℕ) (lacks : held (source_file name) ≡ None) where
   -- the program's own source is missing

@@ -1,11 +1,14 @@
 -- From what the parts of `go` answer to what it does.
-use Rattle.std.proofs.Common.{◌≡◌, ℕ, ◌≤◌, List, Option, Some, None, Result, Ok, Err, IfOk, IfErr, refl, inl, inr, sym, ap, ◌∙◌, subst, arith}
+use Rattle.std.proofs.Common.{◌≡◌, ℕ, List, [], Option, Some, None, Result, Ok, Err, IfOk, IfErr, refl, inl, inr, sym, ap, ◌∙◌, subst}
 use Rattle.std.specs.Prelude.{IfSome}
 use Rattle.tp_outside.specs.Faults.{HasRisen}
 use Rattle.tp_outside.specs.Folder.{Folder}
 use Rattle.front_end.specs.declared.program.TypedSources.{TypedSources}
 use Rattle.front_end.specs.Found.{IsFoundIn}
+use Rattle.front_end.specs.Typed.{IsProgramIn}
 use Rattle.front_end.specs.Untyped.{IsRefusing, IsDeclining, IsNoProgram}
+use Rattle.one_reading.proofs.Readings.{one_reading}
+use Rattle.one_program.proofs.Programs.{one_folder, found_none}
 use Rattle.cpu_8086.specs.State.{State}
 use Rattle.typed_tree.specs.declared.units.Program.{Program}
 use Rattle.meaning.specs.Meaning.{mean}
@@ -21,7 +24,9 @@ use Rattle.dos_runner.specs.declared.runner.RunEnd.TheVariants as ends
 use Rattle.dos_runner.specs.Outside.{Outside, RunsTo}
 use Rattle.opened_program.specs.declared.error.OpenError.{OpenError}
 use Rattle.opened_program.specs.declared.error.OpenError.TheVariants as errors
-use Rattle.opened_program.specs.Opening.{IsOpened, IsRefused}
+use Rattle.opened_program.specs.Opening.{IsOpened, IsRefused, HasReason}
+use Rattle.plain_opening.specs.Laws.{IsPlain, needed}
+use Rattle.plain_opening.proofs.Openings.{plain_refusal}
 use Rattle.overlay_manager.specs.Manager.{Manager}
 use Rattle.overlay_runner.specs.Event.{Rises}
 use Rattle.outcomes.specs.declared.refusal.Refusal.{Refusal}
@@ -35,14 +40,16 @@ use Rattle.commands.specs.Go.{DoesSoon, IsNotMade, IsBuiltFrom, IsNotBuilt, IsNo
 use Rattle.commands.specs.declared.go.Prepared.{Prepared}
 use Rattle.commands.specs.Prepared.{IsPrepared}
 use Rattle.commands.specs.Run.{refused_as, limit_of}
+use Rattle.commands.proofs.HeldLaws.{literal_too, does_too, told_alike}
 
 -- ---- the executable
 
-pub does_of : (program : Program) (exe : Exe) (result : Result (List ℕ) Outcome) → IsLiteral program → HasMemoryOf program exe → ((bytes : List ℕ) → Denotes bytes exe → Agrees program bytes)
+pub does_of : (program : Program) (exe : Exe) (result : Result (List ℕ) Outcome) → IsLiteral program → HasMemoryOf program exe → exe.block.stubs ≡ [] → ((bytes : List ℕ) → Denotes bytes exe → Agrees program bytes)
     → ((bytes input : List ℕ) (turns : ℕ) → Denotes bytes exe → EndsWithin 16389 bytes input (mean program input turns)) → IfOk result (λ bytes. Denotes bytes exe) → IfOk result (DoesSoon program)
-does_of program exe (Err error) literal memory agrees soon denotes = tt
-does_of program exe (Ok bytes) literal memory agrees soon denotes = record {
+does_of program exe (Err error) literal memory plain agrees soon denotes = tt
+does_of program exe (Ok bytes) literal memory plain agrees soon denotes = record {
   literal = literal;
+  plain = subst (λ (e : Exe). e.block.stubs ≡ []) denotes.value plain;
   memory = subst (HasMemoryOf program) denotes.value memory;
   agrees = agrees bytes denotes;
   soon = λ input turns. soon bytes input turns denotes;
@@ -52,12 +59,13 @@ pub not_spelled : (found : TypedSources) (result : Result (List ℕ) Outcome) �
 not_spelled found (Ok bytes) none = tt
 not_spelled found (Err error) none = subst (IsNotMade found) (sym none) tt
 
+found_in : (held : Folder) (name : List ℕ) (found : TypedSources) → IsFoundIn held name found → IsProgramIn held name found.program
+found_in held name found is = record { texts = found.texts.items; sources = found.sources.items; gathers = is.gathers; is = is.is }
+
 built_by : (held : Folder) (name bytes : List ℕ) (found : TypedSources) → IsFoundIn held name found → DoesSoon found.program bytes → IsBuiltFrom held name bytes
-built_by held name bytes found is does = record {
-  program = found.program;
-  is = record { texts = found.texts.items; sources = found.sources.items; gathers = is.gathers; is = is.is };
-  does = does;
-}
+built_by held name bytes found is does =
+    let here = found_in held name found is in
+    record { program = found.program; is = here; does = λ one there. does_too found.program one bytes (one_folder held name found.program one here there) does }
 
 pub built_from : (known : Option Folder) (name : List ℕ) (found : TypedSources) (result : Result (List ℕ) Outcome) → IfSome known (λ held. IsFoundIn held name found) → IfOk result (DoesSoon found.program)
     → IfSome known (λ held. IfOk result (IsBuiltFrom held name))
@@ -68,15 +76,17 @@ built_from (Some held) name found (Ok bytes) is does = built_by held name bytes 
 other_form : (known : Option Folder) (name : List ℕ) (buffer : Option ℕ) (r : Refusal) (found : TypedSources) → IfSome known (λ held. IsFoundIn held name found) → IsNotMade found (outcome.Refused r)
     → IfSome known (λ held. IsNotBuilt held name buffer r)
 other_form None name buffer r found is why = tt
-other_form (Some held) name buffer r found is why = inr (inl (record {
-  texts = found.texts.items;
-  sources = found.sources.items;
-  gathers = is.gathers;
-  program = found.program;
-  is = is.is;
-  other = why.0;
-  refused = why.1;
-}))
+other_form (Some held) name buffer r found is why =
+    let here = found_in held name found is in
+    inr (inl (record {
+      program = found.program;
+      is = here;
+      other = λ one there literal. why.0 (literal_too one found.program (one_folder held name one found.program there here) literal);
+      refused = λ texts sources one gathers is_one.
+          let there : IsProgramIn held name one = record { texts = texts; sources = sources; gathers = gathers; is = is_one } in
+          let read = one_reading held name found.texts.items texts found.sources.items sources is.gathers gathers in
+          why.1 ∙ told_alike found.texts.items texts found.sources.items sources found.program one read.0 read.1 (one_folder held name found.program one here there);
+    }))
 
 other_refuses : (r : Refusal) (found : TypedSources) → IsNotMade found (outcome.Refused r) → IsRefusing (outcome.Refused r)
 other_refuses r found why = subst (λ (r : Refusal). IsRefusing (outcome.Refused r)) (sym why.1) tt
@@ -94,7 +104,7 @@ not_made_of known name found (Err error) old new is why = λ buffer. not_made er
 
 no_program : (known : Option Folder) (name : List ℕ) (buffer : Option ℕ) (r : Refusal) → IfSome known (λ held. IsNoProgram held name (outcome.Refused r)) → IfSome known (λ held. IsNotBuilt held name buffer r)
 no_program None name buffer r why = tt
-no_program (Some held) name buffer r why = inl why
+no_program (Some held) name buffer r why = inl (found_none held name (outcome.Refused r) why)
 
 pub not_found : (result : Outcome) (known : Option Folder) (name : List ℕ) (buffer : Option ℕ) (old new : ℕ) → IfSome known (λ held. IsNoProgram held name result) → IsDeclining result → (result ≡ outcome.FilesFault → HasRisen old new)
     → IsNotGone result name buffer known old new
@@ -105,22 +115,29 @@ not_found other known name buffer old new why declines counted = absurd declines
 
 -- ---- opening
 
-cannot : (known : Option Folder) (name bytes : List ℕ) (buffer : Option ℕ) (r : Refusal) (error : OpenError) → outcome.Refused r ≡ refused_as error → IfSome known (λ held. IsBuiltFrom held name bytes)
+refusal_is : (a b : Refusal) → outcome.Refused a ≡ outcome.Refused b → a ≡ b
+refusal_is a b same = cc
+
+cannot : (known : Option Folder) (name bytes : List ℕ) (buffer : Option ℕ) (r : Refusal) (error : OpenError) → HasReason error → outcome.Refused r ≡ refused_as error → IfSome known (λ held. IsBuiltFrom held name bytes)
     → IfSome known (λ held. IsRefused bytes (file_of name Overlays) (held (file_of name Overlays)) buffer error) → IfSome known (λ held. IsNotBuilt held name buffer r)
-cannot None name bytes buffer r error is built why = tt
-cannot (Some held) name bytes buffer r error is built why = inr (inr (record { bytes = bytes; built = built; error = error; is = is; cause = why }))
+cannot None name bytes buffer r error has is built why = tt
+cannot (Some held) name bytes buffer r error has is built why =
+    let does = built.does built.program built.is in
+    let plain : IsPlain bytes = record { executable = does.agrees.executable; stubs = does.plain } in
+    let told = plain_refusal bytes (file_of name Overlays) (held (file_of name Overlays)) buffer error plain why has in
+    inr (inr (record { bytes = bytes; built = built; large = told.1; refused = refusal_is r (refusal.MemoryTooSmall (needed bytes buffer)) (is ∙ ap refused_as told.0) }))
 
 module _ (known : Option Folder) (name bytes : List ℕ) (buffer : Option ℕ) (old new : ℕ) (built : IfSome known (λ held. IsBuiltFrom held name bytes)) where
   abbrev Why : OpenError → Type 0
   Why error = IfSome known (λ held. IsRefused bytes (file_of name Overlays) (held (file_of name Overlays)) buffer error)
 
   not_opened : (error : OpenError) → Why error → (error ≡ errors.FilesFault → HasRisen old new) → IsNotGone (refused_as error) name buffer known old new
-  not_opened (errors.NotExecutable cause) why counted = (tt, cannot known name bytes buffer (refusal.NotExecutable cause) (errors.NotExecutable cause) refl built why)
-  not_opened (errors.MissingFile file) why counted = (tt, cannot known name bytes buffer (refusal.MissingFile file) (errors.MissingFile file) refl built why)
-  not_opened (errors.OverlayFileDamaged at) why counted = (tt, cannot known name bytes buffer (refusal.OverlayFileDamaged at) (errors.OverlayFileDamaged at) refl built why)
-  not_opened (errors.OverlayMismatch overlay) why counted = (tt, cannot known name bytes buffer (refusal.OverlayMismatch overlay) (errors.OverlayMismatch overlay) refl built why)
-  not_opened (errors.BufferTooSmall need have) why counted = (tt, cannot known name bytes buffer (refusal.BufferTooSmall need have) (errors.BufferTooSmall need have) refl built why)
-  not_opened (errors.MemoryTooSmall need) why counted = (tt, cannot known name bytes buffer (refusal.MemoryTooSmall need) (errors.MemoryTooSmall need) refl built why)
+  not_opened (errors.NotExecutable cause) why counted = (tt, cannot known name bytes buffer (refusal.NotExecutable cause) (errors.NotExecutable cause) tt refl built why)
+  not_opened (errors.MissingFile file) why counted = (tt, cannot known name bytes buffer (refusal.MissingFile file) (errors.MissingFile file) tt refl built why)
+  not_opened (errors.OverlayFileDamaged at) why counted = (tt, cannot known name bytes buffer (refusal.OverlayFileDamaged at) (errors.OverlayFileDamaged at) tt refl built why)
+  not_opened (errors.OverlayMismatch overlay) why counted = (tt, cannot known name bytes buffer (refusal.OverlayMismatch overlay) (errors.OverlayMismatch overlay) tt refl built why)
+  not_opened (errors.BufferTooSmall need have) why counted = (tt, cannot known name bytes buffer (refusal.BufferTooSmall need have) (errors.BufferTooSmall need have) tt refl built why)
+  not_opened (errors.MemoryTooSmall need) why counted = (tt, cannot known name bytes buffer (refusal.MemoryTooSmall need) (errors.MemoryTooSmall need) tt refl built why)
   not_opened errors.FilesFault why counted = counted refl
   not_opened errors.NoMemory why counted = tt
 

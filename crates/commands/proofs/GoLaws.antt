@@ -1,14 +1,12 @@
 -- From what `go` does, and the last line, to what the top call promises.
-use Rattle.std.proofs.Common.{◌≡◌, ◌⊎◌, inl, inr, refl, ℕ, ◌≤◌, ◌<◌, List, Option, Some, None, sym, ap, ◌∙◌, subst, arith}
+use Rattle.std.proofs.Common.{◌≡◌, ◌⊎◌, inl, inr, refl, ℕ, ◌≤◌, List, Option, Some, None, sym, ap, ◌∙◌, subst, arith}
 use Rattle.std.specs.Prelude.{IfSome}
 use Rattle.std.specs.Io.KnownBytes.{append_known}
 use Rattle.tp_outside.specs.Faults.{HasRisen}
-use Rattle.tp_outside.specs.Folder.{Folder, with_known_file}
+use Rattle.tp_outside.specs.Folder.{Folder}
 use Rattle.behaviour.specs.Seen.{Seen}
 use Rattle.typed_tree.specs.declared.units.Program.{Program}
-use Rattle.front_end.specs.Typed.{IsProgramIn}
-use Rattle.front_end.specs.Untyped.{IsRefusing, IsNoProgram}
-use Rattle.literal_programs.specs.Literals.{IsLiteral}
+use Rattle.front_end.specs.Untyped.{IsRefusing}
 use Rattle.dos_runner.specs.declared.runner.RunEnd.{RunEnd}
 use Rattle.dos_runner.specs.declared.runner.RunEnd.TheVariants as ends
 use Rattle.dos_runner.specs.Outside.{Outside}
@@ -19,17 +17,17 @@ use Rattle.outcomes.specs.declared.outcome.Outcome.{Outcome}
 use Rattle.outcomes.specs.declared.outcome.Outcome.TheVariants as outcome
 use Rattle.outcomes.specs.Line.{line_of}
 use Rattle.command_line.specs.declared.command.RunOptions.{RunOptions}
-use Rattle.command_line.specs.Words.{IsGo}
-use Rattle.commands.specs.declared.names.FileKind.TheVariants.{Source, Executable}
+use Rattle.commands.specs.declared.names.FileKind.TheVariants.{Source}
 use Rattle.commands.specs.Ending.{outcome_of}
 use Rattle.commands.specs.Files.{file_of}
-use Rattle.commands.specs.Go.{IsOfOtherForm, IsBuiltFrom, CannotBegin, IsNotBuilt, IsNotGone, GaveNoRun, RanBuilt, WentTo, GoDid}
+use Rattle.commands.specs.Go.{IsBuiltFrom, IsNotBuilt, IsNotGone, RanBuilt, WentTo, GoDid}
 use Rattle.commands.specs.Performs.{DidGo}
 use Rattle.commands.specs.Run.{limit_of}
-use Rattle.commands.specs.Turbo.{Headline, HasRun, HoldsExecutable, IsWritten, Written, IsGoEnd, IsFaultOrNoMemory, Complete, Faults, GoRefused, HoldsNoLiteral, IsOutside, Refuses, TookFront, Fronts, FilesAfter, TookErrors, Unchanged, WroteItsLine}
+use Rattle.commands.specs.Turbo.{Headline, HasRun, HoldsExecutable, IsWritten, Written, IsGoEnd, IsFaultOrNoMemory, GoComplete, Faults, GoRefused, HoldsNoLiteral, IsOutside, Refuses, TookFront, Fronts, FilesAfter, TookErrors, Unchanged, WroteItsLine}
 use Rattle.commands.specs.World.{World, Lacks, IsUntouched}
 use Rattle.commands.proofs.AbsentLaws.{never_gathered, no_source}
-use Rattle.commands.proofs.RanLaws.{told, limited, not_stopped, stands_there, written_there, front_of_output, front_of_errors}
+use Rattle.commands.proofs.HeldLaws.{does_so, holds_literal}
+use Rattle.commands.proofs.RanLaws.{told, limited, not_stopped, ends_so, stands_there, written_there, front_of_output, front_of_errors}
 use Rattle.commands.proofs.WordLaws.{not_both}
 
 pub still_risen : (old mid new : ℕ) → HasRisen old mid → mid ≤ new → HasRisen old new
@@ -102,17 +100,21 @@ ran_complete : (folder : Option Folder) (end : RunEnd) (name bytes : List ℕ) (
     → Rises (Some end) old.streams mid.streams old.files_faults mid.files_faults → mid.streams.errors_faults ≤ faults
     → IfSome folder (λ held. IsGoEnd held name options (outcome_of end) ⊎ IsFaultOrNoMemory (outcome_of end) old (told mid errors faults))
 ran_complete None end name bytes options old mid errors faults ran rises counted = tt
-ran_complete (Some held) (ends.Ended code) name bytes options old mid errors faults ran rises counted = inl tt
+ran_complete (Some held) (ends.Ended code) name bytes options old mid errors faults ran rises counted = inl (record {
+  holds = holds_literal held name bytes ran.built;
+  ends = λ one here. ends_so one bytes (ran.built.does one here) (limit_of options) ran.last old.streams mid.streams code ran.run;
+})
 ran_complete (Some held) (ends.Limit taken) name bytes options old mid errors faults ran rises counted =
-    inl (limited ran.built.program bytes ran.built.does (limit_of options) ran.last old.streams mid.streams taken ran.run)
+    let l = limited ran.built.program bytes (does_so held name bytes ran.built) (limit_of options) ran.last old.streams mid.streams taken ran.run in
+    inl (holds_literal held name bytes ran.built, l.0, l.1)
 ran_complete (Some held) (ends.Stopped cs ip why) name bytes options old mid errors faults ran rises counted =
-    absurd (not_stopped ran.built.program bytes ran.built.does (limit_of options) ran.last old.streams mid.streams cs ip why ran.run)
+    absurd (not_stopped ran.built.program bytes (does_so held name bytes ran.built) (limit_of options) ran.last old.streams mid.streams cs ip why ran.run)
 ran_complete (Some held) ends.InputFault name bytes options old mid errors faults ran rises counted = inr rises
 ran_complete (Some held) ends.OutputFault name bytes options old mid errors faults ran rises counted = inr rises
 ran_complete (Some held) ends.ErrorsFault name bytes options old mid errors faults ran rises counted = inr (still_risen old.streams.errors_faults mid.streams.errors_faults faults rises counted)
 ran_complete (Some held) ends.FilesFault name bytes options old mid errors faults ran rises counted = absurd ran.run.run.leaves
 
-pub complete : (result : Outcome) (words : List (List ℕ)) (old mid : World) (errors : Option (List ℕ)) (faults : ℕ) → DidGo result words old mid → mid.streams.errors_faults ≤ faults → Complete words old (told mid errors faults) result
+pub complete : (result : Outcome) (words : List (List ℕ)) (old mid : World) (errors : Option (List ℕ)) (faults : ℕ) → DidGo result words old mid → mid.streams.errors_faults ≤ faults → GoComplete words old (told mid errors faults) result
 complete result words old mid errors faults went counted = λ name options asked. by name options (went.did name options asked)
   where
     by : (name : List ℕ) (options : RunOptions) → GoDid result name options old mid → IfSome old.folder (λ held. IsGoEnd held name options result ⊎ IsFaultOrNoMemory result old (told mid errors faults))
@@ -236,8 +238,8 @@ lacks_built : (held : Folder) (name bytes : List ℕ) → held (file_of name Sou
 lacks_built held name bytes lacks built = never_gathered held name lacks built.is.texts built.is.sources built.is.gathers
 
 missing_so : (held : Folder) (name : List ℕ) (buffer : Option ℕ) (r : Refusal) → held (file_of name Source) ≡ None → IsNotBuilt held name buffer r → r ≡ refusal.MissingFile (file_of name Source)
-missing_so held name buffer r lacks (inl none) = no_source held name lacks r none
-missing_so held name buffer r lacks (inr (inl other)) = absurd (never_gathered held name lacks other.texts other.sources other.gathers)
+missing_so held name buffer r lacks (inl none) = no_source held name lacks r none.why
+missing_so held name buffer r lacks (inr (inl other)) = absurd (never_gathered held name lacks other.is.texts other.is.sources other.is.gathers)
 missing_so held name buffer r lacks (inr (inr cannot)) = absurd (lacks_built held name cannot.bytes lacks cannot.built)
 
 gone_missing : (result : Outcome) (name : List ℕ) (buffer : Option ℕ) (folder : Option Folder) (old mid : World) (errors : Option (List ℕ)) (faults : ℕ) → Lacks folder (file_of name Source)
@@ -255,7 +257,7 @@ ran_missing (Some held) end name bytes options o o' lacks ran = lacks_built held
 outside_so : (held : Folder) (name : List ℕ) (buffer : Option ℕ) (r : Refusal) → HoldsNoLiteral (Some held) name → IsNotBuilt held name buffer r → IsOutside (Some held) name r
 outside_so held name buffer r lacking (inl none) = inl none
 outside_so held name buffer r lacking (inr (inl other)) = inr other
-outside_so held name buffer r lacking (inr (inr cannot)) = absurd (lacking cannot.built.program cannot.built.is cannot.built.does.literal)
+outside_so held name buffer r lacking (inr (inr cannot)) = absurd (lacking cannot.built.program cannot.built.is (does_so held name cannot.bytes cannot.built).literal)
 
 gone_outside : (result : Outcome) (name : List ℕ) (buffer : Option ℕ) (folder : Option Folder) (old mid : World) (errors : Option (List ℕ)) (faults : ℕ) → HoldsNoLiteral folder name
     → IsNotGone result name buffer folder old.files_faults mid.files_faults → ((r : Refusal) × (result ≡ outcome.Refused r) × IsOutside folder name r) ⊎ IsFaultOrNoMemory result old (told mid errors faults)
@@ -267,7 +269,7 @@ gone_outside other name buffer (Some held) old mid errors faults lacking reason 
 
 ran_outside : (folder : Option Folder) (end : RunEnd) (name bytes : List ℕ) (options : RunOptions) (o o' : Outside) → HoldsNoLiteral folder name → IfSome folder (λ held. RanBuilt held end name bytes options o o') → ⊥
 ran_outside None end name bytes options o o' lacking ran = lacking
-ran_outside (Some held) end name bytes options o o' lacking ran = lacking ran.built.program ran.built.is ran.built.does.literal
+ran_outside (Some held) end name bytes options o o' lacking ran = lacking ran.built.program ran.built.is (does_so held name bytes ran.built).literal
 
 pub causes : (result : Outcome) (words : List (List ℕ)) (old mid : World) (errors : Option (List ℕ)) (faults : ℕ) → DidGo result words old mid → Refuses words old (told mid errors faults) result
 causes result words old mid errors faults went = record {
@@ -303,9 +305,9 @@ failing : (folder : Option Folder) (result : Outcome) (name : List ℕ) (options
 failing None result name options old new fails = tt
 failing (Some held) result name options old new fails = inr fails
 
-pub complete_failed : (words : List (List ℕ)) (old new : World) (mid : ℕ) → old.streams.errors_faults ≤ mid → HasRisen mid new.streams.errors_faults → Complete words old new outcome.ErrorsFault
+pub complete_failed : (words : List (List ℕ)) (old new : World) (mid : ℕ) → old.streams.errors_faults ≤ mid → HasRisen mid new.streams.errors_faults → GoComplete words old new outcome.ErrorsFault
 complete_failed words old new mid counted rose = λ name options asked.
     failing old.folder outcome.ErrorsFault name options old new (still_rising old.streams.errors_faults mid new.streams.errors_faults counted rose)
 
-pub complete_out : (result : Outcome) (words : List (List ℕ)) (old new : World) → result ≡ outcome.NoMemory → Complete words old new result
+pub complete_out : (result : Outcome) (words : List (List ℕ)) (old new : World) → result ≡ outcome.NoMemory → GoComplete words old new result
 complete_out result words old new is = λ name options asked. failing old.folder result name options old new (subst (λ (o : Outcome). IsFaultOrNoMemory o old new) (sym is) tt)

@@ -1,6 +1,7 @@
 pub mod FileLaws
 pub mod WordLaws
 pub mod AbsentLaws
+pub mod HeldLaws
 pub mod BuildLaws
 pub mod RanLaws
 pub mod GoLaws

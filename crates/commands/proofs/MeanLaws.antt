@@ -4,7 +4,7 @@ use Rattle.std.specs.Io.KnownBytes.{append_known}
 use Rattle.tp_outside.specs.Faults.{HasRisen}
 use Rattle.tp_outside.specs.Folder.{Folder}
 use Rattle.dos_runner.specs.Outside.{Outside}
-use Rattle.behaviour.specs.Seen.{Standing, Ended, Going, Undefined, Stopped}
+use Rattle.behaviour.specs.Seen.{Seen, Standing, Ended, Going, Undefined, Stopped}
 use Rattle.typed_tree.specs.declared.units.Program.{Program}
 use Rattle.meaning.specs.Meaning.{mean}
 use Rattle.whole_input.specs.Input.{HasMore}
@@ -15,18 +15,21 @@ use Rattle.outcomes.specs.declared.refusal.What.TheVariants as what
 use Rattle.outcomes.specs.declared.outcome.Outcome.{Outcome}
 use Rattle.outcomes.specs.declared.outcome.Outcome.TheVariants as outcome
 use Rattle.outcomes.specs.Line.{line_of}
-use Rattle.mean_program.specs.Shown.{outcome_of, IsUnread, Writes, Means, Declines, Shows}
+use Rattle.mean_program.specs.Shown.{outcome_of, IsUnread, Writes, Shows}
 use Rattle.front_end.specs.Typed.{IsProgramIn}
-use Rattle.front_end.specs.Untyped.{IsNoProgram, IsDeclining}
-use Rattle.command_line.specs.Words.{IsGo, IsRun, IsMean}
-use Rattle.commands.specs.Mean.{turns_of, sinks_of, GaveNoProgram, ShowedMeaning, MeanDid}
+use Rattle.front_end.specs.Untyped.{IsDeclining}
+use Rattle.one_program.specs.Folder.{IsExempt, FoundNone}
+use Rattle.command_line.specs.Words.{IsMean}
+use Rattle.commands.specs.Mean.{turns_of, sinks_of, ShowedMeaning, MeanDid}
 use Rattle.commands.specs.Performs.{DidMean}
 use Rattle.commands.specs.Texts.{IsTextOf}
-use Rattle.commands.specs.Turbo.{Faults, HasNoMeaning, MeanRefused, Unchanged, WroteItsLine, AfterLine, MeansFiles, MeantFiles}
+use Rattle.commands.specs.Turbo.{IsFaultOrNoMemory, Faults, HasNoMeaning, StandsSo, IsMeanEnd, MeanComplete, MeanRefused, Unchanged, WroteItsLine, AfterLine, MeansFiles, MeantFiles}
 use Rattle.commands.specs.World.{World}
-use Rattle.commands.proofs.GoLaws.{still_risen, wrote_its_line}
+use Rattle.one_program.proofs.Programs.{one_folder}
+use Rattle.same_meaning.proofs.Runs.{means_alike}
+use Rattle.commands.proofs.HeldLaws.{shows_too}
+use Rattle.commands.proofs.GoLaws.{still_risen, still_rising}
 use Rattle.commands.proofs.RanLaws.{told}
-use Rattle.commands.proofs.WordLaws.{not_go_and_mean}
 use Rattle.command_line.proofs.LineLaws.{help_not, version_not}
 
 pub not_mean : (words : List (List ℕ)) (text name : List ℕ) (turns : Option ℕ) → IsTextOf words text → IsMean words name turns → ⊥
@@ -126,7 +129,7 @@ long_input : (folder : Option Folder) (r : Refusal) (name : List ℕ) (program :
 long_input None r name program input input' is l = tt
 long_input (Some held) r name program input input' is l = inr (record { program = program; is = is; number = l.number; large = l.large; rest = input'; more = l.more })
 
-no_program_told : (folder : Option Folder) (r : Refusal) (name : List ℕ) (input : Option (List ℕ)) → IfSome folder (λ held. IsNoProgram held name (outcome.Refused r)) → IfSome folder (λ held. HasNoMeaning held name input r)
+no_program_told : (folder : Option Folder) (r : Refusal) (name : List ℕ) (input : Option (List ℕ)) → IfSome folder (λ held. FoundNone held name (outcome.Refused r)) → IfSome folder (λ held. HasNoMeaning held name input r)
 no_program_told None r name input why = tt
 no_program_told (Some held) r name input why = inl why
 
@@ -138,6 +141,82 @@ reason r name turns old mid (inr showed) = by showed.shows
         → IfSome old.folder (λ held. HasNoMeaning held name old.streams.input r)
     by (inl means) = absurd (writes_refuses_not showed.program means.bytes (turns_of turns) r old mid means.writes)
     by (inr declines) = long_input old.folder r name showed.program old.streams.input mid.streams.input showed.is (long r old.streams.input mid.streams.input old.streams.input_faults mid.streams.input_faults declines.cause)
+
+-- ---- how it ends
+
+-- how a meaning stands is neither a refusal nor a fault
+end_so : (held : Folder) (name : List ℕ) (turns : Option ℕ) (input input' : Option (List ℕ)) (standing : Standing) → StandsSo held name turns (outcome_of standing) input input'
+    → IsMeanEnd held name turns (outcome_of standing) input input'
+end_so held name turns input input' (Ended code) so = so
+end_so held name turns input input' Going so = so
+end_so held name turns input input' (Undefined act) so = so
+end_so held name turns input input' Stopped so = so
+
+none_complete : (folder : Option Folder) (result : Outcome) (name : List ℕ) (turns : Option ℕ) (old mid : World) (errors : Option (List ℕ)) (faults : ℕ) → IfSome folder (λ held. FoundNone held name result) → IsDeclining result
+    → (result ≡ outcome.FilesFault → HasRisen old.files_faults mid.files_faults)
+    → IfSome folder (λ held. IsMeanEnd held name turns result old.streams.input mid.streams.input ⊎ IsFaultOrNoMemory result old (told mid errors faults))
+none_complete None result name turns old mid errors faults why declines counted = tt
+none_complete (Some held) (outcome.Refused r) name turns old mid errors faults why declines counted = inl (inl why)
+none_complete (Some held) outcome.FilesFault name turns old mid errors faults why declines counted = inr (counted refl)
+none_complete (Some held) outcome.NoMemory name turns old mid errors faults why declines counted = inr tt
+none_complete (Some held) other name turns old mid errors faults why declines counted = absurd declines
+
+unread_complete : (held : Folder) (result : Outcome) (name : List ℕ) (turns : Option ℕ) (program : Program) (old mid : World) (errors : Option (List ℕ)) (faults : ℕ) → IsProgramIn held name program
+    → IsUnread old.streams.input mid.streams.input old.streams.input_faults mid.streams.input_faults result
+    → IsMeanEnd held name turns result old.streams.input mid.streams.input ⊎ IsFaultOrNoMemory result old (told mid errors faults)
+unread_complete held (outcome.Refused r) name turns program old mid errors faults is why =
+    let l = long r old.streams.input mid.streams.input old.streams.input_faults mid.streams.input_faults why in
+    inl (inr (record { program = program; is = is; number = l.number; large = l.large; rest = mid.streams.input; more = l.more }))
+unread_complete held outcome.InputFault name turns program old mid errors faults is why = inr why
+unread_complete held outcome.NoMemory name turns program old mid errors faults is why = inr tt
+unread_complete held other name turns program old mid errors faults is why = absurd why
+
+showed_complete : (folder : Option Folder) (result : Outcome) (name : List ℕ) (turns : Option ℕ) (program : Program) (old mid : World) (errors : Option (List ℕ)) (faults : ℕ) → IfSome folder (λ held. IsProgramIn held name program)
+    → Shows program (turns_of turns) result old.streams.input mid.streams.input old.streams.input_faults mid.streams.input_faults (sinks_of old.streams) (sinks_of mid.streams) → mid.streams.errors_faults ≤ faults
+    → IfSome folder (λ held. IsMeanEnd held name turns result old.streams.input mid.streams.input ⊎ IsFaultOrNoMemory result old (told mid errors faults))
+showed_complete None result name turns program old mid errors faults is shows rises = tt
+showed_complete (Some held) result name turns program old mid errors faults is (inr declines) rises = unread_complete held result name turns program old mid errors faults is declines.cause
+showed_complete (Some held) result name turns program old mid errors faults is (inl means) rises = by means.writes
+  where
+    new : World
+    new = told mid errors faults
+
+    input : Option (List ℕ)
+    input = old.streams.input
+
+    by : Writes (mean program means.bytes (turns_of turns)) result (sinks_of old.streams) (sinks_of mid.streams) → IsMeanEnd held name turns result input mid.streams.input ⊎ IsFaultOrNoMemory result old new
+    by (inl all) =
+        let so : StandsSo held name turns (outcome_of (mean program means.bytes (turns_of turns)).end) input mid.streams.input =
+        record {
+          program = program;
+          is = is;
+          bytes = means.bytes;
+          whole = means.whole;
+          stands = λ one here. ap (λ (seen : Seen). outcome_of seen.end) (means_alike program one (one_folder held name program one is here) means.bytes (turns_of turns));
+        } in
+        inl (subst (λ (o : Outcome). IsMeanEnd held name turns o input mid.streams.input) (sym all.stands) (end_so held name turns input mid.streams.input (mean program means.bytes (turns_of turns)).end so))
+    by (inr (inl out)) = inr (subst (λ (o : Outcome). IsFaultOrNoMemory o old new) (sym out.is) out.rose)
+    by (inr (inr err)) = inr (subst (λ (o : Outcome). IsFaultOrNoMemory o old new) (sym err.is) (still_risen old.streams.errors_faults mid.streams.errors_faults faults err.rose rises))
+
+pub complete : (result : Outcome) (words : List (List ℕ)) (old mid : World) (errors : Option (List ℕ)) (faults : ℕ) → DidMean result words old mid → mid.streams.errors_faults ≤ faults → MeanComplete words old (told mid errors faults) result
+complete result words old mid errors faults meant rises = λ name turns asked. by name turns (meant.did name turns asked)
+  where
+    by : (name : List ℕ) (turns : Option ℕ) → MeanDid result name turns old mid
+        → IfSome old.folder (λ held. IsMeanEnd held name turns result old.streams.input mid.streams.input ⊎ IsFaultOrNoMemory result old (told mid errors faults))
+    by name turns (inl gave) = none_complete old.folder result name turns old mid errors faults gave.reason gave.declines gave.counted
+    by name turns (inr showed) = showed_complete old.folder result name turns showed.program old mid errors faults showed.is showed.shows rises
+
+failing : (folder : Option Folder) (result : Outcome) (name : List ℕ) (turns : Option ℕ) (old new : World) → IsFaultOrNoMemory result old new
+    → IfSome folder (λ held. IsMeanEnd held name turns result old.streams.input new.streams.input ⊎ IsFaultOrNoMemory result old new)
+failing None result name turns old new fails = tt
+failing (Some held) result name turns old new fails = inr fails
+
+pub complete_failed : (words : List (List ℕ)) (old new : World) (mid : ℕ) → old.streams.errors_faults ≤ mid → HasRisen mid new.streams.errors_faults → MeanComplete words old new outcome.ErrorsFault
+complete_failed words old new mid counted rose = λ name turns asked.
+    failing old.folder outcome.ErrorsFault name turns old new (still_rising old.streams.errors_faults mid new.streams.errors_faults counted rose)
+
+pub complete_out : (result : Outcome) (words : List (List ℕ)) (old new : World) → result ≡ outcome.NoMemory → MeanComplete words old new result
+complete_out result words old new is = λ name turns asked. failing old.folder result name turns old new (subst (λ (o : Outcome). IsFaultOrNoMemory o old new) (sym is) tt)
 
 pub refused : (r : Refusal) (words : List (List ℕ)) (old mid : World) → DidMean (outcome.Refused r) words old mid → MeanRefused words old r
 refused refusal.Usage words old mid meant = λ name turns asked. usage_not name turns old mid (meant.did name turns asked)
@@ -207,7 +286,7 @@ folder_kept result words old mid meant = by (meant.did meant.name meant.turns me
 -- ---- what was shown
 
 no_program_line : (folder : Option Folder) (inner result : Outcome) (name : List ℕ) (turns : Option ℕ) (old mid : World) (errors : Option (List ℕ)) (faults : ℕ) → AfterLine result inner mid.streams.errors errors
-    → mid.streams ≡ old.streams → IfSome folder (λ held. IsNoProgram held name inner) → IfSome folder (λ held. MeansFiles held result name turns old (told mid errors faults))
+    → mid.streams ≡ old.streams → IfSome folder (λ held. FoundNone held name inner) → IfSome folder (λ held. MeansFiles held result name turns old (told mid errors faults))
 no_program_line None inner result name turns old mid errors faults line untouched why = tt
 no_program_line (Some held) inner result name turns old mid errors faults line untouched why = record {
   inner = inner;
@@ -226,7 +305,12 @@ showed_line (Some held) inner result name turns program old mid errors faults li
   inner = inner;
   before = mid.streams.errors;
   before_faults = mid.streams.errors_faults;
-  did = inr (program, is, shows);
+  did = inr (
+    program,
+    is,
+    λ one here. shows_too program one (turns_of turns) inner old.streams.input mid.streams.input old.streams.input_faults mid.streams.input_faults (sinks_of old.streams) (sinks_of mid.streams)
+        (one_folder held name program one is here) shows,
+  );
   line = line;
 }
 
@@ -234,9 +318,9 @@ pub ran_out : (folder : Option Folder) (inner result : Outcome) (name : List ℕ
     → IfSome folder (λ held. MeansFiles held result name turns old (told mid errors faults))
 ran_out folder inner result name turns old mid errors faults is untouched line = no_program_line folder inner result name turns old mid errors faults line untouched (none folder)
   where
-    none : (folder : Option Folder) → IfSome folder (λ held. IsNoProgram held name inner)
+    none : (folder : Option Folder) → IfSome folder (λ held. FoundNone held name inner)
     none None = tt
-    none (Some held) = inl (record { error = gather.NoMemory; cause = tt; is = is })
+    none (Some held) = record { why = inl (record { error = gather.NoMemory; cause = tt; is = is }); exempt = λ program here. subst IsExempt (sym is) tt }
 
 pub means : (inner result : Outcome) (words : List (List ℕ)) (old mid : World) (errors : Option (List ℕ)) (faults : ℕ) → DidMean inner words old mid → AfterLine result inner mid.streams.errors errors
     → MeantFiles words old (told mid errors faults) result

@@ -1,5 +1,5 @@
 -- What a run of the executable shows.
-use Rattle.std.proofs.Common.{◌≡◌, ℕ, ◌≤◌, ◌<◌, ◌+◌, List, [], length, Option, Some, None, refl, inl, inr, sym, ap, ◌∙◌, subst, arith}
+use Rattle.std.proofs.Common.{◌≡◌, ℕ, ◌≤◌, ◌<◌, ◌+◌, List, [], length, Option, Some, None, inl, inr, sym, ap, ◌∙◌, subst, arith}
 use Rattle.std.specs.Prelude.{IfSome}
 use Rattle.std.proofs.lemmas.List.{take_all}
 use Rattle.std.specs.Io.KnownBytes.{append_known}
@@ -7,7 +7,7 @@ use Rattle.tp_outside.specs.Folder.{Folder, with_known_file, bytes_of}
 use Rattle.tp_outside.specs.Streams.{TakesPrefix}
 use Rattle.tp_outside.proofs.FolderLaws.{with_file-same}
 use Rattle.tp_outside.proofs.Known.{append_known-nil}
-use Rattle.behaviour.specs.Seen.{Seen}
+use Rattle.behaviour.specs.Seen.{Seen, Ended}
 use Rattle.typed_tree.specs.declared.units.Program.{Program}
 use Rattle.meaning.specs.Meaning.{mean}
 use Rattle.cpu_8086.specs.declared.process.Why.{Why}
@@ -27,7 +27,6 @@ use Rattle.overlay_manager.specs.Manager.{Manager}
 use Rattle.overlay_runner.specs.declared.runner.Runner.{Runner}
 use Rattle.overlay_runner.specs.Event.{Rises}
 use Rattle.overlay_runner.specs.Runner.{with_retry, RunsOn}
-use Rattle.outcomes.specs.declared.outcome.Outcome.{Outcome}
 use Rattle.outcomes.specs.declared.outcome.Outcome.TheVariants as outcome
 use Rattle.mean_program.specs.Shown.{WritesAll, outcome_of}
 use Rattle.command_line.specs.declared.command.RunOptions.{RunOptions}
@@ -80,6 +79,10 @@ module _ (program : Program) (bytes : List ℕ) (does : DoesSoon program bytes) 
 
   pub not_stopped : (cs ip : ℕ) (why : Why) → RunsTo (ends.Stopped cs ip why) limit start last o o' → ⊥
   not_stopped cs ip why run = concluded (ends.Stopped cs ip why) run
+
+  -- a run that ended came to the end that is meant
+  pub ends_so : (code : ℕ) → RunsTo (ends.Ended code) limit start last o o' → (input : List ℕ) (turns : ℕ) → (mean program input turns).end ≡ Ended code
+  ends_so code run input turns = ap (λ (x : Seen). x.end) (means statements program input turns does.literal.says) ∙ ap (λ (c : ℕ). Ended c) (sym (concluded (ends.Ended code) run).0)
 
   -- the sinks took fronts of what the statements say
   took_all : (code : ℕ) → RunsTo (ends.Ended code) limit start last o o' → TakesFronts (written statements) [] o o'
@@ -147,7 +150,7 @@ stands_there (Some held) now end name bytes options o o' ran is = record {
   is = ran.built.is;
   bytes = bytes;
   there = subst (λ (f : Option Folder). Holds f (file_of name Executable) bytes) (sym is) (with_file-same held (file_of name Executable) bytes);
-  agrees = ran.built.does.agrees;
+  agrees = λ one here. (ran.built.does one here).agrees;
 }
 
 pub written_there : (folder : Option Folder) (name bytes : List ℕ) (options : RunOptions) (old mid : World) (errors : Option (List ℕ)) (faults code : ℕ)
@@ -157,18 +160,20 @@ written_there None name bytes options old mid errors faults code ran line = tt
 written_there (Some held) name bytes options old mid errors faults code ran line = record {
   program = ran.built.program;
   is = ran.built.is;
-  all = wrote_all ran.built.program bytes ran.built.does (limit_of options) ran.last old mid errors faults code ran.run line;
+  all = λ one here. wrote_all one bytes (ran.built.does one here) (limit_of options) ran.last old mid errors faults code ran.run line;
 }
 
 pub front_of_output : (folder : Option Folder) (end : RunEnd) (name bytes : List ℕ) (options : RunOptions) (o o' : Outside) → IfSome folder (λ held. RanBuilt held end name bytes options o o')
     → IfSome folder (λ held. TookFront held name (λ (seen : Seen). seen.out) o.output o'.output)
 front_of_output None end name bytes options o o' ran = tt
-front_of_output (Some held) end name bytes options o o' ran = inr (ran.built.program, ran.built.is, took_output ran.built.program bytes ran.built.does (limit_of options) ran.last o o' end ran.run)
+front_of_output (Some held) end name bytes options o o' ran =
+    inr (ran.built.program, ran.built.is, λ one here. took_output one bytes (ran.built.does one here) (limit_of options) ran.last o o' end ran.run)
 
 pub front_of_errors : (folder : Option Folder) (end : RunEnd) (name bytes : List ℕ) (options : RunOptions) (o o' : Outside) → IfSome folder (λ held. RanBuilt held end name bytes options o o')
     → IfSome folder (λ held. TookFront held name (λ (seen : Seen). seen.err) o.errors o'.errors)
 front_of_errors None end name bytes options o o' ran = tt
-front_of_errors (Some held) end name bytes options o o' ran = inr (ran.built.program, ran.built.is, took_errors ran.built.program bytes ran.built.does (limit_of options) ran.last o o' end ran.run)
+front_of_errors (Some held) end name bytes options o o' ran =
+    inr (ran.built.program, ran.built.is, λ one here. took_errors one bytes (ran.built.does one here) (limit_of options) ran.last o o' end ran.run)
 
 -- ---- programs that were opened
 

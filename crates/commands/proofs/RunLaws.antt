@@ -9,7 +9,6 @@ use Rattle.opened_program.specs.declared.error.OpenError.{OpenError}
 use Rattle.opened_program.specs.declared.error.OpenError.TheVariants as errors
 use Rattle.opened_program.specs.Opening.{HasReason, IsRefused}
 use Rattle.opened_program.proofs.ReasonLaws.{one_reason, no_reason}
-use Rattle.overlay_runner.specs.Event.{Rises}
 use Rattle.commands.specs.declared.names.FileKind.TheVariants.{Executable, Overlays}
 use Rattle.outcomes.specs.declared.refusal.Refusal.{Refusal}
 use Rattle.outcomes.specs.declared.refusal.Refusal.TheVariants as refusal

@@ -43,12 +43,26 @@ written result words old mid errors faults (inr (inr (inr (inr (inl shown))))) l
 written result words old mid errors faults (inr (inr (inr (inr (inr meant))))) line = λ name options code asked is. absurd (not_go_and_mean words name meant.name options meant.turns asked meant.asked)
 
 pub complete : (result : Outcome) (words : List (List ℕ)) (old mid : World) (errors : Option (List ℕ)) (faults : ℕ) → Performs result words old mid → mid.streams.errors_faults ≤ faults → Complete words old (told mid errors faults) result
-complete result words old mid errors faults (inl misused) counted = λ name options asked. absurd (misused.none.go name options asked)
-complete result words old mid errors faults (inr (inl went)) counted = go.complete result words old mid errors faults went counted
-complete result words old mid errors faults (inr (inr (inl ran))) counted = λ name options asked. absurd (not_both words name ran.name options ran.options asked ran.asked)
-complete result words old mid errors faults (inr (inr (inr (inl out)))) counted = go.complete_out result words old (told mid errors faults) out.is
-complete result words old mid errors faults (inr (inr (inr (inr (inl shown))))) counted = λ name options asked. absurd (not_go words shown.text name options shown.asked asked)
-complete result words old mid errors faults (inr (inr (inr (inr (inr meant))))) counted = λ name options asked. absurd (not_go_and_mean words name meant.name options meant.turns asked meant.asked)
+complete result words old mid errors faults (inl misused) counted =
+    record { of_go = λ name options asked. absurd (misused.none.go name options asked); of_mean = λ name turns asked. absurd (misused.none.mean name turns asked) }
+complete result words old mid errors faults (inr (inl went)) counted = record {
+  of_go = go.complete result words old mid errors faults went counted;
+  of_mean = λ name turns asked. absurd (not_go_and_mean words went.name name went.options turns went.asked asked);
+}
+complete result words old mid errors faults (inr (inr (inl ran))) counted = record {
+  of_go = λ name options asked. absurd (not_both words name ran.name options ran.options asked ran.asked);
+  of_mean = λ name turns asked. absurd (not_run_and_mean words ran.name name ran.options turns ran.asked asked);
+}
+complete result words old mid errors faults (inr (inr (inr (inl out)))) counted =
+    record { of_go = go.complete_out result words old (told mid errors faults) out.is; of_mean = mean.complete_out result words old (told mid errors faults) out.is }
+complete result words old mid errors faults (inr (inr (inr (inr (inl shown))))) counted = record {
+  of_go = λ name options asked. absurd (not_go words shown.text name options shown.asked asked);
+  of_mean = λ name turns asked. absurd (not_mean words shown.text name turns shown.asked asked);
+}
+complete result words old mid errors faults (inr (inr (inr (inr (inr meant))))) counted = record {
+  of_go = λ name options asked. absurd (not_go_and_mean words name meant.name options meant.turns asked meant.asked);
+  of_mean = mean.complete result words old mid errors faults meant counted;
+}
 
 pub fault : (result : Outcome) (words : List (List ℕ)) (old mid : World) (errors : Option (List ℕ)) (faults : ℕ) → Performs result words old mid → mid.streams.errors_faults ≤ faults → Faults old (told mid errors faults) result
 fault result words old mid errors faults (inl misused) rises = subst (λ (o : Outcome). Faults old (told mid errors faults) o) (sym misused.is) tt
@@ -236,7 +250,8 @@ pub line_failed : (words : List (List ℕ)) (old new : World) (mid : ℕ) → ol
 line_failed words old new mid counted rose = go.line_failed words old new mid counted rose
 
 pub complete_failed : (words : List (List ℕ)) (old new : World) (mid : ℕ) → old.streams.errors_faults ≤ mid → HasRisen mid new.streams.errors_faults → Complete words old new outcome.ErrorsFault
-complete_failed words old new mid counted rose = go.complete_failed words old new mid counted rose
+complete_failed words old new mid counted rose =
+    record { of_go = go.complete_failed words old new mid counted rose; of_mean = mean.complete_failed words old new mid counted rose }
 
 -- what a text's output took, with the line after it or without
 pub tells_with_line : (result : Outcome) (words : List (List ℕ)) (old mid : World) (errors : Option (List ℕ)) (faults : ℕ) → Performs result words old mid → errors ≡ append_known mid.streams.errors (line_of result) → Tells words old (told mid errors faults) result

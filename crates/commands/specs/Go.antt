@@ -1,5 +1,5 @@
 -- What `go` does before its last line.
-use Rattle.std.specs.Prelude.{◌≡◌, ◌⊎◌, ℕ, List, [], ◌∷◌, Option, Some, IfSome}
+use Rattle.std.specs.Prelude.{◌≡◌, ◌⊎◌, ◌<◌, ℕ, List, [], ◌∷◌, Option, Some, IfSome}
 use Rattle.tp_outside.specs.Faults.{HasRisen}
 use Rattle.tp_outside.specs.Folder.{Folder, with_known_file}
 use Rattle.type_layout.specs.declared.texts.Place.{Place}
@@ -12,7 +12,8 @@ use Rattle.typed_tree.specs.declared.units.Program.{Program}
 use Rattle.meaning.specs.Meaning.{mean}
 use Rattle.front_end.specs.declared.program.TypedSources.{TypedSources}
 use Rattle.front_end.specs.Typed.{IsProgram, IsProgramIn}
-use Rattle.front_end.specs.Untyped.{IsNoProgram, IsRefusing}
+use Rattle.front_end.specs.Untyped.{IsRefusing}
+use Rattle.one_program.specs.Folder.{FoundNone}
 use Rattle.literal_programs.specs.Literals.{IsLiteral}
 use Rattle.literal_programs.specs.Agrees.{Agrees}
 use Rattle.literal_programs.specs.Memory.{HasMemoryOf}
@@ -24,18 +25,17 @@ use Rattle.mz_file.specs.Load.{loaded}
 use Rattle.dos_runner.specs.declared.runner.RunEnd.{RunEnd}
 use Rattle.dos_runner.specs.declared.runner.RunEnd.TheVariants as ends
 use Rattle.dos_runner.specs.Outside.{Outside, RunsTo}
-use Rattle.opened_program.specs.declared.error.OpenError.{OpenError}
-use Rattle.opened_program.specs.Opening.{IsRefused}
+use Rattle.plain_opening.specs.Laws.{needed}
 use Rattle.overlay_runner.specs.Event.{Rises}
 use Rattle.command_line.specs.declared.command.RunOptions.{RunOptions}
 use Rattle.outcomes.specs.declared.refusal.Refusal.{Refusal}
 use Rattle.outcomes.specs.declared.refusal.Refusal.TheVariants as refusal
 use Rattle.outcomes.specs.declared.outcome.Outcome.{Outcome}
 use Rattle.outcomes.specs.declared.outcome.Outcome.TheVariants as outcome
-use Rattle.commands.specs.declared.names.FileKind.TheVariants.{Executable, Overlays}
+use Rattle.commands.specs.declared.names.FileKind.TheVariants.{Executable}
 use Rattle.commands.specs.Files.{file_of}
 use Rattle.commands.specs.Ending.{outcome_of}
-use Rattle.commands.specs.Run.{refused_as, limit_of}
+use Rattle.commands.specs.Run.{limit_of}
 use Rattle.commands.specs.World.{World, IsUntouched}
 
 -- ---- programs of literals
@@ -49,19 +49,19 @@ place_of_first (source ∷ sources) program = place_outside source.tree program
 abbrev pub other_form : TypedSources → Refusal
 other_form found = refusal.NotInProfile (at found.texts.items (place_of_first found.sources.items found.program)) NotYet
 
--- The files hold a program of this name that is not of the literal form; it is not built yet at the first node that the form lacks.
+-- The files hold a program of this name, and none that is of the literal form. It is not built yet at the first node that the form lacks,
+-- which is one place, however the sources are gathered and the program lies in memory.
 pub record IsOfOtherForm (held : Folder) (name : List ℕ) (r : Refusal) : Type 0 where
-  pub texts : List Text
-  pub sources : List Source
-  pub gathers : Gathers held name texts sources
   pub program : Program
-  pub is : IsProgram sources program
-  pub other : IsLiteral program → ⊥
-  pub refused : r ≡ refusal.NotInProfile (at texts (place_of_first sources program)) NotYet
+  pub is : IsProgramIn held name program
+  pub other : (one : Program) → IsProgramIn held name one → IsLiteral one → ⊥
+  pub refused : (texts : List Text) (sources : List Source) (one : Program) → Gathers held name texts sources → IsProgram sources one
+      → r ≡ refusal.NotInProfile (at texts (place_of_first sources one)) NotYet
 
--- A program is of the literal form, and these bytes do what it means, soon, in the memory that it asks for.
+-- A program is of the literal form, and these bytes do what it means, soon, without overlays, in the memory that it asks for.
 pub record DoesSoon (program : Program) (bytes : List ℕ) : Type 0 where
   pub literal : IsLiteral program
+  pub plain : (exe_of bytes).block.stubs ≡ []
   pub memory : HasMemoryOf program (exe_of bytes)
   pub agrees : Agrees program bytes
   pub soon : (input : List ℕ) (turns : ℕ) → EndsWithin 16389 bytes input (mean program input turns)
@@ -72,25 +72,25 @@ IsNotMade found (outcome.Refused r) = (IsLiteral found.program → ⊥) × (r �
 IsNotMade found outcome.NoMemory = Unit {0}
 IsNotMade found other = ⊥
 
--- The files hold such a program, and these bytes do what it means.
+-- The files hold a program of this name, and these bytes do what each means that they hold, which is of the literal form.
 pub record IsBuiltFrom (held : Folder) (name bytes : List ℕ) : Type 0 where
   pub program : Program
   pub is : IsProgramIn held name program
-  pub does : DoesSoon program bytes
+  pub does : (one : Program) → IsProgramIn held name one → DoesSoon one bytes
 
--- The executable of such a program would not begin, for the reason for which `run` would not open it.
+-- The executable of such a program would not begin: with the buffer that is asked for it takes more than the memory below segment A000h.
 pub record CannotBegin (held : Folder) (name : List ℕ) (buffer : Option ℕ) (r : Refusal) : Type 0 where
   pub bytes : List ℕ
   pub built : IsBuiltFrom held name bytes
-  pub error : OpenError
-  pub is : outcome.Refused r ≡ refused_as error
-  pub cause : IsRefused bytes (file_of name Overlays) (held (file_of name Overlays)) buffer error
+  pub large : 0xA000 < needed bytes buffer
+  pub refused : r ≡ refusal.MemoryTooSmall (needed bytes buffer)
 
 -- ---- refusals
 
--- Why the program of this name is refused that is to be built and run.
+-- Why the program of this name is refused that is to be built and run: the files hold none, or what they hold is of another form, or it
+-- cannot begin.
 abbrev pub IsNotBuilt : Folder → List ℕ → Option ℕ → Refusal → Type 0
-IsNotBuilt held name buffer r = IsNoProgram held name (outcome.Refused r) ⊎ (IsOfOtherForm held name r ⊎ CannotBegin held name buffer r)
+IsNotBuilt held name buffer r = FoundNone held name (outcome.Refused r) ⊎ (IsOfOtherForm held name r ⊎ CannotBegin held name buffer r)
 
 -- Why it was not run. Faults and want of memory have no cause there.
 abbrev pub HasNoRun : Folder → Outcome → List ℕ → Option ℕ → Type 0

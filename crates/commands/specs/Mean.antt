@@ -1,14 +1,14 @@
 -- What `mean` does before its last line.
-use Rattle.std.specs.Prelude.{◌≡◌, ◌⊎◌, ℕ, List, Option, Some, None, unwrap_or, IfSome}
+use Rattle.std.specs.Prelude.{◌≡◌, ◌⊎◌, ℕ, List, Option, unwrap_or, IfSome}
 use Rattle.tp_outside.specs.Faults.{HasRisen}
-use Rattle.tp_outside.specs.Folder.{Folder}
 use Rattle.dos_runner.specs.Outside.{Outside}
 use Rattle.typed_tree.specs.declared.units.Program.{Program}
 use Rattle.outcomes.specs.declared.outcome.Outcome.{Outcome}
 use Rattle.outcomes.specs.declared.outcome.Outcome.TheVariants as outcome
 use Rattle.mean_program.specs.Shown.{Sinks, streams, Shows}
 use Rattle.front_end.specs.Typed.{IsProgramIn}
-use Rattle.front_end.specs.Untyped.{IsNoProgram, IsDeclining}
+use Rattle.front_end.specs.Untyped.{IsDeclining}
+use Rattle.one_program.specs.Folder.{FoundNone}
 use Rattle.commands.specs.World.{World, IsUntouched}
 
 -- how many turns a program may take
@@ -18,9 +18,9 @@ turns_of turns = unwrap_or turns 1000000
 abbrev pub sinks_of : Outside → Sinks
 sinks_of o = streams o.output o.errors o.output_faults o.errors_faults
 
--- There is no program of this name.
+-- No program of this name was found.
 pub record GaveNoProgram (result : Outcome) (name : List ℕ) (old new : World) : Type 0 where
-  pub reason : IfSome old.folder (λ held. IsNoProgram held name result)
+  pub reason : IfSome old.folder (λ held. FoundNone held name result)
   pub declines : IsDeclining result
   pub counted : result ≡ outcome.FilesFault → HasRisen old.files_faults new.files_faults
   pub untouched : IsUntouched old new

@@ -4,13 +4,13 @@ use Rattle.std.specs.Io.KnownBytes.{append_known}
 use Rattle.tp_outside.specs.Faults.{HasRisen}
 use Rattle.tp_outside.specs.Folder.{Folder, with_known_file}
 use Rattle.tp_outside.specs.Streams.{TakesPrefix}
-use Rattle.behaviour.specs.Seen.{Seen}
+use Rattle.behaviour.specs.Seen.{Seen, Ended}
 use Rattle.typed_tree.specs.declared.units.Program.{Program}
 use Rattle.meaning.specs.Meaning.{mean}
-use Rattle.whole_input.specs.Input.{HasMore}
+use Rattle.whole_input.specs.Input.{IsWhole, HasMore}
 use Rattle.front_end.specs.Typed.{IsProgramIn}
-use Rattle.front_end.specs.Untyped.{IsNoProgram}
-use Rattle.mean_program.specs.Shown.{WritesAll, Shows}
+use Rattle.one_program.specs.Folder.{FoundNone}
+use Rattle.mean_program.specs.Shown.{WritesAll, Shows, outcome_of as meant_as}
 use Rattle.literal_programs.specs.Literals.{IsLiteral}
 use Rattle.literal_programs.specs.Agrees.{Agrees}
 use Rattle.dos_runner.specs.declared.runner.RunEnd.{RunEnd}
@@ -44,25 +44,25 @@ HasRun outcome.InputFault = Unit {0}
 HasRun outcome.OutputFault = Unit {0}
 HasRun other = ⊥
 
--- A file now holds an executable that does what the program means which the files held.
+-- The files held a program of this name, and one now holds an executable that does what each program means which they held.
 pub record HoldsExecutable (held : Folder) (now : Option Folder) (name : List ℕ) : Type 0 where
   pub program : Program
   pub is : IsProgramIn held name program
   pub bytes : List ℕ
   pub there : Holds now (file_of name Executable) bytes
-  pub agrees : Agrees program bytes
+  pub agrees : (one : Program) → IsProgramIn held name one → Agrees one bytes
 
 -- The headline: where the files told what they held, the executable that stands in the folder afterwards does what their program means.
 abbrev pub Headline : List (List ℕ) → World → World → Outcome → Type 0
 Headline words old new result =
     (name : List ℕ) (options : RunOptions) → IsGo words name options → HasRun result → IfSome old.folder (λ held. HoldsExecutable held new.folder name)
 
--- What was written: where the outcome is the program's end, output and errors took just what the program of the files means, on every
+-- What was written: where the outcome is the program's end, output and errors took just what each program of the files means, on every
 -- input and within any number of turns, since a program of this form reads nothing and never turns; and the outcome is its end.
 pub record IsWritten (held : Folder) (name : List ℕ) (result : Outcome) (old new : World) : Type 0 where
   pub program : Program
   pub is : IsProgramIn held name program
-  pub all : (input : List ℕ) (turns : ℕ) → WritesAll (mean program input turns) result (sinks_of old.streams) (sinks_of new.streams)
+  pub all : (one : Program) → IsProgramIn held name one → (input : List ℕ) (turns : ℕ) → WritesAll (mean one input turns) result (sinks_of old.streams) (sinks_of new.streams)
 
 abbrev pub Written : List (List ℕ) → World → World → Outcome → Type 0
 Written words old new result =
@@ -82,17 +82,28 @@ abbrev pub IsFault : Outcome → World → World → Type 0
 IsFault outcome.NoMemory old new = ⊥
 IsFault result old new = IsFaultOrNoMemory result old new
 
--- How `go` ends: with the program's end; with the limit that was asked for, which is less than all that the program may take; or refused, for
--- a cause that the files give.
+-- The files hold a program of this name, and each that they hold is of the literal form.
+pub record HoldsLiteral (held : Folder) (name : List ℕ) : Type 0 where
+  pub program : Program
+  pub is : IsProgramIn held name program
+  pub literal : (one : Program) → IsProgramIn held name one → IsLiteral one
+
+-- They all mean this end, on every input and within any number of turns.
+pub record HoldsEnd (held : Folder) (name : List ℕ) (code : ℕ) : Type 0 where
+  pub holds : HoldsLiteral held name
+  pub ends : (one : Program) → IsProgramIn held name one → (input : List ℕ) (turns : ℕ) → (mean one input turns).end ≡ Ended code
+
+-- How `go` ends: with the end that the program means; with the limit that was asked for, which is less than all that the program may take;
+-- or refused, for a cause that the files give. Where they hold a program, that is its form or the memory that it asks for.
 abbrev pub IsGoEnd : Folder → List ℕ → RunOptions → Outcome → Type 0
-IsGoEnd held name options (outcome.Program code) = Unit {0}
-IsGoEnd held name options (outcome.InstructionLimit taken) = (taken ≡ limit_of options) × (limit_of options < 16389)
+IsGoEnd held name options (outcome.Program code) = HoldsEnd held name code
+IsGoEnd held name options (outcome.InstructionLimit taken) = HoldsLiteral held name × (taken ≡ limit_of options) × (limit_of options < 16389)
 IsGoEnd held name options (outcome.Refused r) = IsNotBuilt held name options.buffer r
 IsGoEnd held name options other = ⊥
 
 -- It ends so, or there was a fault of the object that is named, or no memory. The machine never stops.
-abbrev pub Complete : List (List ℕ) → World → World → Outcome → Type 0
-Complete words old new result =
+abbrev pub GoComplete : List (List ℕ) → World → World → Outcome → Type 0
+GoComplete words old new result =
     (name : List ℕ) (options : RunOptions) → IsGo words name options → IfSome old.folder (λ held. IsGoEnd held name options result ⊎ IsFaultOrNoMemory result old new)
 
 -- A fault is answered only where the count of the object that is named rose.
@@ -126,7 +137,30 @@ pub record HasLongInput (held : Folder) (name : List ℕ) (input : Option (List 
 
 -- Why a program of this name is refused that is to be shown.
 abbrev pub HasNoMeaning : Folder → List ℕ → Option (List ℕ) → Refusal → Type 0
-HasNoMeaning held name input r = IsNoProgram held name (outcome.Refused r) ⊎ HasLongInput held name input r
+HasNoMeaning held name input r = FoundNone held name (outcome.Refused r) ⊎ HasLongInput held name input r
+
+-- The files hold a program of this name, and the outcome is how the meaning of each stands on the input that was read.
+pub record StandsSo (held : Folder) (name : List ℕ) (turns : Option ℕ) (result : Outcome) (input input' : Option (List ℕ)) : Type 0 where
+  pub program : Program
+  pub is : IsProgramIn held name program
+  pub bytes : List ℕ
+  pub whole : IsWhole input input' bytes
+  pub stands : (one : Program) → IsProgramIn held name one → result ≡ meant_as (mean one bytes (turns_of turns)).end
+
+-- How `mean` ends: as the program means that the files hold; or refused, since they hold none or the input is too long.
+abbrev pub IsMeanEnd : Folder → List ℕ → Option ℕ → Outcome → Option (List ℕ) → Option (List ℕ) → Type 0
+IsMeanEnd held name turns (outcome.Refused r) input input' = HasNoMeaning held name input r
+IsMeanEnd held name turns result input input' = StandsSo held name turns result input input'
+
+-- It ends so, or there was a fault of the object that is named, or no memory.
+abbrev pub MeanComplete : List (List ℕ) → World → World → Outcome → Type 0
+MeanComplete words old new result = (name : List ℕ) (turns : Option ℕ) → IsMean words name turns
+    → IfSome old.folder (λ held. IsMeanEnd held name turns result old.streams.input new.streams.input ⊎ IsFaultOrNoMemory result old new)
+
+-- How commands end that need a program.
+pub record Complete (words : List (List ℕ)) (old new : World) (result : Outcome) : Type 0 where
+  pub of_go : GoComplete words old new result
+  pub of_mean : MeanComplete words old new result
 
 -- So has each refusal of `mean`.
 abbrev pub MeanRefused : List (List ℕ) → World → Refusal → Type 0
@@ -143,10 +177,10 @@ abbrev pub HoldsNoLiteral : Option Folder → List ℕ → Type 0
 HoldsNoLiteral None name = ⊥
 HoldsNoLiteral (Some held) name = (program : Program) → IsProgramIn held name program → IsLiteral program → ⊥
 
--- A program of this name is none, or it is of another form.
+-- No program of this name was found, or it is of another form.
 abbrev pub IsOutside : Option Folder → List ℕ → Refusal → Type 0
 IsOutside None name r = ⊥
-IsOutside (Some held) name r = IsNoProgram held name (outcome.Refused r) ⊎ IsOfOtherForm held name r
+IsOutside (Some held) name r = FoundNone held name (outcome.Refused r) ⊎ IsOfOtherForm held name r
 
 -- Each cause gives its refusal, or there was a fault of the object that is named, or no memory.
 pub record Refuses (words : List (List ℕ)) (old new : World) (result : Outcome) : Type 0 where
@@ -201,14 +235,15 @@ abbrev pub WentFiles : List (List ℕ) → World → World → Outcome → Type 
 WentFiles words old new result =
     (name : List ℕ) (options : RunOptions) → IsGo words name options → IfSome old.folder (λ held. GoesFiles held result name options old new)
 
--- What `mean` did with the files that a folder holds: there is no program of this name, and nothing was read or written; or what it
--- means was shown, its input read to the end; then came the line.
+-- What `mean` did with the files that a folder holds: no program of this name was found, and nothing was read or written; or what each
+-- means that they hold was shown, the input read to its end; then came the line.
 pub record MeansFiles (held : Folder) (result : Outcome) (name : List ℕ) (turns : Option ℕ) (old new : World) : Type 0 where
   pub inner : Outcome
   pub before : Option (List ℕ)
   pub before_faults : ℕ
-  pub did : (IsNoProgram held name inner × (streams_before new before before_faults ≡ old.streams)) ⊎ ((program : Program) × IsProgramIn held name program × Shows program (turns_of turns) inner
-      old.streams.input new.streams.input old.streams.input_faults new.streams.input_faults (sinks_of old.streams) (sinks_of (streams_before new before before_faults)))
+  pub did : (FoundNone held name inner × (streams_before new before before_faults ≡ old.streams)) ⊎ ((program : Program) × IsProgramIn held name program
+      × ((one : Program) → IsProgramIn held name one → Shows one (turns_of turns) inner old.streams.input new.streams.input old.streams.input_faults new.streams.input_faults
+      (sinks_of old.streams) (sinks_of (streams_before new before before_faults))))
   pub line : AfterLine result inner before new.streams.errors
 
 -- Where the words ask for a meaning and the files tell what they hold, output and errors grew by what the program of these files means.
@@ -229,10 +264,11 @@ Unchanged words old new outcome.FilesFault = (name : List ℕ) (options : RunOpt
 Unchanged words old new outcome.NoMemory = WroteItsLine old new outcome.NoMemory
 Unchanged words old new other = Unit {0}
 
--- A stream is as it was, or took the first of what the program of the files means for it, on every input and within any number of turns.
+-- A stream is as it was, or took the first of what each program of the files means for it, on every input and within any number of turns.
 abbrev pub TookFront : Folder → List ℕ → (Seen → List ℕ) → Option (List ℕ) → Option (List ℕ) → Type 0
 TookFront held name part before after =
-    (after ≡ before) ⊎ ((program : Program) × IsProgramIn held name program × ((input : List ℕ) (turns : ℕ) → TakesPrefix before after (part (mean program input turns))))
+    (after ≡ before) ⊎ ((program : Program) × IsProgramIn held name program
+    × ((one : Program) → IsProgramIn held name one → (input : List ℕ) (turns : ℕ) → TakesPrefix before after (part (mean one input turns))))
 
 -- What the errors took of `go` before the line.
 abbrev pub TookErrors : List (List ℕ) → World → Option (List ℕ) → Type 0

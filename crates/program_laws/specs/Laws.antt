@@ -1,21 +1,16 @@
 -- What follows for the sources of every program.
-use Rattle.std.specs.Prelude.{◌≡◌, ℕ, List, map}
+use Rattle.std.specs.Prelude.{ℕ, List}
 use Rattle.tp_outside.specs.Folder.{Folder}
 use Rattle.tp_lexer.specs.declared.token.Text.{Text}
 use Rattle.typed_tree.specs.declared.units.Program.{Program}
 use Rattle.source_gathering.specs.declared.sources.Source.{Source}
 use Rattle.source_gathering.specs.Walk.{Gathers}
-use Rattle.tp_check_decl.specs.Units.{view_unit}
+use Rattle.same_meaning.specs.Laws.{IsSame}
 use Rattle.outcomes.specs.declared.outcome.Outcome.{Outcome}
 use Rattle.outcomes.specs.declared.outcome.Outcome.TheVariants as outcome
 use Rattle.outcomes.specs.declared.refusal.Refusal.TheVariants as refusal
 use Rattle.front_end.specs.Typed.{IsProgram}
 use Rattle.front_end.specs.Untyped.{AreUntyped}
-
--- the same program, without where its statements lie in memory
-pub record IsSame (one other : Program) : Type 0 where
-  pub units : map view_unit one.units ≡ map view_unit other.units
-  pub start : one.start ≡ other.start
 
 -- Sources are one program at most.
 abbrev pub OneProgram : Type 0

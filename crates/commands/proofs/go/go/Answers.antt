@@ -1,10 +1,9 @@
-use Rattle.std.proofs.Common.{◌≡◌, inl, inr, refl, ap, ◌∙◌, sym}
+use Rattle.std.proofs.Common.{◌≡◌, inr, ap, ◌∙◌}
 use Rattle.tp_outside.specs.Folder.{with_known_file}
 use Rattle.commands.specs.declared.names.FileKind.TheVariants.{Executable}
 use Rattle.commands.specs.Files.{file_of}
 use Rattle.commands.specs.World.{World, world}
 use Rattle.commands.proofs.BuildLaws.{prepared_built, prepared_starts, no_files, rises_of, ran_built}
-use Rattle.commands.proofs.GoLaws.{still_rising}
 use Rattle.commands.proofs.go.go.Goals as goal
 
 pub returns-in-Ok-write-clause-did : goal.returns-in-Ok-write-clause-did

@@ -1,4 +1,4 @@
-use Rattle.std.proofs.Common.{Err, ap, ◌∙◌}
+use Rattle.std.proofs.Common.{Err, ap}
 use Rattle.opened_program.specs.declared.error.OpenError.{OpenError}
 use Rattle.commands.specs.declared.names.FileKind.TheVariants.{Overlays}
 use Rattle.commands.specs.Files.{file_of}

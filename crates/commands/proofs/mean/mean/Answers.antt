@@ -1,7 +1,9 @@
-use Rattle.std.proofs.Common.{ℕ, inr, subst}
+use Rattle.std.proofs.Common.{ℕ, Err, inl, inr, refl, ap, subst}
+use Rattle.outcomes.specs.declared.outcome.Outcome.{Outcome}
 use Rattle.mean_program.specs.Shown.{Shows}
 use Rattle.commands.specs.Mean.{sinks_of}
 use Rattle.commands.specs.World.{World, world}
+use Rattle.commands.proofs.HeldLaws.{none_found}
 use Rattle.commands.proofs.mean.mean.Goals as goal
 
 pub returns-in-Ok-clause-did : goal.returns-in-Ok-clause-did
@@ -16,3 +18,11 @@ returns-in-Ok-clause-did g c =
           c.unwrap_or-turns.ensures c.show_meaning.ensures.shown;
       folder = c.in-Ok.ensures.unchanged;
     })
+
+pub returns-in-Err-clause-did : goal.returns-in-Err-clause-did
+returns-in-Err-clause-did g c = inl (record {
+  reason = none_found (g.F.Files.folder c.args.files.now) c.args.name.now c.in-Err.outcome c.in-Err.ensures.cause;
+  declines = c.in-Err.ensures.declines;
+  counted = λ is. c.in-Err.ensures.failed (ap (λ (o : Outcome). Err o) is);
+  untouched = record { folder = c.in-Err.ensures.unchanged; streams = refl };
+})

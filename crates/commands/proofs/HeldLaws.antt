@@ -1,0 +1,84 @@
+-- The program that the files of a folder hold: what is said of it where it lies in memory once is said of it everywhere.
+use Rattle.std.proofs.Common.{◌≡◌, ℕ, List, [], ◌∷◌, Option, Some, None, inl, inr, refl, ap, ◌∙◌, subst}
+use Rattle.std.specs.Prelude.{IfSome}
+use Rattle.tp_outside.specs.Folder.{Folder}
+use Rattle.type_layout.specs.declared.texts.Place.{Place}
+use Rattle.tp_lexer.specs.declared.token.Text.{Text}
+use Rattle.tp_lexer.specs.declared.token.Feature.TheVariants.{NotYet}
+use Rattle.behaviour.specs.Seen.{Seen}
+use Rattle.typed_tree.specs.declared.units.Program.{Program}
+use Rattle.source_gathering.specs.declared.sources.Source.{Source}
+use Rattle.source_gathering.specs.Texts.{at}
+use Rattle.mz_file.specs.Format.{exe_of}
+use Rattle.literal_code.specs.Ends.{EndsAs, EndsWithin}
+use Rattle.literal_programs.specs.Literals.{IsLiteral}
+use Rattle.outcomes.specs.declared.refusal.Refusal.{Refusal}
+use Rattle.outcomes.specs.declared.refusal.Refusal.TheVariants as refusal
+use Rattle.outcomes.specs.declared.outcome.Outcome.{Outcome}
+use Rattle.mean_program.specs.Shown.{Sinks, Writes, Shows}
+use Rattle.front_end.specs.Untyped.{IsNoProgram}
+use Rattle.one_reading.specs.Alike.{AreAlike}
+use Rattle.one_program.specs.Folder.{FoundNone}
+use Rattle.one_program.proofs.Programs.{found_none}
+use Rattle.same_meaning.specs.Laws.{IsSame}
+use Rattle.same_meaning.proofs.Runs.{means_alike}
+use Rattle.same_literals.proofs.Programs.{says_alike, has_memory_alike}
+use Rattle.same_literals.proofs.Places.{place_alike}
+use Rattle.commands.specs.Go.{place_of_first, DoesSoon, IsBuiltFrom}
+use Rattle.commands.specs.Turbo.{HoldsLiteral}
+
+-- ---- where the folder is told
+
+pub none_found : (known : Option Folder) (name : List ℕ) (result : Outcome) → IfSome known (λ held. IsNoProgram held name result) → IfSome known (λ held. FoundNone held name result)
+none_found None name result why = tt
+none_found (Some held) name result why = found_none held name result why
+
+-- ---- programs that are the same
+
+pub literal_too : (one other : Program) → IsSame one other → IsLiteral one → IsLiteral other
+literal_too one other same literal = record { statements = literal.statements; says = says_alike one other same literal.statements literal.says }
+
+pub does_too : (one other : Program) (bytes : List ℕ) → IsSame one other → DoesSoon one bytes → DoesSoon other bytes
+does_too one other bytes same does = record {
+  literal = literal_too one other same does.literal;
+  plain = does.plain;
+  memory = has_memory_alike one other same (exe_of bytes) does.memory;
+  agrees = record {
+    executable = does.agrees.executable;
+    fits = does.agrees.fits;
+    runs = λ buffer small fits input turns. subst (EndsAs bytes input) (means_alike one other same input turns) (does.agrees.runs buffer small fits input turns);
+  };
+  soon = λ input turns. subst (EndsWithin 16389 bytes input) (means_alike one other same input turns) (does.soon input turns);
+}
+
+pub shows_too : (one other : Program) (turns : ℕ) (result : Outcome) (input input' : Option (List ℕ)) (faults faults' : ℕ) (old new : Sinks) → IsSame one other
+    → Shows one turns result input input' faults faults' old new → Shows other turns result input input' faults faults' old new
+shows_too one other turns result input input' faults faults' old new same (inl means) = inl (record {
+  bytes = means.bytes;
+  whole = means.whole;
+  writes = subst (λ (seen : Seen). Writes seen result old new) (means_alike one other same means.bytes turns) means.writes;
+})
+shows_too one other turns result input input' faults faults' old new same (inr declines) = inr declines
+
+-- what the bytes do of the program that they were built from
+pub does_so : (held : Folder) (name bytes : List ℕ) → (built : IsBuiltFrom held name bytes) → DoesSoon built.program bytes
+does_so held name bytes built = built.does built.program built.is
+
+pub holds_literal : (held : Folder) (name bytes : List ℕ) → IsBuiltFrom held name bytes → HoldsLiteral held name
+holds_literal held name bytes built = record { program = built.program; is = built.is; literal = λ one here. (built.does one here).literal }
+
+-- ---- where they leave the literal form
+
+first_alike : (ones others : List Source) (one other : Program) → AreAlike ones others → IsSame one other → place_of_first ones one ≡ place_of_first others other
+first_alike [] [] one other alike same = refl
+first_alike [] (o ∷ os) one other alike same = absurd alike
+first_alike (s ∷ ss) [] one other alike same = absurd alike
+first_alike (s ∷ ss) (o ∷ os) one other alike same = place_alike s.tree o.tree one other alike.0.whole alike.0.tree same
+
+abbrev not_yet : List Text → Place → Refusal
+not_yet texts place = refusal.NotInProfile (at texts place) NotYet
+
+pub told_alike : (texts more : List Text) (ones others : List Source) (one other : Program) → texts ≡ more → AreAlike ones others → IsSame one other
+    → refusal.NotInProfile (at texts (place_of_first ones one)) NotYet ≡ refusal.NotInProfile (at more (place_of_first others other)) NotYet
+told_alike texts more ones others one other same_texts alike same =
+    ap (λ (t : List Text). not_yet t (place_of_first ones one)) same_texts ∙ ap (λ (p : Place). not_yet more p) (first_alike ones others one other alike same)

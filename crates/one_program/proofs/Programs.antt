@@ -1,0 +1,53 @@
+-- The files of a folder hold one program at most, and where they hold one no rule is told of.
+use Rattle.std.proofs.Common.{ℕ, List, sym, subst, inl, inr}
+use Rattle.tp_outside.specs.Folder.{Folder}
+use Rattle.typed_tree.specs.declared.units.Program.{Program}
+use Rattle.source_gathering.specs.declared.error.GatherError.{GatherError}
+use Rattle.source_gathering.specs.declared.error.GatherError.TheVariants as gather
+use Rattle.source_gathering.specs.Walk.{IsRefused, Unless}
+use Rattle.source_gathering.proofs.WalkLaws.{gathers_or_refused}
+use Rattle.outcomes.specs.declared.outcome.Outcome.{Outcome}
+use Rattle.outcomes.specs.declared.outcome.Outcome.TheVariants as outcome
+use Rattle.refusals.specs.Outcomes.{gather_outcome}
+use Rattle.front_end.specs.Typed.{IsProgramIn}
+use Rattle.front_end.specs.Untyped.{IsNoProgram}
+use Rattle.one_reading.proofs.Readings.{one_reading}
+use Rattle.program_laws.specs.Laws.{IsFree}
+use Rattle.program_laws.proofs.Programs.{one_program, complete}
+use Rattle.one_program.specs.Folder.{IsExempt, FoundNone}
+use Rattle.one_program.specs.Laws.{SourcesAlike, OneFolder, NeverRefused}
+use Rattle.one_program.proofs.Alike.{program_alike}
+
+pub sources_alike : SourcesAlike
+sources_alike sources others all program is = program_alike sources others all program is
+
+pub one_folder : OneFolder
+one_folder held name one other first second =
+    let r = one_reading held name first.texts second.texts first.sources second.sources first.gathers second.gathers in
+    one_program held name second.texts second.sources second.gathers one other (program_alike first.sources second.sources r.1 one first.is) second.is
+
+-- sources that are gathered are not refused
+exempt : (held : Folder) (name : List ℕ) (program : Program) → IsProgramIn held name program → (error : GatherError) → Unless error (IsRefused held name error) → IsExempt (gather_outcome error)
+exempt held name program is gather.FilesFault cause = tt
+exempt held name program is gather.NoMemory cause = tt
+exempt held name program is (gather.MissingFile file) cause = absurd (gathers_or_refused held name (gather.MissingFile file) is.texts is.sources is.gathers cause)
+exempt held name program is (gather.TooLarge bytes) cause = absurd (gathers_or_refused held name (gather.TooLarge bytes) is.texts is.sources is.gathers cause)
+exempt held name program is (gather.BadToken at why) cause = absurd (gathers_or_refused held name (gather.BadToken at why) is.texts is.sources is.gathers cause)
+exempt held name program is (gather.Syntax at) cause = absurd (gathers_or_refused held name (gather.Syntax at) is.texts is.sources is.gathers cause)
+exempt held name program is (gather.NotInProfile at feature) cause = absurd (gathers_or_refused held name (gather.NotInProfile at feature) is.texts is.sources is.gathers cause)
+exempt held name program is (gather.TooDeep at) cause = absurd (gathers_or_refused held name (gather.TooDeep at) is.texts is.sources is.gathers cause)
+
+free_exempt : (result : Outcome) → IsFree result → IsExempt result
+free_exempt outcome.NoMemory free = tt
+free_exempt (outcome.Refused r) free = free
+free_exempt outcome.FilesFault free = tt
+free_exempt other free = absurd free
+
+pub never_refused : NeverRefused
+never_refused held name program is result (inl u) = subst IsExempt (sym u.is) (exempt held name program is u.error u.cause)
+never_refused held name program is result (inr u) =
+    let r = one_reading held name is.texts u.texts is.sources u.sources is.gathers u.gathers in
+    free_exempt result (complete held name u.texts u.sources u.gathers program (program_alike is.sources u.sources r.1 program is.is) result u.why)
+
+pub found_none : (held : Folder) (name : List ℕ) (result : Outcome) → IsNoProgram held name result → FoundNone held name result
+found_none held name result why = record { why = why; exempt = λ program is. never_refused held name program is result why }

@@ -1,0 +1,4 @@
+pub mod Units
+pub mod Activations
+pub mod Forms
+pub mod Runs
