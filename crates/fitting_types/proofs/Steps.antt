@@ -168,7 +168,7 @@ module _ (have : List Interface) (homes : AreClosedHomes have) (table : Table) (
             same = λ id below. elim (below_or_last id.0 number below) [
               | inl before ↦ subst (λ (t : Table). IsSame i.types.types t.types ids id) (sym known_stays) (met.same id before)
               | inr last ↦ subst (λ (t : Table). IsSame i.types.types t.types ids id) (sym known_stays)
-                (subst (λ (k : ℕ). IsSame i.types.types (now number).types ids (record { 0 = k })) (sym last) known_same)
+                  (subst (λ (k : ℕ). IsSame i.types.types (now number).types ids (record { 0 = k })) (sym last) known_same)
             ];
             fits = rw (met.fits, here) refl;
           }

@@ -98,6 +98,7 @@ module _ (own more : Table) (items : List Item) (grows : Grows own more) (grown 
     where
       front : in_front more.types by ≡ in_front own.types by
       front = front_same more.types own.types by (λ number before. type_at number (omega (arith, before, low)))
+
       in_table : (one : Option TypeDef) → exports.goes_with more.types by one ≡ exports.goes_with own.types by one
       in_table None = refl
       in_table (Some one) = ap (λ (l : List ℕ). exports.with_type by (Some one) ++ l) front

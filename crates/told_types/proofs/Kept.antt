@@ -26,7 +26,7 @@ with_own ids units t one origin = with_type t (key_of units origin).unit origin.
 
 pub kept_by : (own : Table) (reached : List ℕ) (ids : List TypeId) (P : ℕ → Table → Type 0) → length own.origins ≡ length own.types → P 0 (record { types = []; origins = []; units = [] })
     → ((number : ℕ) (t : Table) (one : TypeDef) (origin : Origin) → is_in reached number ≡ true → slice_get own.types number ≡ Some one → slice_get own.origins number ≡ Some origin
-        → P number t → P (suc number) (with_own ids own.units t one origin))
+    → P number t → P (suc number) (with_own ids own.units t one origin))
     → ((number : ℕ) (t : Table) → is_in reached number ≡ false → P number t → P (suc number) t)
     → (number : ℕ) → number ≤ length own.types → P number (kept own reached ids number)
 kept_by own reached ids P paired none more past zero low = none

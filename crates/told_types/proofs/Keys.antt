@@ -104,6 +104,7 @@ lands known key = by (position (same_key key) known) refl
     last : (keys : List Key) → slice_get (keys ++ key ∷ []) (length keys) ≡ Some key
     last [] = refl
     last (x ∷ xs) = last xs
+
     by : (o : Option ℕ) → position (same_key key) known ≡ o → slice_get (cond (is_some o) known (known ++ key ∷ [])) (unwrap_or o (length known)) ≡ Some key
     by None is = last known
     by (Some found) is = found_key known key found is

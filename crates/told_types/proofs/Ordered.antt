@@ -28,7 +28,7 @@ IsSmall layout = layout.size ≤ 65520
 
 module _ (own : Table) (reached : List ℕ) (paired : length own.origins ≡ length own.types) (defined : AllDefined [] own.types) (small : All IsSmall (layouts_of own.types))
     (goes : (number to : ℕ) (one : TypeDef) → is_in reached number ≡ true → slice_get own.types number ≡ Some one → is_in (goes_with own.types number (Some one)) to ≡ true
-        → to < length own.types → is_in reached to ≡ true) where
+    → to < length own.types → is_in reached to ≡ true) where
   abbrev ids : List TypeId
   ids = new_ids reached (length own.types)
 

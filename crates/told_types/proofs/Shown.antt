@@ -48,7 +48,7 @@ below_of n (y ∷ ys) x h e =
 -- the table of a unit, and which of its types are shown
 module _ (have : List Interface) (homes : AreClosedHomes have) (unit : typed.Unit) (but : IsToldBut have unit.name unit.types) (closed : IsClosedTable unit.types) (reached : List ℕ)
     (goes : (number to : ℕ) (one : TypeDef) → is_in reached number ≡ true → slice_get unit.types.types number ≡ Some one → is_in (goes_with unit.types.types number (Some one)) to ≡ true
-        → to < length unit.types.types → is_in reached to ≡ true)
+    → to < length unit.types.types → is_in reached to ≡ true)
     (home_is : home_of have unit.name ≡ Some (kept unit.types reached (new_ids reached (length unit.types.types)) (length unit.types.types))) where
   abbrev own : Table
   own = unit.types

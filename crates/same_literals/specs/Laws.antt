@@ -1,0 +1,29 @@
+-- What typed programs that are the same have in common, as programs of literals.
+use Rattle.std.specs.Prelude.{◌≡◌, List}
+use Rattle.whole_trees.specs.Whole.{IsWhole}
+use Rattle.source_tree.specs.declared.source.Tree.{Tree}
+use Rattle.source_tree.specs.Sources.{of_tree}
+use Rattle.typed_tree.specs.declared.units.Program.{Program}
+use Rattle.meaning.specs.Programs.{stack_of, heap_of}
+use Rattle.same_meaning.specs.Laws.{IsSame}
+use Rattle.mz_file.specs.declared.executable.Exe.{Exe}
+use Rattle.literal_code.specs.Statement.{Statement}
+use Rattle.literal_programs.specs.Literals.{Says}
+use Rattle.literal_programs.specs.Memory.{HasMemoryOf}
+use Rattle.literal_places.specs.Places.{place_outside}
+
+-- The same is said by both, so both are programs of literals or neither is.
+abbrev pub SaysAlike : Type 0
+SaysAlike = (one other : Program) → IsSame one other → (statements : List Statement) → Says one statements → Says other statements
+
+-- Both have the same memory, whatever they say.
+abbrev pub MemoryAlike : Type 0
+MemoryAlike = (one other : Program) → IsSame one other → (stack_of one ≡ stack_of other) × (heap_of one ≡ heap_of other)
+
+abbrev pub HasMemoryAlike : Type 0
+HasMemoryAlike = (one other : Program) → IsSame one other → (exe : Exe) → HasMemoryOf one exe → HasMemoryOf other exe
+
+-- Where their sources are spelled alike, both leave the literal form at one place.
+abbrev pub PlaceAlike : Type 0
+PlaceAlike = (tree another : Tree) (one other : Program) → IsWhole (of_tree tree) → of_tree tree ≡ of_tree another → IsSame one other
+    → place_outside tree one ≡ place_outside another other

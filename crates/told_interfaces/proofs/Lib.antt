@@ -1,0 +1,5 @@
+pub mod Declaring
+pub mod ShownKeys
+pub mod Origins
+pub mod Inherited
+mod Mismatches

@@ -1,0 +1,6 @@
+//! Laws on the interfaces of the sources of one program.
+#![tactic(auto)]
+
+mod laws;
+
+pub use laws::told_interface_laws;
