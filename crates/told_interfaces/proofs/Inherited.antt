@@ -129,7 +129,7 @@ module _ (sources : List Source) (have : List Interface) (o : AreInOrder sources
   not_system name other is = apart (same_bytes name system) other (ap (λ (n : List ℕ). same_bytes n system) is ∙ same_itself system)
     where
       apart : (b : Bool) → b ≡ false → b ≡ true → ⊥
-      apart b no yes = cc
+      apart b one two = cc
 
   -- the scope that a unit is read over has no type of the unit
   pub no_own : (place : ℕ) (s : Source) → slice_get sources place ≡ Some s → same_bytes s.name system ≡ false
