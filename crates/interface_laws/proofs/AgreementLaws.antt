@@ -22,7 +22,7 @@ use Rattle.tp_check_decl.specs.Units.{Finished, Whole, whole}
 use Rattle.tp_check_decl.specs.Endings.{ended}
 use Rattle.tp_check_decl.specs.Programs.{unit_site, empty_draft, declarations_judged}
 use Rattle.tp_check_decl.specs.Interfaces.{items_of, all_declared, declared, interface_judged}
-use Rattle.tp_check_decl.specs.Shown.{with_nothing_else, Shows}
+use Rattle.tp_check_decl.specs.Shown.{with_nothing_else, outlined, Shows}
 use Rattle.tp_check_decl.specs.Checked.{judged}
 use Rattle.tp_check_decl.proofs.UsedLaws.{used_is}
 use Rattle.interface_laws.specs.Agreement.{IsPaired, IsClosed, IsShownBy, further_units}

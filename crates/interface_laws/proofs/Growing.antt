@@ -135,7 +135,7 @@ same_kind : (one found : TypeDef) → Some one ≡ Some found → IsOfOneUnit on
 same_kind one found same h = let is : one ≡ found = cc in subst IsOfOneUnit is h
 
 not_both : (b : Bool) → b ≡ true → b ≡ false → ⊥
-not_both b yes no = cc
+not_both b here absent = cc
 
 declares_one : (unit : List ℕ) (table : Table) (one : TypeDef) → is_enumeration (Some one) ≡ false → IsOfOneUnit one → Declares unit table (with_type table unit (count_of table unit) one)
 declares_one unit table one other whole = record { types = one ∷ []; is = refl; followed = at; methods = of }

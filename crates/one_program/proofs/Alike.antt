@@ -5,7 +5,7 @@ use Rattle.std.specs.List.{AllZip, list_any}
 use Rattle.type_layout.specs.Words.{same_bytes}
 use Rattle.std.proofs.lemmas.List.Elements.{All-weaker}
 use Rattle.std.proofs.lemmas.Option.{slice_get_within, get_or_from_slice_get}
-use Rattle.typed_tree.specs.declared.units.Unit.{Unit}
+use Rattle.typed_tree.specs.declared.units.Unit.{Unit as TypedUnit}
 use Rattle.typed_tree.specs.declared.units.Program.{Program}
 use Rattle.syntax_tree.specs.declared.identifier.Identifier.{Identifier}
 use Rattle.source_directives.specs.declared.collected.Directives.{Directives}
@@ -78,7 +78,7 @@ module _ (s o : Source) (a : IsAlike s o) where
       (subst (λ (n : List ℕ). (outlined n s.says (outer_scope have s) o.tree).holds unit) a.name
       (held_too (outlined s.name s.says (outer_scope have s) s.tree) (outlined s.name s.says (outer_scope have s) o.tree) (outlined_alike s.name s.says (outer_scope have s) s.tree o.tree a.whole a.tree) unit h)))
 
-  unit_alike : (have : List Interface) (unit : Unit) → IsUnitOf have s unit → IsUnitOf have o unit
+  unit_alike : (have : List Interface) (unit : TypedUnit) → IsUnitOf have s unit → IsUnitOf have o unit
   unit_alike have unit h = record {
     there = subst (λ (u : List Identifier). AreThere have u) use_alike.all h.there;
     fits = fits_alike have h.fits;
@@ -157,7 +157,7 @@ is_used_alike (s ∷ ss) (o ∷ os) all name =
     ap (λ (u : List Identifier). list_any (λ unit. same_bytes name unit.name) u || is_used ss name) same.all
     ∙ ap (λ (b : Bool). uses_named name o || b) (is_used_alike ss os all.1 name)
 
-units_alike : (have : List Interface) (ss os : List Source) (units : List Unit) → AreAlike ss os → AllZip (IsUnitOf have) ss units → AllZip (IsUnitOf have) os units
+units_alike : (have : List Interface) (ss os : List Source) (units : List TypedUnit) → AreAlike ss os → AllZip (IsUnitOf have) ss units → AllZip (IsUnitOf have) os units
 units_alike have [] [] units all typed = typed
 units_alike have [] (o ∷ os) units all typed = absurd all
 units_alike have (s ∷ ss) [] units all typed = absurd all

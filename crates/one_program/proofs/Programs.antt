@@ -7,13 +7,12 @@ use Rattle.source_gathering.specs.declared.error.GatherError.TheVariants as gath
 use Rattle.source_gathering.specs.Walk.{IsRefused, Unless}
 use Rattle.source_gathering.proofs.WalkLaws.{gathers_or_refused}
 use Rattle.outcomes.specs.declared.outcome.Outcome.{Outcome}
-use Rattle.outcomes.specs.declared.outcome.Outcome.TheVariants as outcome
 use Rattle.refusals.specs.Outcomes.{gather_outcome}
 use Rattle.front_end.specs.Typed.{IsProgramIn}
 use Rattle.front_end.specs.Untyped.{IsNoProgram}
 use Rattle.one_reading.proofs.Readings.{one_reading}
-use Rattle.program_laws.specs.Laws.{IsFree}
-use Rattle.program_laws.proofs.Programs.{one_program, complete}
+use Rattle.program_laws.proofs.Programs.{one_program}
+use Rattle.told_interfaces.proofs.Mismatches.{only_memory}
 use Rattle.one_program.specs.Folder.{IsExempt, FoundNone}
 use Rattle.one_program.specs.Laws.{SourcesAlike, OneFolder, NeverRefused}
 use Rattle.one_program.proofs.Alike.{program_alike}
@@ -37,17 +36,11 @@ exempt held name program is (gather.Syntax at) cause = absurd (gathers_or_refuse
 exempt held name program is (gather.NotInProfile at feature) cause = absurd (gathers_or_refused held name (gather.NotInProfile at feature) is.texts is.sources is.gathers cause)
 exempt held name program is (gather.TooDeep at) cause = absurd (gathers_or_refused held name (gather.TooDeep at) is.texts is.sources is.gathers cause)
 
-free_exempt : (result : Outcome) → IsFree result → IsExempt result
-free_exempt outcome.NoMemory free = tt
-free_exempt (outcome.Refused r) free = free
-free_exempt outcome.FilesFault free = tt
-free_exempt other free = absurd free
-
 pub never_refused : NeverRefused
 never_refused held name program is result (inl u) = subst IsExempt (sym u.is) (exempt held name program is u.error u.cause)
 never_refused held name program is result (inr u) =
     let r = one_reading held name is.texts u.texts is.sources u.sources is.gathers u.gathers in
-    free_exempt result (complete held name u.texts u.sources u.gathers program (program_alike is.sources u.sources r.1 program is.is) result u.why)
+    subst IsExempt (sym (only_memory held name u.texts u.sources u.gathers program (program_alike is.sources u.sources r.1 program is.is) result u.why)) tt
 
 pub found_none : (held : Folder) (name : List ℕ) (result : Outcome) → IsNoProgram held name result → FoundNone held name result
 found_none held name result why = record { why = why; exempt = λ program is. never_refused held name program is result why }

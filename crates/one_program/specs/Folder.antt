@@ -6,12 +6,12 @@ use Rattle.outcomes.specs.declared.outcome.Outcome.{Outcome}
 use Rattle.outcomes.specs.declared.outcome.Outcome.TheVariants as outcome
 use Rattle.front_end.specs.Typed.{IsProgramIn}
 use Rattle.front_end.specs.Untyped.{IsNoProgram}
-use Rattle.program_laws.specs.Laws.{IsFree}
 
--- what is told of no rule: want of memory, a fault of the files, or interfaces that do not fit
+-- want of memory, or a fault of the files
 abbrev pub IsExempt : Outcome → Type 0
 IsExempt outcome.FilesFault = Unit {0}
-IsExempt result = IsFree result
+IsExempt outcome.NoMemory = Unit {0}
+IsExempt other = ⊥
 
 -- Why no program was found. Where they hold one, no rule is told of.
 pub record FoundNone (held : Folder) (name : List ℕ) (result : Outcome) : Type 0 where

@@ -8,7 +8,7 @@ use Rattle.pascal_grammar.specs.Productions as p
 use Rattle.syntax_tree.specs.declared.expression.Argument.{Argument}
 use Rattle.syntax_tree.specs.declared.expression.Argument.TheVariants as a
 use Rattle.syntax_tree.specs.declared.statement.CompoundStatement.{CompoundStatement}
-use Rattle.syntax_tree.specs.declared.statement.Statement.{Statement, Row_of-Statement, end_of-Statement, more_of-Statement}
+use Rattle.syntax_tree.specs.declared.statement.Statement.{Statement, Row_of-Statement, end_of-Statement, more_of-Statement, items-the_row-Statement, items_hidden-the_row-Statement-0}
 use Rattle.syntax_tree.specs.declared.statement.Statement.TheVariants as s
 use Rattle.syntax_tree.specs.Expressions.{Parsed, of}
 use Rattle.syntax_tree.specs.Statements.{of_statement, of_statements, more_statements, compound_of}
@@ -19,7 +19,6 @@ use Rattle.statement_tree.specs.Trees as task
 use Rattle.statement_tree.specs.Trees.{Task, Tasks, view_statement, view_statement_row}
 use Rattle.read_back.proofs.Statements.{statement_alike}
 use Rattle.literal_places.specs.Outlines.{Outline, empty, compound, call, other, Outlines, no_outlines, and_outline, argument_place, outline_of, outline_row, outlines_of}
-use Rattle.literal_places.proofs.OutlineViews.{outline_compound}
 
 -- ---- parts of a node
 
@@ -100,6 +99,24 @@ mutual
   more_is n end_of-Statement = refl
   more_is n (more_of-Statement one rest) = ap₂ and_outline (outline_is one) (more_is _ rest)
 
+-- ---- a list that lies in a vector
+
+row_outlines : (n : _) (row : Row_of-Statement n) → outline_row row ≡ outlines_of (items-the_row-Statement n row)
+row_outlines n end_of-Statement = refl
+row_outlines n (more_of-Statement one rest) = ap (λ (z : Outlines). and_outline (outline_of one) z) (row_outlines _ rest)
+
+abbrev statements_in : Statement → (n : _) × Row_of-Statement n
+statements_in (s.Compound' here shape all) = (_, all)
+statements_in _ = (_, end_of-Statement)
+
+abbrev pub outline_in : CompoundStatement → Outline
+outline_in body = compound body.position.place (outlines_of body.statements.items)
+
+outline_compound : (body : CompoundStatement) → outline_of (s.Compound body) ≡ outline_in body
+outline_compound body =
+    let row = statements_in (s.Compound body) in
+    ap (λ (z : Outlines). compound body.position.place z) (row_outlines row.0 row.1 ∙ ap outlines_of (items_hidden-the_row-Statement-0 body.statements))
+
 -- ---- statements that are spelled alike
 
 outlines_alike : (one another : Statement) → IsWhole (of_statement one) → of_statement one ≡ of_statement another → outline_of one ≡ outline_of another
@@ -108,9 +125,6 @@ outlines_alike one another whole same =
 
 abbrev alone : Parsed → Parsed
 alone t = of p.compound_statement (t ∷ [])
-
-abbrev pub outline_in : CompoundStatement → Outline
-outline_in body = compound body.position.place (outlines_of body.statements.items)
 
 pub bodies_alike : (one another : CompoundStatement) → IsWhole (compound_of one) → compound_of one ≡ compound_of another → outline_in one ≡ outline_in another
 bodies_alike one another whole same =

@@ -1,5 +1,5 @@
 -- Headers of routines and methods, in front of their blocks or without: judged by what is written in them.
-use Rattle.std.proofs.Common.{◌≡◌, Bool, true, false, not, ◌||◌, List, [], ◌∷◌, Option, Some, None, is_some, slice_get, refl, ◌∙◌}
+use Rattle.std.proofs.Common.{◌≡◌, ℕ, Bool, true, false, not, ◌||◌, List, [], ◌∷◌, Option, Some, None, is_some, slice_get, refl, ◌∙◌}
 use Rattle.type_layout.specs.declared.definitions.TypeId.{TypeId}
 use Rattle.type_layout.specs.declared.definitions.Param.{Param}
 use Rattle.type_layout.specs.declared.definitions.Header.{Header}
@@ -25,7 +25,6 @@ use Rattle.type_denoters.specs.Additions.{entered}
 use Rattle.type_parts.specs.Objects as objects
 use Rattle.routines.specs.declared.drafts.Announced.{Announced}
 use Rattle.routines.specs.declared.drafts.Site.{Site}
-use Rattle.routines.specs.declared.drafts.Awaited.{Awaited}
 use Rattle.routines.specs.Drafts.{Drafted, knowing, next_number, announcing}
 use Rattle.routines.specs.Headings as headings
 use Rattle.routines.specs.Headings.{routine_entry, awaited_of, kind_repeated, whole_repeated, half_repeated, begun, with_params, Opened, opened}
@@ -135,22 +134,25 @@ repeated_is g first (h.Function here name groups (Some result)) = λ i. whole_re
 
 -- ---- a routine whose block follows
 
-abbrev opened_by : Site → Drafted → w.Heading → Option Awaited → Judgement Opened
-opened_by site d one (Some first) = part (repeated d.scope first.header one) (λ params. makes (opened (begun first.number (with_params first.header params) None) d))
-opened_by site d one None =
+-- behind an earlier header, told by its number and what it says
+abbrev opened_by : {A : Type 0} → Option A → (A → ℕ) → (A → Header) → Site → Drafted → w.Heading → Judgement Opened
+opened_by (Some first) number header site d one = part (repeated d.scope (header first) one) (λ params. makes (opened (begun (number first) (with_params (header first) params) None) d))
+opened_by None number header site d one =
     part (header_of d.scope false one) (λ header. part (announced false site d one header) (λ e. makes (opened (begun (next_number d) header None) e)))
 
-opened_by_is : (site : Site) (d : Drafted) (one : RoutineHeader) (found : Option Awaited) → headings.opened_by site d one found ≡ opened_by site d (heading_in one) found
+opened_by_is : (site : Site) (d : Drafted) (one : RoutineHeader) (found : _) → headings.opened_by site d one found ≡ opened_by found (λ first. first.number) (λ first. first.header) site d (heading_in one)
 opened_by_is site d one (Some first) = λ i. part (repeated_is d.scope first.header one i) (λ params. makes (opened (begun first.number (with_params first.header params) None) d))
 opened_by_is site d one None = λ i.
     part (routine_header_is d.scope one i) (λ header. part (announced_is false site d one header i) (λ e. makes (opened (begun (next_number d) header None) e)))
 
 abbrev pub opened_of : Site → Drafted → w.Heading → Judgement Opened
-opened_of site d one = opened_by site d one (awaited_of d one.name.name)
+opened_of site d one = opened_by (awaited_of d one.name.name) (λ first. first.number) (λ first. first.header) site d one
 
 pub opened_is : (site : Site) (d : Drafted) (one : RoutineHeader) → headings.opened_of site d one ≡ opened_of site d (heading_in one)
 unfolding headings.opened_of
-opened_is site d one = opened_by_is site d one (awaited_of d (headings.name_of one).name) ∙ (λ i. opened_by site d (heading_in one) (awaited_of d (name_is one i).name))
+opened_is site d one =
+    opened_by_is site d one (awaited_of d (headings.name_of one).name)
+    ∙ (λ i. opened_by (awaited_of d (name_is one i).name) (λ first. first.number) (λ first. first.header) site d (heading_in one))
 
 -- ---- methods
 

@@ -20,7 +20,6 @@ use Rattle.typing_rules.specs.Selectors.{asking}
 use Rattle.tp_check_stmt.specs.Typed.{blocked, listed}
 use Rattle.routines.specs.Trees.{view_declarations}
 use Rattle.routines.specs.Drafts.{Drafted, knowing, Stage, stage}
-use Rattle.tp_check_decl.specs.declared.fronts.Front.{Front}
 use Rattle.tp_check_decl.specs.Units.{Finished, Whole, main_part, whole}
 use Rattle.tp_check_decl.specs.Limits.{within_limit}
 use Rattle.tp_check_decl.specs.Fronts.{front_judged}
@@ -47,16 +46,19 @@ abbrev main_judged : List ℕ → Environment → w.Body → Judgement Finished
 main_judged name g body =
     part (blocked (listed g body.tasks)) (λ typed. asking (within_limit g.types.types body.position.place (main_part name typed)) (makes (main_part name typed)))
 
-abbrev ended : List ℕ → Front → List Item → Option w.Body → Drafted → Judgement Whole
-ended name front items None d = part (all_finished d.scope.types.types d.routines) (λ all. makes (whole name front d.scope items d.globals all None))
-ended name front items (Some body) d =
-    parts (all_finished d.scope.types.types d.routines) (main_judged name d.scope body) (λ all main. makes (with_main name front items d all main))
+-- a unit of what was read and of its routines, without a main or initialisation part or with one
+abbrev ended : (Drafted → List Finished → Whole) → (Drafted → List Finished → Finished → Whole) → List ℕ → Option w.Body → Drafted → Judgement Whole
+ended without within name None d = part (all_finished d.scope.types.types d.routines) (λ all. makes (without d all))
+ended without within name (Some body) d =
+    parts (all_finished d.scope.types.types d.routines) (main_judged name d.scope body) (λ all main. makes (within d all main))
 
 main_is : (name : List ℕ) (g : Environment) (body : CompoundStatement) → endings.main_judged name g body ≡ main_judged name g (body_in body)
 unfolding endings.main_judged
 main_is name g body = refl
 
-ended_is : (name : List ℕ) (front : Front) (items : List Item) (body : Option CompoundStatement) (d : Drafted) → endings.ended name front items body d ≡ ended name front items (option_map body_in body) d
+ended_is : (name : List ℕ) (front : _) (items : List Item) (body : Option CompoundStatement) (d : Drafted)
+    → endings.ended name front items body d
+    ≡ ended (λ e all. whole name front e.scope items e.globals all None) (λ e all main. with_main name front items e all main) name (option_map body_in body) d
 ended_is name front items None d = refl
 ended_is name front items (Some body) d =
     λ j. parts (all_finished d.scope.types.types d.routines) (main_is name d.scope body j) (λ all main. makes (with_main name front items d all main))
@@ -100,24 +102,27 @@ interface_is name g all = λ j. part (all_declared_is all name (stage (empty_dra
 abbrev program_judged : List ℕ → Directives → Environment → List Identifier → w.Works → w.Body → Judgement Whole
 program_judged name says g uses all body =
     asking (named_freely name says.first) (part (front_judged says uses) (λ front.
-    part (declarations_judged name g all) (λ d. ended name front [] (Some body) d)))
+    part (declarations_judged name g all) (λ d.
+    ended (λ e all. whole name front e.scope [] e.globals all None) (λ e all main. with_main name front [] e all main) name (Some body) d)))
 
-abbrev implemented : List ℕ → Front → List Item → w.Works → Option w.Body → Drafted → Judgement Whole
-implemented name front items all body d = part (all_judged name unit_site (stage d []) all) (λ s. ended name front items body s.draft)
+abbrev implemented : (Drafted → List Finished → Whole) → (Drafted → List Finished → Finished → Whole) → List ℕ → w.Works → Option w.Body → Drafted → Judgement Whole
+implemented without within name all body d = part (all_judged name unit_site (stage d []) all) (λ s. ended without within name body s.draft)
 
 -- over all used units, and those of the implementation part
 abbrev unit_judged : List ℕ → Directives → Environment → List Interface → Identifier → List Identifier → List Identifier → List w.Shown → w.Works → Option w.Body → Judgement Whole
 unit_judged name says g have own uses inner interface all body =
     part (unit_front name says own uses) (λ front.
     part (interface_judged name g interface) (λ d.
-    part (all_used have d.scope inner) (λ h. implemented name front (items_of d.scope) all body (knowing d h))))
+    part (all_used have d.scope inner) (λ h.
+    implemented (λ e all. whole name front e.scope (items_of d.scope) e.globals all None) (λ e all main. with_main name front (items_of d.scope) e all main) name all body (knowing d h))))
 
 abbrev judged : List ℕ → Directives → Environment → List Interface → w.Source → Judgement Whole
 judged name says g have (w.program uses all body) = program_judged name says g uses all body
 judged name says g have (w.unit here own outer inner interface all body) = unit_judged name says g have own (outer ++ inner) inner interface all body
 
-implemented_is : (name : List ℕ) (front : Front) (items : List Item) (all : List Declaration) (body : Option CompoundStatement) (d : Drafted)
-    → interfaces.implemented name front items (view_declarations all) body d ≡ implemented name front items (declarations_in all) (option_map body_in body) d
+implemented_is : (name : List ℕ) (front : _) (items : List Item) (all : List Declaration) (body : Option CompoundStatement) (d : Drafted)
+    → interfaces.implemented name front items (view_declarations all) body d
+    ≡ implemented (λ e rest. whole name front e.scope items e.globals rest None) (λ e rest main. with_main name front items e rest main) name (declarations_in all) (option_map body_in body) d
 implemented_is name front items all body d =
     λ j. part (declarations_are all name unit_site (stage d []) j) (λ s. ended_is name front items body s.draft j)
 

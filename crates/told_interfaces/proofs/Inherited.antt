@@ -17,7 +17,6 @@ use Rattle.unit_interface.specs.Resolve.{is_overlay, interface_named, with_overl
 use Rattle.unit_interface.specs.Fitting.{uses_fit}
 use Rattle.unit_interface.proofs.KeyLaws.{same_itself, is_keyed}
 use Rattle.source_order.specs.Orders.{names_of}
-use Rattle.tp_check_decl.specs.declared.fronts.Front.{Front}
 use Rattle.tp_check_decl.specs.Fronts as fronts
 use Rattle.tp_check_decl.specs.Units.{Whole}
 use Rattle.tp_check_decl.specs.Interfaces.{is_name_of, unit_front}
@@ -77,7 +76,7 @@ own_name file own is =
     let both = and_both (same_bytes own file) (not (fronts.is_system own || fronts.is_overlay own)) is in
     subst (λ (name : List ℕ). same_bytes name system ≡ false) (same_name own file both.0) (not_either (fronts.is_system own) (fronts.is_overlay own) both.1)
 
-front_named : (name : List ℕ) (says : Directives) (own : Identifier) (uses : List Identifier) (front : Front) → (unit_front name says own uses).holds front → same_bytes name system ≡ false
+front_named : (name : List ℕ) (says : Directives) (own : Identifier) (uses : List Identifier) (front : _) → (unit_front name says own uses).holds front → same_bytes name system ≡ false
 unfolding unit_front
 front_named name says own uses front h = own_name name own.name h.holds.asked
 
@@ -129,7 +128,7 @@ module _ (sources : List Source) (have : List Interface) (o : AreInOrder sources
   not_system name other is = apart (same_bytes name system) other (ap (λ (n : List ℕ). same_bytes n system) is ∙ same_itself system)
     where
       apart : (b : Bool) → b ≡ false → b ≡ true → ⊥
-      apart b no yes = cc
+      apart b one two = cc
 
   -- the scope that a unit is read over has no type of the unit
   pub no_own : (place : ℕ) (s : Source) → slice_get sources place ≡ Some s → same_bytes s.name system ≡ false

@@ -25,7 +25,7 @@ use Rattle.outcomes.specs.declared.outcome.Outcome.{Outcome}
 use Rattle.outcomes.specs.declared.outcome.Outcome.TheVariants as outcome
 use Rattle.outcomes.specs.declared.refusal.Refusal.TheVariants as refusal
 use Rattle.refusals.specs.Outcomes.{gather_outcome, order_outcome, check_outcome, class_outcome}
-use Rattle.source_interfaces.specs.Scopes.{outer_units, KnowsNothing}
+use Rattle.source_interfaces.specs.Scopes.{outer_units, IsUnresolved, KnowsNothing}
 use Rattle.source_interfaces.specs.Interfaces.{AreShown, IsAcyclic}
 use Rattle.front_end.specs.Untyped.{AreUntyped}
 use Rattle.program_laws.specs.Laws.{IsFree}
@@ -87,10 +87,13 @@ fits_there sources have o name uses import m =
     contrary : true ≡ false → ⊥
     contrary is = cc
 
+unresolved_not : (sources : List Source) (have : List Interface) → AreInOrder sources have → (name : List ℕ) (uses : List (List ℕ)) (unit import : List ℕ) → IsUnresolved have name uses (Mismatch unit import) → ⊥
+unresolved_not sources have o name uses unit import (once, same, mismatched) = fits_there sources have o name uses import mismatched
+
 knows_not : (texts : List Text) (sources : List Source) (have : List Interface) → AreInOrder sources have → (name : List ℕ) (uses : List Identifier) (unit import : List ℕ)
     → KnowsNothing texts have name uses (Mismatch unit import) → ⊥
 knows_not texts sources have o name uses unit import (inl twice) = check_not unit import texts (error_of twice.fault) twice.is
-knows_not texts sources have o name uses unit import (inr (once, same, mismatched)) = fits_there sources have o name (names_of uses) import mismatched
+knows_not texts sources have o name uses unit import (inr why) = unresolved_not sources have o name (names_of uses) unit import why
 
 -- ---- sources
 

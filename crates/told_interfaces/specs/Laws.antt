@@ -23,10 +23,10 @@ pub record AreTold : Type 0 where
   -- what a unit shows tells of the types of others what these tell
   pub uses : (sources : List Source) (have : List Interface) → AreInOrder sources have → (name : List ℕ) → IsToldUse have name
   -- so does the scope of a source that uses them, and each of its types stands where it is declared
-  pub scopes : (sources : List Source) (have : List Interface) → AreInOrder sources have → (name : List ℕ) (uses : List (List ℕ)) → IsToldScope have (resolved have name uses)
-  pub home : (sources : List Source) (have : List Interface) → AreInOrder sources have → (name : List ℕ) (uses : List (List ℕ)) → AreAtHome have (resolved have name uses).types
+  pub scopes : (sources : List Source) (have : List Interface) → AreInOrder sources have → (name : List ℕ) (names : List (List ℕ)) → IsToldScope have (resolved have name names)
+  pub home : (sources : List Source) (have : List Interface) → AreInOrder sources have → (name : List ℕ) (names : List (List ℕ)) → AreAtHome have (resolved have name names).types
   -- so the types of used units fit, each unit's those of the units before it
-  pub fit : (sources : List Source) (have : List Interface) → AreInOrder sources have → (name : List ℕ) (uses : List (List ℕ)) → uses_fit have (first name) uses ≡ true
+  pub fit : (sources : List Source) (have : List Interface) → AreInOrder sources have → (name : List ℕ) (names : List (List ℕ)) → uses_fit have (first name) names ≡ true
 
 -- Interfaces of sources that were gathered fit, so none is told of as one that doesn't.
 abbrev pub NoneMisfits : Type 0
