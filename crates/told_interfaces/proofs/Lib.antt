@@ -2,4 +2,4 @@ pub mod Declaring
 pub mod ShownKeys
 pub mod Origins
 pub mod Inherited
-mod Mismatches
+pub mod Mismatches
