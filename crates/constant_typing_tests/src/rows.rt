@@ -197,7 +197,7 @@ const SETS: &[Row] = &[
     ("['b', 'a']", Listed(9, Some((97, 98)), 2)),
     ("[True]", Listed(10, Some((1, 1)), 1)),
     ("[blue, red]", Listed(16, Some((0, 2)), 2)),
-    ("[pear]", Refused(0, 1)),
+    ("[pear]", Refused(15, 1)),
     ("[256]", Refused(15, 1)),
     ("[-1]", Refused(15, 1)),
     ("[1, 'a']", Refused(15, 1)),

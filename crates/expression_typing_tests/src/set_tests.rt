@@ -10,7 +10,7 @@ const CONSTRUCTORS: &[Row] = &[
     ("{$R+} [c, 'a']", Node((b'e', 9), (b't', 5), NONE)),
     ("{$R+} [t]", Node((b'e', 10), (b't', 6), NONE)),
     ("{$R+} [e]", Node((b'e', 16), (b't', 15), NONE)),
-    ("[f]", Refused(0, 1)),
+    ("[f]", Refused(15, 1)),
     ("[]", Node((b'e', 8), NONE, NONE)),
     ("{$R+} [1..l]", Node((b'e', 8), (b't', 2), (b't', 4))),
     ("[255]", Node((b'e', 8), (b'k', 2), NONE)),
