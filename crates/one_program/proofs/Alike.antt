@@ -25,7 +25,7 @@ use Rattle.tp_check_decl.specs.Units.{Whole, view_unit}
 use Rattle.tp_check_decl.specs.Checked.{judged, IsTypedAs}
 use Rattle.tp_check_decl.specs.Shown.{IsShownAs, outlined}
 use Rattle.source_interfaces.specs.Scopes.{outer_units, outer_scope, is_shown, known, AreThere, AreFitting}
-use Rattle.source_interfaces.specs.Kinds.{is_program, uses_named, is_used, is_of_kind, AreOfKinds}
+use Rattle.source_interfaces.specs.Kinds.{is_program, uses_named, is_used, is_reserved, is_of_kind, AreOfKinds}
 use Rattle.source_interfaces.specs.Interfaces.{IsShownIn, IsDone, AreInterfaces, IsAcyclic}
 use Rattle.front_end.specs.Typed.{sources_at, in_order, IsUnitOf, IsProgram}
 use Rattle.one_reading.specs.Alike.{IsAlike, AreAlike}
@@ -170,9 +170,9 @@ module _ (ones others : List Source) (all : AreAlike ones others) where
 
   kind_at : (place : ℕ) (s o : Source) → IsAlike s o → is_of_kind ones place s ≡ is_of_kind others place o
   kind_at place s o a =
-      ap (λ (n : List ℕ). cond (nat_eq place 0) (is_program s.tree && not (is_used ones n)) (not (is_program s.tree))) a.name
-      ∙ (ap (λ (b : Bool). cond (nat_eq place 0) (is_program s.tree && not b) (not (is_program s.tree))) (is_used_alike ones others all o.name)
-      ∙ ap (λ (p : Bool). cond (nat_eq place 0) (p && not (is_used others o.name)) (not p)) (kind_alike s.tree o.tree a.tree))
+      ap (λ (n : List ℕ). not (is_reserved n) && cond (nat_eq place 0) (is_program s.tree && not (is_used ones n)) (not (is_program s.tree))) a.name
+      ∙ (ap (λ (b : Bool). not (is_reserved o.name) && cond (nat_eq place 0) (is_program s.tree && not b) (not (is_program s.tree))) (is_used_alike ones others all o.name)
+      ∙ ap (λ (p : Bool). not (is_reserved o.name) && cond (nat_eq place 0) (p && not (is_used others o.name)) (not p)) (kind_alike s.tree o.tree a.tree))
 
   kinds_alike : AreOfKinds ones → AreOfKinds others
   kinds_alike kinds place o at =

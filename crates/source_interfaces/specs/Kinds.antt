@@ -1,5 +1,5 @@
 -- Which sources are programs and which are units.
-use Rattle.std.specs.Prelude.{◌≡◌, ℕ, Bool, true, false, not, ◌&&◌, cond, nat_eq, List, Some, unwrap_or, slice_get}
+use Rattle.std.specs.Prelude.{◌≡◌, ℕ, Bool, true, false, not, ◌&&◌, ◌||◌, cond, codes, nat_eq, List, Some, unwrap_or, slice_get}
 use Rattle.std.specs.List.{list_any}
 use Rattle.type_layout.specs.declared.texts.Place.{Place}
 use Rattle.type_layout.specs.Words.{same_bytes}
@@ -26,9 +26,15 @@ uses_named name source = list_any (λ unit. same_bytes name unit.name) (used sou
 abbrev pub is_used : List Source → List ℕ → Bool
 is_used sources name = list_any (uses_named name) sources
 
--- The source that comes first is a program and is used by none, and every other is a unit.
+-- the names of the units that are always there
+abbrev pub is_reserved : List ℕ → Bool
+is_reserved name = same_bytes name (codes "OVERLAY") || same_bytes name (codes "SYSTEM")
+
+-- The source that comes first is a program and is used by none, and every other is a unit. None has the name of a unit that is always
+-- there.
 abbrev pub is_of_kind : List Source → ℕ → Source → Bool
-is_of_kind sources place source = cond (nat_eq place 0) (is_program source.tree && not (is_used sources source.name)) (not (is_program source.tree))
+is_of_kind sources place source =
+    not (is_reserved source.name) && cond (nat_eq place 0) (is_program source.tree && not (is_used sources source.name)) (not (is_program source.tree))
 
 abbrev pub AreOfKinds : List Source → Type 0
 AreOfKinds sources = (place : ℕ) (source : Source) → slice_get sources place ≡ Some source → is_of_kind sources place source ≡ true

@@ -1,7 +1,7 @@
 //! Which sources are programs and which are units.
 
 ghost use Rattle.std.specs.Prelude.{◌≡◌, OnOk, IfErr};
-ghost use Rattle.source_interfaces.specs.Kinds.{is_program, beginning, uses_named, is_used, is_of_kind, AreOfKinds, IsOfWrongKind};
+ghost use Rattle.source_interfaces.specs.Kinds.{is_program, beginning, uses_named, is_used, is_reserved, is_of_kind, AreOfKinds, IsOfWrongKind};
 
 use source_gathering::Source;
 use source_tree::{Tree, uses_of};
@@ -43,9 +43,19 @@ fn is_used(sources: &[Source], name: &Name) -> bool
     sources.iter().any(|source| uses_named(name, source))
 }
 
+// The names of the units that are always there.
+fn is_reserved(name: &Name) -> bool
+    ensures { result ≡ is_reserved name.now }
+{
+    name.as_bytes() == b"OVERLAY".as_slice() || name.as_bytes() == b"SYSTEM".as_slice()
+}
+
 fn is_of_kind(sources: &[Source], place: usize, source: &Source) -> bool
     ensures { result ≡ is_of_kind sources.now place source.now }
 {
+    if is_reserved(&source.name) {
+        return false;
+    }
     if place == 0 {
         is_program(&source.tree) && !is_used(sources, &source.name)
     } else {
@@ -53,7 +63,8 @@ fn is_of_kind(sources: &[Source], place: usize, source: &Source) -> bool
     }
 }
 
-/// The first source is a program that none uses, and the others are units. A source of the wrong kind is at fault where it begins.
+/// The first source is a program that none uses, the others are units, and none has the name of a unit that is always there. A source
+/// that isn't so is at fault where it begins.
 pub fn check_kinds(sources: &[Source]) -> Result<(), Fault>
     ensures kinds { OnOk result (AreOfKinds sources.now) }
     ensures cause { IfErr result (IsOfWrongKind sources.now) }

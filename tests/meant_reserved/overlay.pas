@@ -1,0 +1,1 @@
+program Fine; begin writeln(1) end.
