@@ -51,8 +51,8 @@ mutual
   statement_depth (s.If' here x q one other) = max-le (inside _ _ (behind _ _ (behind _ _ (behind _ _ (first _ _ (statement_depth one)))))) (inside _ _ (behind _ _ (behind _ _ (behind _ _ (behind _ _ (first _ _ (else_depth other)))))))
   statement_depth (s.Case' here x shape arms b other) =
       max-le
-        (arms_depth arms b (inside _ _ (behind _ _ (behind _ _ (behind _ _ (first _ _ (le_refl _)))))) (inside _ _ (behind _ _ (behind _ _ (behind _ _ (behind _ _ (first _ _ (le_refl _))))))))
-        (inside _ _ (behind _ _ (behind _ _ (behind _ _ (behind _ _ (behind _ _ (first _ _ (case_else_depth other))))))))
+      (arms_depth arms b (inside _ _ (behind _ _ (behind _ _ (behind _ _ (first _ _ (le_refl _)))))) (inside _ _ (behind _ _ (behind _ _ (behind _ _ (behind _ _ (first _ _ (le_refl _))))))))
+      (inside _ _ (behind _ _ (behind _ _ (behind _ _ (behind _ _ (behind _ _ (first _ _ (case_else_depth other))))))))
   statement_depth (s.While' here x q one) = inside _ _ (behind _ _ (behind _ _ (behind _ _ (first _ _ (statement_depth one)))))
   statement_depth (s.Repeat' here shape all x) = inside _ _ (behind _ _ (first _ _ (statements_depth all)))
   statement_depth (s.For' here name x way y q one) = inside _ _ (behind _ _ (behind _ _ (behind _ _ (behind _ _ (behind _ _ (behind _ _ (behind _ _ (first _ _ (statement_depth one)))))))))
@@ -87,8 +87,8 @@ mutual
   more_arms_depth end_of-CaseArm b = zero-le
   more_arms_depth (more_of-CaseArm (a.Arm labels one) all) b =
       max-le
-        (inside _ _ (behind _ _ (first _ _ (inside _ _ (first _ _ (inside _ _ (behind _ _ (behind _ _ (behind _ _ (first _ _ (statement_depth one)))))))))))
-        (inside _ _ (behind _ _ (first _ _ (inside _ _ (behind _ _ (first _ _ (more_arms_depth all b)))))))
+      (inside _ _ (behind _ _ (first _ _ (inside _ _ (first _ _ (inside _ _ (behind _ _ (behind _ _ (behind _ _ (first _ _ (statement_depth one)))))))))))
+      (inside _ _ (behind _ _ (first _ _ (inside _ _ (behind _ _ (first _ _ (more_arms_depth all b)))))))
 
 -- ---- the same over lists, and a body
 
