@@ -1,6 +1,6 @@
 -- Each `with`, and each designator of one behind the first, opens a construct: so no more of them stand inside one another than
 -- constructs are open at once.
-use Rattle.std.proofs.Common.{ℕ, ◌≤◌, ◌+◌, max, zero-le, arith, Bool, true, false, List, [], ◌∷◌, lit≤}
+use Rattle.std.proofs.Common.{ℕ, ◌≤◌, ◌+◌, max, zero-le, arith, Bool, List, [], ◌∷◌, lit≤}
 use Rattle.std.proofs.Math.Nat.{le_refl, le_trans, le-max_left, le-max_right, max-le, le-add_left}
 use Rattle.pascal_grammar.specs.Productions as p
 use Rattle.pascal_grammar.specs.Rules.{grammar}

@@ -1,6 +1,6 @@
 -- What is spelled is so in each of its parts.
-use Rattle.std.proofs.Common.{ℕ, ◌≤◌}
-use Rattle.std.proofs.Math.Nat.{le_refl, le_trans, le-max_left, le-max_right, le-add_left}
+use Rattle.std.proofs.Common.{◌≤◌}
+use Rattle.std.proofs.Math.Nat.{le_trans, le-max_left, le-max_right, le-add_left}
 use Rattle.predictive_grammar.specs.Grammar.{nil, pair, leaf, node, deep, one_if}
 use Rattle.pascal_grammar.specs.Rules.{grammar}
 use Rattle.syntax_tree.specs.Expressions.{Parsed}

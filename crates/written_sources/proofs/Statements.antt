@@ -1,5 +1,5 @@
 -- The literals in spelled statements are literals.
-use Rattle.std.proofs.Common.{Bool, true, false, List, [], ◌∷◌}
+use Rattle.std.proofs.Common.{Bool, List, [], ◌∷◌}
 use Rattle.pascal_grammar.specs.Productions as p
 use Rattle.syntax_tree.specs.declared.expression.Argument.{Argument}
 use Rattle.syntax_tree.specs.declared.expression.Designator.{Designator}
