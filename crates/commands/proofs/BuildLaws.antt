@@ -1,6 +1,7 @@
 -- From what the parts of `go` answer to what it does.
-use Rattle.std.proofs.Common.{◌≡◌, ℕ, List, [], Option, Some, None, Result, Ok, Err, IfOk, IfErr, refl, inl, inr, sym, ap, ◌∙◌, subst}
+use Rattle.std.proofs.Common.{◌≡◌, ◌⊎◌, ◌<◌, ◌≤◌, ℕ, List, [], Option, Some, None, Result, Ok, Err, IfOk, IfErr, refl, inl, inr, sym, ap, ◌∙◌, subst, arith}
 use Rattle.std.specs.Prelude.{IfSome}
+use Rattle.std.proofs.lemmas.Bool.{cases_order}
 use Rattle.tp_outside.specs.Faults.{HasRisen}
 use Rattle.tp_outside.specs.Folder.{Folder}
 use Rattle.front_end.specs.declared.program.TypedSources.{TypedSources}
@@ -26,7 +27,8 @@ use Rattle.opened_program.specs.declared.error.OpenError.{OpenError}
 use Rattle.opened_program.specs.declared.error.OpenError.TheVariants as errors
 use Rattle.opened_program.specs.Opening.{IsOpened, IsRefused, HasReason}
 use Rattle.plain_opening.specs.Laws.{IsPlain, needed}
-use Rattle.plain_opening.proofs.Openings.{plain_refusal}
+use Rattle.opened_program.proofs.ReasonLaws.{no_reason}
+use Rattle.plain_opening.proofs.Openings.{large_refusal, plain_refusal}
 use Rattle.overlay_manager.specs.Manager.{Manager}
 use Rattle.overlay_runner.specs.Event.{Rises}
 use Rattle.outcomes.specs.declared.refusal.Refusal.{Refusal}
@@ -152,22 +154,38 @@ why_by known now_known shown bytes given file buffer error same texts names why 
     let b = subst (λ (t : List ℕ). IfSome known (λ held. IsRefused t given (held given) buffer error)) texts a in
     subst (λ (n : List ℕ). IfSome known (λ held. IsRefused bytes n (held n) buffer error)) names b
 
+-- what was opened the memory holds, with the buffer
+fitting : (bytes name : List ℕ) (held : Option (List ℕ)) (buffer : Option ℕ) (machine : State) (manager : Manager) → IsPlain bytes → IsOpened bytes name held buffer machine manager → needed bytes buffer ≤ 0xA000
+fitting bytes name held buffer machine manager plain opened = by (cases_order (needed bytes buffer) 0xA000)
+  where
+    by : (needed bytes buffer ≡ 0xA000) ⊎ ((needed bytes buffer < 0xA000) ⊎ (0xA000 < needed bytes buffer)) → needed bytes buffer ≤ 0xA000
+    by (inl same) = omega (arith, same)
+    by (inr (inl less)) = omega (arith, less)
+    by (inr (inr more)) = absurd (no_reason bytes name held buffer machine manager (errors.MemoryTooSmall (needed bytes buffer)) opened tt (large_refusal bytes name held buffer plain more))
+
 pub prepared_by : (known now_known : Option Folder) (name shown given : List ℕ) (buffer : Option ℕ) (prepared : Prepared) (manager : Manager) → now_known ≡ known → shown ≡ prepared.bytes → IfSome known (λ held. IsBuiltFrom held name prepared.bytes)
-    → IfSome now_known (λ held. IsOpened shown given (held given) buffer prepared.machine manager) → IfSome known (λ held. IsPrepared held name prepared)
+    → IfSome now_known (λ held. IsOpened shown given (held given) buffer prepared.machine manager) → IfSome known (λ held. IsPrepared held name buffer prepared)
 prepared_by None now_known name shown given buffer prepared manager same texts built opened = tt
 prepared_by (Some held) now_known name shown given buffer prepared manager same texts built opened =
     let here = subst (λ (f : Option Folder). IfSome f (λ held. IsOpened shown given (held given) buffer prepared.machine manager)) same opened in
-    record { built = built; starts = here.machine_is ∙ ap (λ (t : List ℕ). loaded (exe_of t)) texts }
+    let there = subst (λ (t : List ℕ). IsOpened t given (held given) buffer prepared.machine manager) texts here in
+    let does = built.does built.program built.is in
+    let plain : IsPlain prepared.bytes = record { executable = does.agrees.executable; stubs = does.plain } in
+    record { built = built; fits = fitting prepared.bytes given (held given) buffer prepared.machine manager plain there; starts = there.machine_is }
 
 -- ---- the run
 
-pub prepared_built : (known : Option Folder) (name : List ℕ) (prepared : Prepared) → IfSome known (λ held. IsPrepared held name prepared) → IfSome known (λ held. IsBuiltFrom held name prepared.bytes)
-prepared_built None name prepared is = tt
-prepared_built (Some held) name prepared is = is.built
+pub prepared_built : (known : Option Folder) (name : List ℕ) (buffer : Option ℕ) (prepared : Prepared) → IfSome known (λ held. IsPrepared held name buffer prepared) → IfSome known (λ held. IsBuiltFrom held name prepared.bytes)
+prepared_built None name buffer prepared is = tt
+prepared_built (Some held) name buffer prepared is = is.built
 
-pub prepared_starts : (known : Option Folder) (name : List ℕ) (prepared : Prepared) → IfSome known (λ held. IsPrepared held name prepared) → IfSome known (λ held. prepared.machine ≡ loaded (exe_of prepared.bytes))
-prepared_starts None name prepared is = tt
-prepared_starts (Some held) name prepared is = is.starts
+pub prepared_fits : (known : Option Folder) (name : List ℕ) (buffer : Option ℕ) (prepared : Prepared) → IfSome known (λ held. IsPrepared held name buffer prepared) → IfSome known (λ held. needed prepared.bytes buffer ≤ 0xA000)
+prepared_fits None name buffer prepared is = tt
+prepared_fits (Some held) name buffer prepared is = is.fits
+
+pub prepared_starts : (known : Option Folder) (name : List ℕ) (buffer : Option ℕ) (prepared : Prepared) → IfSome known (λ held. IsPrepared held name buffer prepared) → IfSome known (λ held. prepared.machine ≡ loaded (exe_of prepared.bytes))
+prepared_starts None name buffer prepared is = tt
+prepared_starts (Some held) name buffer prepared is = is.starts
 
 pub no_files : (end : RunEnd) (limit : ℕ) (start last : State) (o o' : Outside) → RunsTo end limit start last o o' → end ≡ ends.FilesFault → ⊥
 no_files ends.FilesFault limit start last o o' run is = run.run.leaves
@@ -188,10 +206,11 @@ rises_of ends.ErrorsFault limit start last o o' files files' run = run.run.rose
 rises_of ends.FilesFault limit start last o o' files files' run = absurd run.run.leaves
 
 pub ran_built : (known : Option Folder) (end : RunEnd) (name bytes : List ℕ) (options : RunOptions) (limit : ℕ) (start last : State) (o o' : Outside) → limit ≡ limit_of options
-    → IfSome known (λ held. IsBuiltFrom held name bytes) → IfSome known (λ held. start ≡ loaded (exe_of bytes)) → RunsTo end limit start last o o' → IfSome known (λ held. RanBuilt held end name bytes options o o')
-ran_built None end name bytes options limit start last o o' limits built starts run = tt
-ran_built (Some held) end name bytes options limit start last o o' limits built starts run = record {
+    → IfSome known (λ held. IsBuiltFrom held name bytes) → IfSome known (λ held. needed bytes options.buffer ≤ 0xA000) → IfSome known (λ held. start ≡ loaded (exe_of bytes)) → RunsTo end limit start last o o' → IfSome known (λ held. RanBuilt held end name bytes options o o')
+ran_built None end name bytes options limit start last o o' limits built fits starts run = tt
+ran_built (Some held) end name bytes options limit start last o o' limits built fits starts run = record {
   built = built;
+  fits = fits;
   last = last;
   run = subst (λ (s : State). RunsTo end (limit_of options) s last o o') starts (subst (λ (n : ℕ). RunsTo end n start last o o') limits run);
 }

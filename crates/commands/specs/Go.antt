@@ -1,5 +1,5 @@
 -- What `go` does before its last line.
-use Rattle.std.specs.Prelude.{◌≡◌, ◌⊎◌, ◌<◌, ℕ, List, [], ◌∷◌, Option, Some, IfSome}
+use Rattle.std.specs.Prelude.{◌≡◌, ◌⊎◌, ◌<◌, ◌≤◌, ℕ, List, [], ◌∷◌, Option, Some, IfSome}
 use Rattle.tp_outside.specs.Faults.{HasRisen}
 use Rattle.tp_outside.specs.Folder.{Folder, with_known_file}
 use Rattle.type_layout.specs.declared.texts.Place.{Place}
@@ -113,9 +113,11 @@ pub record GaveNoRun (result : Outcome) (name : List ℕ) (buffer : Option ℕ) 
 
 -- ---- runs
 
--- The process of an executable that was built from what the files hold came to this end.
+-- The memory holds an executable that was built from what the files hold, and the buffer that is asked for, and its process came to
+-- this end.
 pub record RanBuilt (held : Folder) (end : RunEnd) (name bytes : List ℕ) (options : RunOptions) (o o' : Outside) : Type 0 where
   pub built : IsBuiltFrom held name bytes
+  pub fits : needed bytes options.buffer ≤ 0xA000
   pub last : State
   pub run : RunsTo end (limit_of options) (loaded (exe_of bytes)) last o o'
 

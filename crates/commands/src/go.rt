@@ -104,7 +104,7 @@ fn prepare<F: Files>(
     buffer: Option<u16>,
     files: &mut F,
 ) -> Result<Prepared, Outcome>
-    ensures prepared { IfSome (F.folder files.old) (λ held. IfOk result (IsPrepared held name.now)) }
+    ensures prepared { IfSome (F.folder files.old) (λ held. IfOk result (IsPrepared held name.now buffer)) }
     ensures reason { IfErr result (λ outcome.
         IsNotGone outcome name.now buffer (F.folder files.old) (F.faults files.old) (F.faults files.new)) }
     ensures unchanged { F.folder files.new ≡ F.folder files.old }
