@@ -5,7 +5,6 @@ use Rattle.std.specs.Io.KnownBytes.{append_known}
 use Rattle.tp_outside.specs.Faults.{HasRisen}
 use Rattle.tp_outside.specs.Folder.{Folder}
 use Rattle.behaviour.specs.Seen.{Seen}
-use Rattle.typed_tree.specs.declared.units.Program.{Program}
 use Rattle.front_end.specs.Untyped.{IsRefusing}
 use Rattle.dos_runner.specs.declared.runner.RunEnd.{RunEnd}
 use Rattle.dos_runner.specs.declared.runner.RunEnd.TheVariants as ends
@@ -295,11 +294,6 @@ causes result words old mid errors faults went = record {
 pub still_rising : (old mid new : ℕ) → old ≤ mid → HasRisen mid new → HasRisen old new
 still_rising old mid new counted (inl rose) = inl (omega arith)
 still_rising old mid new counted (inr full) = inr (omega arith)
-
-pub line_failed : (words : List (List ℕ)) (old new : World) (mid : ℕ) → old.streams.errors_faults ≤ mid → HasRisen mid new.streams.errors_faults → Refuses words old new outcome.ErrorsFault
-line_failed words old new mid counted rose =
-    let all = still_rising old.streams.errors_faults mid new.streams.errors_faults counted rose in
-    record { usage = λ none. inr all; missing = λ name options asked lacks. inr all; outside = λ name options asked lacking. inr all; absent = λ name options asked lacks. inr all; unopened = λ name options error asked has why. inr all }
 
 failing : (folder : Option Folder) (result : Outcome) (name : List ℕ) (options : RunOptions) (old new : World) → IsFaultOrNoMemory result old new → IfSome folder (λ held. IsGoEnd held name options result ⊎ IsFaultOrNoMemory result old new)
 failing None result name options old new fails = tt

@@ -1,6 +1,7 @@
 -- From what `run` does, and the last line, to what the top call promises.
-use Rattle.std.proofs.Common.{◌≡◌, ◌⊎◌, inl, inr, ℕ, ◌≤◌, List, Option, Some, None, IfSome, sym, ap, ◌∙◌, subst}
+use Rattle.std.proofs.Common.{◌≡◌, ◌⊎◌, inl, inr, ℕ, ◌≤◌, List, Option, Some, None, IfSome, refl, sym, ap, ◌∙◌, subst}
 use Rattle.std.specs.Io.KnownBytes.{append_known}
+use Rattle.tp_outside.specs.Faults.{HasRisen}
 use Rattle.tp_outside.specs.Folder.{Folder}
 use Rattle.dos_runner.specs.declared.runner.RunEnd.{RunEnd}
 use Rattle.dos_runner.specs.declared.runner.RunEnd.TheVariants as ends
@@ -9,6 +10,7 @@ use Rattle.opened_program.specs.declared.error.OpenError.{OpenError}
 use Rattle.opened_program.specs.declared.error.OpenError.TheVariants as errors
 use Rattle.opened_program.specs.Opening.{HasReason, IsRefused}
 use Rattle.opened_program.proofs.ReasonLaws.{one_reason, no_reason}
+use Rattle.overlay_runner.specs.declared.runner.Runner.{Runner}
 use Rattle.commands.specs.declared.names.FileKind.TheVariants.{Executable, Overlays}
 use Rattle.outcomes.specs.declared.refusal.Refusal.{Refusal}
 use Rattle.outcomes.specs.declared.refusal.Refusal.TheVariants as refusal
@@ -19,11 +21,11 @@ use Rattle.commands.specs.Ending.{outcome_of}
 use Rattle.commands.specs.Files.{file_of}
 use Rattle.outcomes.specs.Line.{line_of}
 use Rattle.commands.specs.Performs.{DidRun}
-use Rattle.commands.specs.Run.{refused_as, HasNoStart, IsUnopened, IsOfRun, IsNotRun, RunsFrom, GaveUp, RunDid}
-use Rattle.commands.specs.Turbo.{IsFaultOrNoMemory, Faults, RunRefused, Refuses, Unchanged, AfterLine, RunsFiles, RanFiles}
+use Rattle.commands.specs.Run.{refused_as, HasNoStart, IsUnopened, IsOfRun, IsNotRun, BeginsNamed, RunsFrom, GaveUp, RunDid}
+use Rattle.commands.specs.Turbo.{IsFaultOrNoMemory, Faults, IsRunEnd, RunComplete, RunRefused, Refuses, Unchanged, AfterLine, RunsFiles, RanFiles}
 use Rattle.command_line.specs.Words.{IsGo}
 use Rattle.commands.specs.World.{World, Lacks}
-use Rattle.commands.proofs.GoLaws.{IsRefusal, no_refusal, ran_fault, wrote_its_line}
+use Rattle.commands.proofs.GoLaws.{IsRefusal, no_refusal, ran_fault, still_rising, wrote_its_line}
 use Rattle.commands.proofs.RanLaws.{told}
 use Rattle.commands.proofs.WordLaws.{not_both}
 
@@ -121,6 +123,59 @@ causes result words old mid errors faults ran = record {
         → (result ≡ refused_as error) ⊎ IsFaultOrNoMemory result old (told mid errors faults)
     not-opened name options error has why (inl gave) = gave-up-unopened result name options.buffer old.folder old mid errors faults error has why gave.reason
     not-opened name options error has why (inr went) = absurd (ran-unopened went.0 name options old.folder old.streams mid.streams error has why went.2.run)
+
+-- ---- how it ends
+
+-- with files for which a program is refused, none begins
+begins-not : (held : Folder) (r : Refusal) (name : List ℕ) (buffer : Option ℕ) → HasNoStart held (outcome.Refused r) name buffer → (runner : Runner) → BeginsNamed held name buffer runner → ⊥
+begins-not held r name buffer (inl lacks) runner begins = let both = sym lacks.absent ∙ begins.there in cc
+begins-not held r name buffer (inr opens) runner begins =
+    let same = bytes-same (held (file_of name Executable)) opens.bytes begins.bytes opens.there begins.there in
+    let cause = subst (λ (bytes : List ℕ). IsRefused bytes (file_of name Overlays) (held (file_of name Overlays)) buffer opens.error) same opens.cause in
+    no_reason begins.bytes (file_of name Overlays) (held (file_of name Overlays)) buffer runner.course.machine runner.course.ovr opens.error begins.begins.opened (has-reason r opens.error opens.is) cause
+
+end-so : (held : Folder) (name : List ℕ) (options : RunOptions) (end : RunEnd) (o o' : Outside) → RunsFrom held end name options o o' → IsRunEnd held name options (outcome_of end) o
+end-so held name options (ends.Ended code) o o' run = (ends.Ended code, o', refl, run)
+end-so held name options (ends.Limit taken) o o' run = (ends.Limit taken, o', refl, run)
+end-so held name options (ends.Stopped cs ip why) o o' run = (ends.Stopped cs ip why, o', refl, run)
+end-so held name options ends.InputFault o o' run = (ends.InputFault, o', refl, run)
+end-so held name options ends.OutputFault o o' run = (ends.OutputFault, o', refl, run)
+end-so held name options ends.ErrorsFault o o' run = (ends.ErrorsFault, o', refl, run)
+end-so held name options ends.FilesFault o o' run = (ends.FilesFault, o', refl, run)
+
+gave-up-complete : (folder : Option Folder) (result : Outcome) (name : List ℕ) (options : RunOptions) (old mid : World) (errors : Option (List ℕ)) (faults : ℕ) → IsNotRun result name options.buffer folder old.files_faults mid.files_faults
+    → IfSome folder (λ held. IsRunEnd held name options result old.streams ⊎ IsFaultOrNoMemory result old (told mid errors faults))
+gave-up-complete None result name options old mid errors faults reason = tt
+gave-up-complete (Some held) (outcome.Refused r) name options old mid errors faults reason = inl (reason.1, begins-not held r name options.buffer reason.1)
+gave-up-complete (Some held) outcome.FilesFault name options old mid errors faults reason = inr reason
+gave-up-complete (Some held) outcome.NoMemory name options old mid errors faults reason = inr tt
+gave-up-complete (Some held) other name options old mid errors faults reason = absurd reason
+
+ran-complete : (folder : Option Folder) (result : Outcome) (end : RunEnd) (name : List ℕ) (options : RunOptions) (old mid : World) (errors : Option (List ℕ)) (faults : ℕ) → result ≡ outcome_of end
+    → IfSome folder (λ held. RunsFrom held end name options old.streams mid.streams) → IfSome folder (λ held. IsRunEnd held name options result old.streams ⊎ IsFaultOrNoMemory result old (told mid errors faults))
+ran-complete None result end name options old mid errors faults is run = tt
+ran-complete (Some held) result end name options old mid errors faults is run =
+    inl (subst (λ (o : Outcome). IsRunEnd held name options o old.streams) (sym is) (end-so held name options end old.streams mid.streams run))
+
+pub complete : (result : Outcome) (words : List (List ℕ)) (old mid : World) (errors : Option (List ℕ)) (faults : ℕ) → DidRun result words old mid → RunComplete words old (told mid errors faults) result
+complete result words old mid errors faults ran = λ name options asked. by name options (ran.did name options asked)
+  where
+    by : (name : List ℕ) (options : RunOptions) → RunDid result name options old mid
+        → IfSome old.folder (λ held. IsRunEnd held name options result old.streams ⊎ IsFaultOrNoMemory result old (told mid errors faults))
+    by name options (inl gave) = gave-up-complete old.folder result name options old mid errors faults gave.reason
+    by name options (inr went) = ran-complete old.folder result went.0 name options old mid errors faults went.1 went.2.run
+
+failing : (folder : Option Folder) (result : Outcome) (name : List ℕ) (options : RunOptions) (old new : World) → IsFaultOrNoMemory result old new
+    → IfSome folder (λ held. IsRunEnd held name options result old.streams ⊎ IsFaultOrNoMemory result old new)
+failing None result name options old new fails = tt
+failing (Some held) result name options old new fails = inr fails
+
+pub complete_failed : (words : List (List ℕ)) (old new : World) (mid : ℕ) → old.streams.errors_faults ≤ mid → HasRisen mid new.streams.errors_faults → RunComplete words old new outcome.ErrorsFault
+complete_failed words old new mid counted rose = λ name options asked.
+    failing old.folder outcome.ErrorsFault name options old new (still_rising old.streams.errors_faults mid new.streams.errors_faults counted rose)
+
+pub complete_out : (result : Outcome) (words : List (List ℕ)) (old new : World) → result ≡ outcome.NoMemory → RunComplete words old new result
+complete_out result words old new is = λ name options asked. failing old.folder result name options old new (subst (λ (o : Outcome). IsFaultOrNoMemory o old new) (sym is) tt)
 
 -- what is left as it was
 gave-up-unchanged : (result : Outcome) (name : List ℕ) (buffer : Option ℕ) (words : List (List ℕ)) (old mid : World) (errors : Option (List ℕ)) (faults : ℕ) → ((other : List ℕ) (gone : RunOptions) → IsGo words other gone → ⊥) → GaveUp result name buffer old mid

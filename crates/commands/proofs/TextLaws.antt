@@ -1,18 +1,14 @@
 -- Words that ask for a text, and what comes of it.
-use Rattle.std.proofs.Common.{◌≡◌, ◌⊎◌, inl, inr, ℕ, List, [], ◌∷◌, Option, sym, ap, ◌∙◌, refl, subst, arith}
+use Rattle.std.proofs.Common.{◌≡◌, inl, inr, ℕ, List, [], ◌∷◌, Option, sym, ap, ◌∙◌, subst, arith}
 use Rattle.std.specs.Prelude.{codes, slice_get, slice_index, unwrap_or}
-use Rattle.std.specs.Io.KnownBytes.{append_known}
-use Rattle.tp_outside.specs.Faults.{HasRisen}
-use Rattle.tp_outside.proofs.Known.{append_known-nil}
 use Rattle.command_line.specs.declared.command.RunOptions.{RunOptions}
 use Rattle.command_line.specs.Words.{IsGo, IsRun, IsHelp, IsVersion}
 use Rattle.command_line.proofs.LineLaws.{help_not, version_not}
 use Rattle.outcomes.specs.declared.outcome.Outcome.{Outcome}
 use Rattle.outcomes.specs.declared.outcome.Outcome.TheVariants as outcome
-use Rattle.outcomes.specs.Line.{line_of}
 use Rattle.commands.specs.Performs.{Shown, DidShow}
 use Rattle.commands.specs.Texts.{IsTextOf}
-use Rattle.commands.specs.Turbo.{IsFault, Faults, Unchanged, Told}
+use Rattle.commands.specs.Turbo.{Faults, Unchanged, AfterLine, Told}
 use Rattle.commands.specs.World.{World}
 use Rattle.commands.proofs.RanLaws.{told}
 
@@ -53,28 +49,13 @@ unchanged outcome.Done words text old mid errors faults shown = tt
 unchanged outcome.OutputFault words text old mid errors faults shown = tt
 unchanged other words text old mid errors faults shown = absurd shown
 
-ended : (result : Outcome) (text : List ℕ) (old mid : World) (errors : Option (List ℕ)) (faults : ℕ) → Shown result text old.streams.output mid.streams.output old.streams.output_faults mid.streams.output_faults
-    → mid.streams.errors ≡ old.streams.errors → errors ≡ append_known mid.streams.errors (line_of result)
-    → ((result ≡ outcome.Done) × (mid.streams.output ≡ append_known old.streams.output text) × (errors ≡ old.streams.errors)) ⊎ IsFault result old (told mid errors faults)
-ended outcome.Done text old mid errors faults shown kept line = inl (refl, shown, line ∙ append_known-nil mid.streams.errors ∙ kept)
-ended outcome.OutputFault text old mid errors faults shown kept line = inr shown
-ended other text old mid errors faults shown kept line = absurd shown
-
-pub tells_with_line : (result : Outcome) (words : List (List ℕ)) (old mid : World) (errors : Option (List ℕ)) (faults : ℕ) (text : List ℕ) → DidShow result words old mid → errors ≡ append_known mid.streams.errors (line_of result)
+pub tells : (inner result : Outcome) (words : List (List ℕ)) (old mid : World) (errors : Option (List ℕ)) (faults : ℕ) (text : List ℕ) → DidShow inner words old mid → AfterLine result inner mid.streams.errors errors
     → IsTextOf words text → Told text old (told mid errors faults) result
-tells_with_line result words old mid errors faults text shown line asked =
+tells inner result words old mid errors faults text shown line asked =
     subst (λ (t : List ℕ). Told t old (told mid errors faults) result) (one_text words shown.text text shown.asked asked) (record {
-      ended = ended result shown.text old mid errors faults shown.shown shown.errors line;
-      front = shown.front;
-      folder = shown.folder;
-      input = shown.input;
-    })
-
-pub tells_without_line : (inner : Outcome) (words : List (List ℕ)) (old mid : World) (errors : Option (List ℕ)) (faults : ℕ) (text : List ℕ) → DidShow inner words old mid → HasRisen old.streams.errors_faults faults
-    → IsTextOf words text → Told text old (told mid errors faults) outcome.ErrorsFault
-tells_without_line inner words old mid errors faults text shown rose asked =
-    subst (λ (t : List ℕ). Told t old (told mid errors faults) outcome.ErrorsFault) (one_text words shown.text text shown.asked asked) (record {
-      ended = inr rose;
+      inner = inner;
+      shown = shown.shown;
+      line = subst (λ (e : Option (List ℕ)). AfterLine result inner e errors) shown.errors line;
       front = shown.front;
       folder = shown.folder;
       input = shown.input;

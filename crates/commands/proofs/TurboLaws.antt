@@ -1,5 +1,5 @@
 -- What the top call promises, from what a command does and its line.
-use Rattle.std.proofs.Common.{◌≡◌, inl, inr, ℕ, ◌≤◌, List, Option, sym, ap, ◌∙◌, refl, subst}
+use Rattle.std.proofs.Common.{◌≡◌, ◌⊎◌, inl, inr, ℕ, ◌≤◌, List, Option, sym, ap, ◌∙◌, refl, subst}
 use Rattle.std.specs.Io.KnownBytes.{append_known}
 use Rattle.tp_outside.specs.Faults.{HasRisen}
 use Rattle.tp_outside.specs.Streams.{TakesPrefix}
@@ -9,9 +9,9 @@ use Rattle.outcomes.specs.declared.outcome.Outcome.{Outcome}
 use Rattle.outcomes.specs.declared.outcome.Outcome.TheVariants as outcome
 use Rattle.outcomes.specs.Line.{line_of}
 use Rattle.dos_runner.specs.Outside.{Outside}
-use Rattle.commands.specs.Performs.{Performs}
-use Rattle.commands.specs.Turbo.{Headline, HasRun, Written, Complete, Faults, GoRefused, RunRefused, Refused, Refuses, Fronts, FilesAfter, TookErrors, EndsWithLine, Unchanged, AfterLine, WentFiles, RanFiles, MeanRefused, MeantFiles, Tells}
-use Rattle.commands.specs.World.{World}
+use Rattle.commands.specs.Performs.{NamesNone, Performs}
+use Rattle.commands.specs.Turbo.{Headline, HasRun, Written, Complete, Faults, GoRefused, RunRefused, Refused, Misuses, Refuses, Fronts, FilesAfter, TookErrors, EndsWithLine, Unchanged, AfterLine, WentFiles, RanFiles, MeanRefused, MeantFiles, Tells}
+use Rattle.commands.specs.World.{World, IsUntouched}
 use Rattle.commands.proofs.GoLaws.{no_output, no_errors, wrote_its_line}
 use Rattle.commands.proofs.RanLaws.{told}
 use Rattle.commands.proofs.GoLaws as go
@@ -44,23 +44,35 @@ written result words old mid errors faults (inr (inr (inr (inr (inr meant))))) l
 
 pub complete : (result : Outcome) (words : List (List ℕ)) (old mid : World) (errors : Option (List ℕ)) (faults : ℕ) → Performs result words old mid → mid.streams.errors_faults ≤ faults → Complete words old (told mid errors faults) result
 complete result words old mid errors faults (inl misused) counted =
-    record { of_go = λ name options asked. absurd (misused.none.go name options asked); of_mean = λ name turns asked. absurd (misused.none.mean name turns asked) }
+    record {
+      of_go = λ name options asked. absurd (misused.none.go name options asked);
+      of_run = λ name options asked. absurd (misused.none.run name options asked);
+      of_mean = λ name turns asked. absurd (misused.none.mean name turns asked);
+    }
 complete result words old mid errors faults (inr (inl went)) counted = record {
   of_go = go.complete result words old mid errors faults went counted;
+  of_run = λ name options asked. absurd (not_both words went.name name went.options options went.asked asked);
   of_mean = λ name turns asked. absurd (not_go_and_mean words went.name name went.options turns went.asked asked);
 }
 complete result words old mid errors faults (inr (inr (inl ran))) counted = record {
   of_go = λ name options asked. absurd (not_both words name ran.name options ran.options asked ran.asked);
+  of_run = run.complete result words old mid errors faults ran;
   of_mean = λ name turns asked. absurd (not_run_and_mean words ran.name name ran.options turns ran.asked asked);
 }
 complete result words old mid errors faults (inr (inr (inr (inl out)))) counted =
-    record { of_go = go.complete_out result words old (told mid errors faults) out.is; of_mean = mean.complete_out result words old (told mid errors faults) out.is }
+    record {
+      of_go = go.complete_out result words old (told mid errors faults) out.is;
+      of_run = run.complete_out result words old (told mid errors faults) out.is;
+      of_mean = mean.complete_out result words old (told mid errors faults) out.is;
+    }
 complete result words old mid errors faults (inr (inr (inr (inr (inl shown))))) counted = record {
   of_go = λ name options asked. absurd (not_go words shown.text name options shown.asked asked);
+  of_run = λ name options asked. absurd (not_run words shown.text name options shown.asked asked);
   of_mean = λ name turns asked. absurd (not_mean words shown.text name turns shown.asked asked);
 }
 complete result words old mid errors faults (inr (inr (inr (inr (inr meant))))) counted = record {
   of_go = λ name options asked. absurd (not_go_and_mean words name meant.name options meant.turns asked meant.asked);
+  of_run = λ name options asked. absurd (not_run_and_mean words name meant.name options meant.turns asked meant.asked);
   of_mean = mean.complete result words old mid errors faults meant counted;
 }
 
@@ -169,31 +181,51 @@ files_after result words old mid errors faults (inr (inr (inr (inl out)))) = inl
 files_after result words old mid errors faults (inr (inr (inr (inr (inl shown))))) = inl shown.folder
 files_after result words old mid errors faults (inr (inr (inr (inr (inr meant))))) = inl (mean.folder_kept result words old mid meant)
 
-pub causes : (result : Outcome) (words : List (List ℕ)) (old mid : World) (errors : Option (List ℕ)) (faults : ℕ) → Performs result words old mid → Refuses words old (told mid errors faults) result
-causes result words old mid errors faults (inl misused) = record {
-  usage = λ none. inl misused.is;
+misuses : (inner result : Outcome) (old mid : World) (errors : Option (List ℕ)) (faults : ℕ) → (inner ≡ outcome.Refused refusal.Usage) ⊎ (inner ≡ outcome.NoMemory) → IsUntouched old mid
+    → AfterLine result inner mid.streams.errors errors → Misuses old (told mid errors faults) result
+misuses inner result old mid errors faults is untouched line = record {
+  inner = inner;
+  is = is;
+  line = subst (λ (e : Option (List ℕ)). AfterLine result inner e errors) (ap (λ (o : Outside). o.errors) untouched.streams) line;
+  folder = untouched.folder;
+  input = ap (λ (o : Outside). o.input) untouched.streams;
+  output = ap (λ (o : Outside). o.output) untouched.streams;
+}
+
+-- what comes of words that ask for nothing, with the line after it or a front of the line
+misused-so : (inner result : Outcome) (words : List (List ℕ)) (old mid : World) (errors : Option (List ℕ)) (faults : ℕ) → Performs inner words old mid → AfterLine result inner mid.streams.errors errors → NamesNone words → Misuses old (told mid errors faults) result
+misused-so inner result words old mid errors faults (inl misused) line none = misuses inner result old mid errors faults (inl misused.is) misused.untouched line
+misused-so inner result words old mid errors faults (inr (inl went)) line none = absurd (none.go went.name went.options went.asked)
+misused-so inner result words old mid errors faults (inr (inr (inl ran))) line none = absurd (none.run ran.name ran.options ran.asked)
+misused-so inner result words old mid errors faults (inr (inr (inr (inl out)))) line none = misuses inner result old mid errors faults (inr out.is) out.untouched line
+misused-so inner result words old mid errors faults (inr (inr (inr (inr (inl shown))))) line none = absurd (none.text shown.text shown.asked)
+misused-so inner result words old mid errors faults (inr (inr (inr (inr (inr meant))))) line none = absurd (none.mean meant.name meant.turns meant.asked)
+
+pub causes : (result : Outcome) (words : List (List ℕ)) (old mid : World) (errors : Option (List ℕ)) (faults : ℕ) → Performs result words old mid → errors ≡ append_known mid.streams.errors (line_of result) → Refuses words old (told mid errors faults) result
+causes result words old mid errors faults (inl misused) line = record {
+  usage = misused-so result result words old mid errors faults (inl misused) (inl (refl, line));
   missing = λ name options asked lacks. absurd (misused.none.go name options asked);
   outside = λ name options asked lacking. absurd (misused.none.go name options asked);
   absent = λ name options asked lacks. absurd (misused.none.run name options asked);
   unopened = λ name options error asked has why. absurd (misused.none.run name options asked);
 }
-causes result words old mid errors faults (inr (inl went)) = go.causes result words old mid errors faults went
-causes result words old mid errors faults (inr (inr (inl ran))) = run.causes result words old mid errors faults ran
-causes result words old mid errors faults (inr (inr (inr (inl out)))) = subst (λ (o : Outcome). Refuses words old (told mid errors faults) o) (sym out.is) (record {
-  usage = λ none. inr tt;
+causes result words old mid errors faults (inr (inl went)) line = go.causes result words old mid errors faults went
+causes result words old mid errors faults (inr (inr (inl ran))) line = run.causes result words old mid errors faults ran
+causes result words old mid errors faults (inr (inr (inr (inl out)))) line = subst (λ (o : Outcome). Refuses words old (told mid errors faults) o) (sym out.is) (record {
+  usage = λ none. misuses outcome.NoMemory outcome.NoMemory old mid errors faults (inr refl) out.untouched (inl (refl, line ∙ ap (λ (o : Outcome). append_known mid.streams.errors (line_of o)) out.is));
   missing = λ name options asked lacks. inr tt;
   outside = λ name options asked lacking. inr tt;
   absent = λ name options asked lacks. inr tt;
   unopened = λ name options error asked has why. inr tt;
 })
-causes result words old mid errors faults (inr (inr (inr (inr (inl shown))))) = record {
+causes result words old mid errors faults (inr (inr (inr (inr (inl shown))))) line = record {
   usage = λ none. absurd (none.text shown.text shown.asked);
   missing = λ name options asked lacks. absurd (not_go words shown.text name options shown.asked asked);
   outside = λ name options asked lacking. absurd (not_go words shown.text name options shown.asked asked);
   absent = λ name options asked lacks. absurd (not_run words shown.text name options shown.asked asked);
   unopened = λ name options error asked has why. absurd (not_run words shown.text name options shown.asked asked);
 }
-causes result words old mid errors faults (inr (inr (inr (inr (inr meant))))) = record {
+causes result words old mid errors faults (inr (inr (inr (inr (inr meant))))) line = record {
   usage = λ none. absurd (none.mean meant.name meant.turns meant.asked);
   missing = λ name options asked lacks. absurd (not_go_and_mean words name meant.name options meant.turns asked meant.asked);
   outside = λ name options asked lacking. absurd (not_go_and_mean words name meant.name options meant.turns asked meant.asked);
@@ -246,28 +278,37 @@ meant_with_line result words old mid errors faults did line = means-files result
 pub meant_without_line : (inner : Outcome) (words : List (List ℕ)) (old mid : World) (errors : Option (List ℕ)) (faults : ℕ) → Performs inner words old mid → TakesPrefix mid.streams.errors errors (line_of inner) → MeantFiles words old (told mid errors faults) outcome.ErrorsFault
 meant_without_line inner words old mid errors faults did front = means-files inner outcome.ErrorsFault words old mid errors faults did (inr (refl, front))
 
-pub line_failed : (words : List (List ℕ)) (old new : World) (mid : ℕ) → old.streams.errors_faults ≤ mid → HasRisen mid new.streams.errors_faults → Refuses words old new outcome.ErrorsFault
-line_failed words old new mid counted rose = go.line_failed words old new mid counted rose
+pub line_failed : (inner : Outcome) (words : List (List ℕ)) (old mid : World) (errors : Option (List ℕ)) (faults : ℕ) → Performs inner words old mid → TakesPrefix mid.streams.errors errors (line_of inner)
+    → old.streams.errors_faults ≤ mid.streams.errors_faults → HasRisen mid.streams.errors_faults faults → Refuses words old (told mid errors faults) outcome.ErrorsFault
+line_failed inner words old mid errors faults did front counted rose =
+    let all = go.still_rising old.streams.errors_faults mid.streams.errors_faults faults counted rose in
+    record {
+      usage = misused-so inner outcome.ErrorsFault words old mid errors faults did (inr (refl, front));
+      missing = λ name options asked lacks. inr all;
+      outside = λ name options asked lacking. inr all;
+      absent = λ name options asked lacks. inr all;
+      unopened = λ name options error asked has why. inr all;
+    }
 
 pub complete_failed : (words : List (List ℕ)) (old new : World) (mid : ℕ) → old.streams.errors_faults ≤ mid → HasRisen mid new.streams.errors_faults → Complete words old new outcome.ErrorsFault
 complete_failed words old new mid counted rose =
-    record { of_go = go.complete_failed words old new mid counted rose; of_mean = mean.complete_failed words old new mid counted rose }
+    record {
+      of_go = go.complete_failed words old new mid counted rose;
+      of_run = run.complete_failed words old new mid counted rose;
+      of_mean = mean.complete_failed words old new mid counted rose;
+    }
 
--- what a text's output took, with the line after it or without
+-- what a text's output took, with the line after it or a front of the line
+tells-text : (inner result : Outcome) (words : List (List ℕ)) (old mid : World) (errors : Option (List ℕ)) (faults : ℕ) → Performs inner words old mid → AfterLine result inner mid.streams.errors errors → Tells words old (told mid errors faults) result
+tells-text inner result words old mid errors faults (inl misused) line = λ t asked. absurd (misused.none.text t asked)
+tells-text inner result words old mid errors faults (inr (inl went)) line = λ t asked. absurd (not_go words t went.name went.options asked went.asked)
+tells-text inner result words old mid errors faults (inr (inr (inl ran))) line = λ t asked. absurd (not_run words t ran.name ran.options asked ran.asked)
+tells-text inner result words old mid errors faults (inr (inr (inr (inl out)))) line = λ t asked. absurd (out.none t asked)
+tells-text inner result words old mid errors faults (inr (inr (inr (inr (inl shown))))) line = λ t asked. text.tells inner result words old mid errors faults t shown line asked
+tells-text inner result words old mid errors faults (inr (inr (inr (inr (inr meant))))) line = λ t asked. absurd (not_mean words t meant.name meant.turns asked meant.asked)
+
 pub tells_with_line : (result : Outcome) (words : List (List ℕ)) (old mid : World) (errors : Option (List ℕ)) (faults : ℕ) → Performs result words old mid → errors ≡ append_known mid.streams.errors (line_of result) → Tells words old (told mid errors faults) result
-tells_with_line result words old mid errors faults (inl misused) line = λ t asked. absurd (misused.none.text t asked)
-tells_with_line result words old mid errors faults (inr (inl went)) line = λ t asked. absurd (not_go words t went.name went.options asked went.asked)
-tells_with_line result words old mid errors faults (inr (inr (inl ran))) line = λ t asked. absurd (not_run words t ran.name ran.options asked ran.asked)
-tells_with_line result words old mid errors faults (inr (inr (inr (inl out)))) line = λ t asked. absurd (out.none t asked)
-tells_with_line result words old mid errors faults (inr (inr (inr (inr (inl shown))))) line = λ t asked. text.tells_with_line result words old mid errors faults t shown line asked
-tells_with_line result words old mid errors faults (inr (inr (inr (inr (inr meant))))) line = λ t asked. absurd (not_mean words t meant.name meant.turns asked meant.asked)
+tells_with_line result words old mid errors faults did line = tells-text result result words old mid errors faults did (inl (refl, line))
 
-pub tells_without_line : (inner : Outcome) (words : List (List ℕ)) (old mid : World) (errors : Option (List ℕ)) (faults : ℕ) → Performs inner words old mid → old.streams.errors_faults ≤ mid.streams.errors_faults → HasRisen mid.streams.errors_faults faults
-    → Tells words old (told mid errors faults) outcome.ErrorsFault
-tells_without_line inner words old mid errors faults (inl misused) counted rose = λ t asked. absurd (misused.none.text t asked)
-tells_without_line inner words old mid errors faults (inr (inl went)) counted rose = λ t asked. absurd (not_go words t went.name went.options asked went.asked)
-tells_without_line inner words old mid errors faults (inr (inr (inl ran))) counted rose = λ t asked. absurd (not_run words t ran.name ran.options asked ran.asked)
-tells_without_line inner words old mid errors faults (inr (inr (inr (inl out)))) counted rose = λ t asked. absurd (out.none t asked)
-tells_without_line inner words old mid errors faults (inr (inr (inr (inr (inl shown))))) counted rose = λ t asked.
-    text.tells_without_line inner words old mid errors faults t shown (go.still_rising old.streams.errors_faults mid.streams.errors_faults faults counted rose) asked
-tells_without_line inner words old mid errors faults (inr (inr (inr (inr (inr meant))))) counted rose = λ t asked. absurd (not_mean words t meant.name meant.turns asked meant.asked)
+pub tells_without_line : (inner : Outcome) (words : List (List ℕ)) (old mid : World) (errors : Option (List ℕ)) (faults : ℕ) → Performs inner words old mid → TakesPrefix mid.streams.errors errors (line_of inner) → Tells words old (told mid errors faults) outcome.ErrorsFault
+tells_without_line inner words old mid errors faults did front = tells-text inner outcome.ErrorsFault words old mid errors faults did (inr (refl, front))

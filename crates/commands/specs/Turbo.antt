@@ -16,6 +16,7 @@ use Rattle.literal_programs.specs.Agrees.{Agrees}
 use Rattle.dos_runner.specs.declared.runner.RunEnd.{RunEnd}
 use Rattle.dos_runner.specs.Outside.{Outside}
 use Rattle.opened_program.specs.declared.error.OpenError.{OpenError}
+use Rattle.overlay_runner.specs.declared.runner.Runner.{Runner}
 use Rattle.opened_program.specs.Opening.{HasReason}
 use Rattle.commands.specs.declared.names.FileKind.TheVariants.{Source, Executable}
 use Rattle.command_line.specs.declared.command.RunOptions.{RunOptions}
@@ -30,9 +31,9 @@ use Rattle.command_line.specs.Words.{IsGo, IsRun, IsMean}
 use Rattle.commands.specs.World.{World, Holds, Lacks}
 use Rattle.commands.specs.Go.{IsOfOtherForm, IsBuiltFrom, IsNotBuilt, HasNoRun, RanBuilt}
 use Rattle.commands.specs.Mean.{turns_of, sinks_of}
-use Rattle.commands.specs.Performs.{NamesNone}
+use Rattle.commands.specs.Performs.{NamesNone, Shown}
 use Rattle.commands.specs.Texts.{IsTextOf}
-use Rattle.commands.specs.Run.{refused_as, limit_of, HasNoStart, IsUnopened, RunsFrom}
+use Rattle.commands.specs.Run.{refused_as, limit_of, HasNoStart, IsUnopened, BeginsNamed, RunsFrom}
 use Rattle.commands.specs.Ending.{outcome_of}
 
 -- Outcomes with which the executable has been written and run.
@@ -76,11 +77,6 @@ IsFaultOrNoMemory outcome.ErrorsFault old new = HasRisen old.streams.errors_faul
 IsFaultOrNoMemory outcome.FilesFault old new = HasRisen old.files_faults new.files_faults
 IsFaultOrNoMemory outcome.NoMemory old new = Unit {0}
 IsFaultOrNoMemory other old new = ⊥
-
--- Only faults.
-abbrev pub IsFault : Outcome → World → World → Type 0
-IsFault outcome.NoMemory old new = ⊥
-IsFault result old new = IsFaultOrNoMemory result old new
 
 -- The files hold a program of this name, and each that they hold is of the literal form.
 pub record HoldsLiteral (held : Folder) (name : List ℕ) : Type 0 where
@@ -157,9 +153,21 @@ abbrev pub MeanComplete : List (List ℕ) → World → World → Outcome → Ty
 MeanComplete words old new result = (name : List ℕ) (turns : Option ℕ) → IsMean words name turns
     → IfSome old.folder (λ held. IsMeanEnd held name turns result old.streams.input new.streams.input ⊎ IsFaultOrNoMemory result old new)
 
+-- How `run` ends: as the run of the program that the files hold does; or refused, for a cause that they give, and then no run begins with
+-- them.
+abbrev pub IsRunEnd : Folder → List ℕ → RunOptions → Outcome → Outside → Type 0
+IsRunEnd held name options (outcome.Refused r) o = HasNoStart held (outcome.Refused r) name options.buffer × ((runner : Runner) → BeginsNamed held name options.buffer runner → ⊥)
+IsRunEnd held name options result o = (end : RunEnd) × (o' : Outside) × (result ≡ outcome_of end) × RunsFrom held end name options o o'
+
+-- It ends so, or there was a fault of the object that is named, or no memory.
+abbrev pub RunComplete : List (List ℕ) → World → World → Outcome → Type 0
+RunComplete words old new result =
+    (name : List ℕ) (options : RunOptions) → IsRun words name options → IfSome old.folder (λ held. IsRunEnd held name options result old.streams ⊎ IsFaultOrNoMemory result old new)
+
 -- How commands end that need a program.
 pub record Complete (words : List (List ℕ)) (old new : World) (result : Outcome) : Type 0 where
   pub of_go : GoComplete words old new result
+  pub of_run : RunComplete words old new result
   pub of_mean : MeanComplete words old new result
 
 -- So has each refusal of `mean`.
@@ -182,9 +190,24 @@ abbrev pub IsOutside : Option Folder → List ℕ → Refusal → Type 0
 IsOutside None name r = ⊥
 IsOutside (Some held) name r = FoundNone held name (outcome.Refused r) ⊎ IsOfOtherForm held name r
 
+-- The last line was written, which an outcome is due, or the errors took a front of it and failed.
+abbrev pub AfterLine : Outcome → Outcome → Option (List ℕ) → Option (List ℕ) → Type 0
+AfterLine result inner before after =
+    ((result ≡ inner) × (after ≡ append_known before (line_of inner))) ⊎ ((result ≡ outcome.ErrorsFault) × TakesPrefix before after (line_of inner))
+
+-- What comes of words that ask for nothing: they are refused, or memory ran out before they were read; then came the line. No file changed,
+-- and nothing was read or written besides.
+pub record Misuses (old new : World) (result : Outcome) : Type 0 where
+  pub inner : Outcome
+  pub is : (inner ≡ outcome.Refused refusal.Usage) ⊎ (inner ≡ outcome.NoMemory)
+  pub line : AfterLine result inner old.streams.errors new.streams.errors
+  pub folder : new.folder ≡ old.folder
+  pub input : new.streams.input ≡ old.streams.input
+  pub output : new.streams.output ≡ old.streams.output
+
 -- Each cause gives its refusal, or there was a fault of the object that is named, or no memory.
 pub record Refuses (words : List (List ℕ)) (old new : World) (result : Outcome) : Type 0 where
-  pub usage : NamesNone words → (result ≡ outcome.Refused refusal.Usage) ⊎ IsFaultOrNoMemory result old new
+  pub usage : NamesNone words → Misuses old new result
   pub missing : (name : List ℕ) (options : RunOptions) → IsGo words name options → Lacks old.folder (file_of name Source) →
       (result ≡ outcome.Refused (refusal.MissingFile (file_of name Source))) ⊎ IsFaultOrNoMemory result old new
   pub outside : (name : List ℕ) (options : RunOptions) → IsGo words name options → HoldsNoLiteral old.folder name →
@@ -193,11 +216,6 @@ pub record Refuses (words : List (List ℕ)) (old new : World) (result : Outcome
       (result ≡ outcome.Refused (refusal.MissingFile (file_of name Executable))) ⊎ IsFaultOrNoMemory result old new
   pub unopened : (name : List ℕ) (options : RunOptions) (error : OpenError) → IsRun words name options → HasReason error → IsUnopened old.folder name options.buffer error →
       (result ≡ refused_as error) ⊎ IsFaultOrNoMemory result old new
-
--- The last line was written, which an outcome is due, or the errors took a front of it and failed.
-abbrev pub AfterLine : Outcome → Outcome → Option (List ℕ) → Option (List ℕ) → Type 0
-AfterLine result inner before after =
-    ((result ≡ inner) × (after ≡ append_known before (line_of inner))) ⊎ ((result ≡ outcome.ErrorsFault) × TakesPrefix before after (line_of inner))
 
 -- the streams before the last line
 abbrev pub streams_before : World → Option (List ℕ) → ℕ → Outside
@@ -297,10 +315,12 @@ pub record Leaves (words : List (List ℕ)) (old new : World) : Type 0 where
 abbrev pub FilesAfter : List (List ℕ) → World → World → Type 0
 FilesAfter words old new = (new.folder ≡ old.folder) ⊎ Leaves words old new
 
--- The output took just a text, or the first of it where there was a fault of the object that is named. No file changed, and nothing
--- was read.
+-- The output took just a text, or the first of it and failed; then came the line, which is none where it didn't fail. No file changed, and
+-- nothing was read.
 pub record Told (text : List ℕ) (old new : World) (result : Outcome) : Type 0 where
-  pub ended : ((result ≡ outcome.Done) × (new.streams.output ≡ append_known old.streams.output text) × (new.streams.errors ≡ old.streams.errors)) ⊎ IsFault result old new
+  pub inner : Outcome
+  pub shown : Shown inner text old.streams.output new.streams.output old.streams.output_faults new.streams.output_faults
+  pub line : AfterLine result inner old.streams.errors new.streams.errors
   pub front : TakesPrefix old.streams.output new.streams.output text
   pub folder : new.folder ≡ old.folder
   pub input : new.streams.input ≡ old.streams.input

@@ -86,15 +86,15 @@ returns-in-Ok-clause-refuses g c =
     let words : List (List ℕ) = map string_bytes c.args.words.now in
     let old : World = world (g.F.Files.folder c.args.files.now) (g.F.Files.faults c.args.files.now) (g.S.Source.remaining c.args.input.now) (g.K.Sink.contents c.args.output.now) (g.E.Sink.contents c.args.errors.now) (g.S.Source.faults c.args.input.now) (g.K.Sink.faults c.args.output.now) (g.E.Sink.faults c.args.errors.now) in
     let mid : World = world (g.F.Files.folder c.perform-outcome.new.files) (g.F.Files.faults c.perform-outcome.new.files) (g.S.Source.remaining c.perform-outcome.new.input) (g.K.Sink.contents c.perform-outcome.new.output) (g.E.Sink.contents c.perform-outcome.new.errors) (g.S.Source.faults c.perform-outcome.new.input) (g.K.Sink.faults c.perform-outcome.new.output) (g.E.Sink.faults c.perform-outcome.new.errors) in
-    laws.causes c.perform-outcome.result words old mid (g.E.Sink.contents c.write_line.new.errors) (g.E.Sink.faults c.write_line.new.errors) c.perform-outcome.ensures.performs
+    laws.causes c.perform-outcome.result words old mid (g.E.Sink.contents c.write_line.new.errors) (g.E.Sink.faults c.write_line.new.errors) c.perform-outcome.ensures.performs c.in-Ok.ensures.written
 
 pub returns-in-Err-clause-refuses : goal.returns-in-Err-clause-refuses
 returns-in-Err-clause-refuses g c =
     let words : List (List ℕ) = map string_bytes c.args.words.now in
     let old : World = world (g.F.Files.folder c.args.files.now) (g.F.Files.faults c.args.files.now) (g.S.Source.remaining c.args.input.now) (g.K.Sink.contents c.args.output.now) (g.E.Sink.contents c.args.errors.now) (g.S.Source.faults c.args.input.now) (g.K.Sink.faults c.args.output.now) (g.E.Sink.faults c.args.errors.now) in
     let mid : World = world (g.F.Files.folder c.perform-outcome.new.files) (g.F.Files.faults c.perform-outcome.new.files) (g.S.Source.remaining c.perform-outcome.new.input) (g.K.Sink.contents c.perform-outcome.new.output) (g.E.Sink.contents c.perform-outcome.new.errors) (g.S.Source.faults c.perform-outcome.new.input) (g.K.Sink.faults c.perform-outcome.new.output) (g.E.Sink.faults c.perform-outcome.new.errors) in
-    let new : World = world (g.F.Files.folder c.perform-outcome.new.files) (g.F.Files.faults c.perform-outcome.new.files) (g.S.Source.remaining c.perform-outcome.new.input) (g.K.Sink.contents c.perform-outcome.new.output) (g.E.Sink.contents c.write_line.new.errors) (g.S.Source.faults c.perform-outcome.new.input) (g.K.Sink.faults c.perform-outcome.new.output) (g.E.Sink.faults c.write_line.new.errors) in
-    laws.line_failed words old new (g.E.Sink.faults c.perform-outcome.new.errors) c.perform-outcome.ensures.errors_counted c.in-Err.ensures.failed
+    laws.line_failed c.perform-outcome.result words old mid (g.E.Sink.contents c.write_line.new.errors) (g.E.Sink.faults c.write_line.new.errors) c.perform-outcome.ensures.performs c.write_line.ensures.prefix c.perform-outcome.ensures.errors_counted
+    c.in-Err.ensures.failed
 
 pub returns-in-Err-clause-complete : goal.returns-in-Err-clause-complete
 returns-in-Err-clause-complete g c =
@@ -144,7 +144,7 @@ returns-in-Err-clause-told g c =
     let words : List (List ℕ) = map string_bytes c.args.words.now in
     let old : World = world (g.F.Files.folder c.args.files.now) (g.F.Files.faults c.args.files.now) (g.S.Source.remaining c.args.input.now) (g.K.Sink.contents c.args.output.now) (g.E.Sink.contents c.args.errors.now) (g.S.Source.faults c.args.input.now) (g.K.Sink.faults c.args.output.now) (g.E.Sink.faults c.args.errors.now) in
     let mid : World = world (g.F.Files.folder c.perform-outcome.new.files) (g.F.Files.faults c.perform-outcome.new.files) (g.S.Source.remaining c.perform-outcome.new.input) (g.K.Sink.contents c.perform-outcome.new.output) (g.E.Sink.contents c.perform-outcome.new.errors) (g.S.Source.faults c.perform-outcome.new.input) (g.K.Sink.faults c.perform-outcome.new.output) (g.E.Sink.faults c.perform-outcome.new.errors) in
-    laws.tells_without_line c.perform-outcome.result words old mid (g.E.Sink.contents c.write_line.new.errors) (g.E.Sink.faults c.write_line.new.errors) c.perform-outcome.ensures.performs c.perform-outcome.ensures.errors_counted c.in-Err.ensures.failed
+    laws.tells_without_line c.perform-outcome.result words old mid (g.E.Sink.contents c.write_line.new.errors) (g.E.Sink.faults c.write_line.new.errors) c.perform-outcome.ensures.performs c.write_line.ensures.prefix
 
 pub returns-in-Ok-clause-went : goal.returns-in-Ok-clause-went
 returns-in-Ok-clause-went g c =
