@@ -2,3 +2,4 @@ pub mod Merged
 pub mod Entries
 pub mod Brought
 pub mod Further
+pub mod Own

@@ -1,9 +1,12 @@
 -- When what an interface tells is what a scope knows of it.
-use Rattle.std.specs.Prelude.{◌≡◌, ℕ, true, List, Some, slice_get}
+use Rattle.std.specs.Prelude.{◌≡◌, ℕ, true, All, List, Some, map, slice_get}
 use Rattle.type_layout.specs.declared.definitions.Origin.{Origin}
 use Rattle.scopes.specs.Environment.{Environment}
 use Rattle.unit_interface.specs.declared.interfaces.Interface.{Interface}
-use Rattle.unit_interface.specs.Merge.{key_of, is_new, merged, ids_in, with_interface}
+use Rattle.unit_interface.specs.Exports.{renumbered_item}
+use Rattle.unit_interface.specs.Merge.{key_of, is_new, merged, ids_in, with_types, with_interface}
+use Rattle.routines.specs.Drafts.{Numbered, Drafted}
+use Rattle.tp_check_decl.specs.Interfaces.{items_of}
 use Rattle.shown_constants.specs.Agreed.{AreConstantsIn}
 
 -- It is that of another unit than the one which is read, no type that is new in the scope is of the unit which is read, and its
@@ -13,3 +16,11 @@ pub record IsFaithful (name : List ℕ) (g : Environment) (i : Interface) : Type
   pub foreign : (number : ℕ) (origin : Origin) → slice_get i.types.origins number ≡ Some origin → is_new (ids_in g.types i.types) (merged i.types (ids_in g.types i.types) g.types number) number ≡ true
       → (key_of i.types.units origin).unit ≡ name → ⊥
   pub constants : AreConstantsIn (with_interface g i).types.types (ids_in g.types i.types) i.items
+
+-- It is that of the unit which is read: its types are all in the scope, its items are, by the ids that these types have there, what the
+-- block of the unit shows, and the unit's routines are far.
+pub record IsOwn (name : List ℕ) (d : Drafted) (i : Interface) : Type 0 where
+  pub own : i.name ≡ name
+  pub types : with_types d.scope.types i.types ≡ d.scope.types
+  pub items : map (renumbered_item (ids_in d.scope.types i.types)) i.items ≡ items_of d.scope
+  pub far : All (λ (one : Numbered). one.first.far ≡ true) d.routines

@@ -16,7 +16,7 @@ use Rattle.checked_routines.specs.Reading.{IsTabled, IsRead}
 use Rattle.checked_routines.specs.Rooms.{HasRoom}
 use Rattle.checked_units.specs.Begun.{IsJoined}
 use Rattle.checked_units.specs.Bringing.{Brings}
-use Rattle.brought_interfaces.specs.Faithful.{IsFaithful}
+use Rattle.brought_interfaces.specs.Faithful.{IsFaithful, IsOwn}
 
 -- into a scope that has all that it names
 abbrev pub InterfaceLaw : Type 0
@@ -27,3 +27,8 @@ InterfaceLaw = (name : List ℕ) (g : Environment) (i : Interface) (s : Scope) �
 abbrev pub FurtherLaw : Type 0
 FurtherLaw = (name : List ℕ) (have : List Interface) (one : Identifier) (i : Interface) → is_overlay one.name ≡ false → interface_named have one.name ≡ Some i → IsClosedInterface i
     → (d : Drafted) (h : Environment) → IsRead d [] → slice_get d.scope.units 0 ≡ Some name → IsFaithful name d.scope i → (further_used have d.scope one).holds h → HasRoom (knowing d h) → IsJoined d (knowing d h)
+
+-- So does the unit's own interface, where the unit uses itself behind its interface part.
+abbrev pub OwnLaw : Type 0
+OwnLaw = (name : List ℕ) (have : List Interface) (one : Identifier) (i : Interface) → is_overlay one.name ≡ false → interface_named have one.name ≡ Some i
+    → (d : Drafted) (h : Environment) → IsRead d [] → slice_get d.scope.units 0 ≡ Some name → IsOwn name d i → (further_used have d.scope one).holds h → IsJoined d (knowing d h)

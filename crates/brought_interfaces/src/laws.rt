@@ -1,6 +1,6 @@
 //! The laws on what used units bring into a scope.
 
-ghost use Rattle.brought_interfaces.specs.Laws.{InterfaceLaw, FurtherLaw};
+ghost use Rattle.brought_interfaces.specs.Laws.{InterfaceLaw, FurtherLaw, OwnLaw};
 
 use closed_scopes::scope_laws;
 use constant_values::constant_value_law;
@@ -17,5 +17,12 @@ pub fn further_use_law()
     ensures { FurtherLaw }
 {
     scope_laws();
+    constant_value_law();
+}
+
+/// So does the unit's own interface, where the unit uses itself there: it brings nothing new.
+pub fn own_use_law()
+    ensures { OwnLaw }
+{
     constant_value_law();
 }

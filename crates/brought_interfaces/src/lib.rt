@@ -3,4 +3,4 @@
 
 mod laws;
 
-pub use laws::{further_use_law, interface_law};
+pub use laws::{further_use_law, interface_law, own_use_law};

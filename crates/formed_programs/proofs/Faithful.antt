@@ -1,5 +1,5 @@
 -- A told interface is faithful in a told scope.
-use Rattle.std.proofs.Common.{◌≡◌, ◌∙◌, ℕ, ◌+◌, ◌<◌, ◌≤◌, true, false, not, List, length, take, Option, Some, get_or, refl, arith, ap, subst}
+use Rattle.std.proofs.Common.{◌≡◌, ◌∙◌, ℕ, zero, suc, ◌+◌, ◌<◌, ◌≤◌, Bool, true, false, not, cond, List, length, take, Option, Some, get_or, refl, arith, ap, subst}
 use Rattle.std.specs.Prelude.{slice_get}
 use Rattle.std.proofs.lemmas.Bool.{lt-ltb}
 use Rattle.std.proofs.lemmas.Option.{slice_get_within}
@@ -13,7 +13,7 @@ use Rattle.scopes.specs.Environment.{Environment}
 use Rattle.scopes.specs.Predeclared.{type_table, type_id}
 use Rattle.unit_interface.specs.declared.keys.Key.{Key}
 use Rattle.unit_interface.specs.declared.interfaces.Interface.{Interface}
-use Rattle.unit_interface.specs.Merge.{key_of, keys_of, ids_in, new_id, is_new, merged}
+use Rattle.unit_interface.specs.Merge.{key_of, keys_of, ids_in, new_id, is_new, with_listed, merged, with_types}
 use Rattle.unit_interface.specs.Exports.{with_type, is_in, kept_before, new_ids, IsInterfaceOf}
 use Rattle.unit_interface.specs.Keyed.{IsKeyed}
 use Rattle.unit_interface.proofs.KeyLaws.{AreApart, known_after, id-at, key_at, count_of, merged_so}
@@ -59,6 +59,10 @@ whole_of table closed = record {
       all.0;
 }
 
+unless_true : (b : Bool) → (b ≡ true → ⊥) → b ≡ false
+unless_true true none = absurd (none refl)
+unless_true false none = refl
+
 -- the id of a type whose key a table knows
 known_id : (table other : Table) → IsKeyed table → (number place : ℕ) (key : Key) (d : TypeId) → number ≤ length other.types → slice_get (keys_of other) number ≡ Some key
     → slice_get (keys_of table) place ≡ Some key → (get_or (ids_in table other) number d).0 ≡ place
@@ -89,26 +93,46 @@ module _ (have : List Interface) (homes : AreClosedHomes have) (g : Environment)
       let bad : ⊥ = cc in
       bad
 
-  module _ (system : HasSystem g.types) (u : IsOfUnit i) where
-    abbrev kids : List TypeId
-    kids = new_ids u.shows.reached (length u.unit.types.types)
+  -- so the scope stays as it is where it knows them all
+  module _ (all : (number : ℕ) (key : Key) → slice_get (keys_of i.types) number ≡ Some key → Stands (keys_of g.types) key) where
+    first_same : (number : ℕ) → number ≤ length i.types.types → merged i.types ids g.types number ≡ g.types
+    first_same zero low = refl
+    first_same (suc number) low =
+        let k = key_there i.types number (omega (arith, low, count_of i.types own.told.keyed)) in
+        let now : Table = merged i.types ids g.types number in
+        let old : is_new ids now number ≡ false = unless_true (is_new ids now number) (λ new. not_new number k.0 k.1 (all number k.0 k.1) new) in
+        ap (λ (b : Bool). cond b (with_listed ids now i.types.units (slice_get i.types.types number) (slice_get i.types.origins number)) now) old
+        ∙ first_same number (omega (arith, low))
 
+    pub types_same : with_types g.types i.types ≡ g.types
+    types_same = first_same (length i.types.types) (omega arith)
+
+  module _ (unit : typed.Unit) (shows : IsInterfaceOf unit i) where
+    abbrev pub kids : List TypeId
+    kids = new_ids shows.reached (length unit.types.types)
+
+    -- a type of the unit that is shown has its own id, where the scope has it at its place
+    pub kept_id : IsKeyed unit.types → (number : ℕ) (key : Key) → slice_get (keys_of unit.types) number ≡ Some key → slice_get (keys_of g.types) number ≡ Some key → is_in shows.reached number ≡ true
+        → twice ids kids (type_id number) ≡ type_id number
+    kept_id keyed number key there here reached =
+        let within : number < length unit.types.types = omega (arith, slice_get_within (keys_of unit.types) number key there, count_of unit.types keyed) in
+        let q : TypeId = new_id kids (type_id number) in
+        let at : ℕ = kept_before shows.reached number in
+        let place : q.0 ≡ at = new_id_is shows.reached (length unit.types.types) number (type_id number) within in
+        let kept : slice_get (keys_of i.types) at ≡ Some key = kept_key unit i shows keyed number key reached there in
+        let id : (get_or ids at q).0 ≡ number =
+        known_id g.types i.types h.told.keyed at number key q (let l = low_key at key kept in omega (arith, l)) kept here in
+        same_id (new_id ids q) (type_id number) (ap (λ (m : ℕ). (get_or ids m q).0) place ∙ id)
+
+  module _ (system : HasSystem g.types) (u : IsOfUnit i) where
     -- a predeclared type that is reached has its own id
-    fixed_at : (n : ℕ) → n < 11 → is_in u.shows.reached n ≡ true → twice ids kids (type_id n) ≡ type_id n
+    fixed_at : (n : ℕ) → n < 11 → is_in u.shows.reached n ≡ true → twice ids (kids u.unit u.shows) (type_id n) ≡ type_id n
     fixed_at n low reached =
         let eleven : length (keys_of type_table) ≡ 11 = refl in
         let k = key_there type_table n (omega (arith, low, eleven)) in
-        let key : Key = k.0 in
-        let there = u.system n key k.1 in
-        let within : n < length u.unit.types.types = omega (arith, slice_get_within (keys_of u.unit.types) n key there, count_of u.unit.types u.keyed) in
-        let q : TypeId = new_id kids (type_id n) in
-        let place : q.0 ≡ kept_before u.shows.reached n = new_id_is u.shows.reached (length u.unit.types.types) n (type_id n) within in
-        let kept : slice_get (keys_of i.types) (kept_before u.shows.reached n) ≡ Some key = kept_key u.unit i u.shows u.keyed n key reached there in
-        let id : (get_or ids (kept_before u.shows.reached n) q).0 ≡ n =
-        known_id g.types i.types h.told.keyed (kept_before u.shows.reached n) n key q (let l = low_key (kept_before u.shows.reached n) key kept in omega (arith, l)) kept (system n key k.1) in
-        same_id (new_id ids q) (type_id n) (ap (λ (m : ℕ). (get_or ids m q).0) place ∙ id)
+        kept_id u.unit u.shows u.keyed n k.0 (u.system n k.0 k.1) (system n k.0 k.1) reached
 
-    fixed : AreFixed u.shows.reached ids kids
+    fixed : AreFixed u.shows.reached ids (kids u.unit u.shows)
     fixed = record {
       byte = λ reached. fixed_at 1 (omega arith) reached;
       chars = λ reached. fixed_at 5 (omega arith) reached;

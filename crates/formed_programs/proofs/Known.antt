@@ -1,5 +1,5 @@
 -- The units of a program are well formed, where what they show of one another is told.
-use Rattle.std.proofs.Common.{◌≡◌, ◌∙◌, ℕ, Bool, true, false, cond, List, [], ◌∷◌, Option, Some, None, refl, sym, ap, subst}
+use Rattle.std.proofs.Common.{◌≡◌, ◌∙◌, ℕ, Bool, true, false, cond, List, [], ◌∷◌, length, Option, Some, None, refl, sym, ap, subst}
 use Rattle.std.specs.Prelude.{slice_get, is_some, drop}
 use Rattle.std.proofs.lemmas.Option.{same_Some}
 use Rattle.type_layout.specs.declared.definitions.TypeDef.{TypeDef}
@@ -8,7 +8,6 @@ use Rattle.type_layout.specs.Table.{Table}
 use Rattle.syntax_tree.specs.declared.identifier.Identifier.{Identifier}
 use Rattle.source_tree.specs.declared.source.Tree.{Tree}
 use Rattle.source_tree.specs.declared.source.Tree.TheVariants as t
-use Rattle.source_tree.specs.Sources.{used}
 use Rattle.source_gathering.specs.declared.sources.Source.{Source}
 use Rattle.typed_tree.specs.declared.units.Unit as typed
 use Rattle.well_formed.specs.WellFormed.{IsWellFormed}
@@ -17,14 +16,15 @@ use Rattle.scopes.specs.Predeclared.{system, type_table, first}
 use Rattle.unit_interface.specs.declared.keys.Key.{Key}
 use Rattle.unit_interface.specs.declared.interfaces.Interface.{Interface}
 use Rattle.unit_interface.specs.Merge.{keys_of, with_interface}
-use Rattle.unit_interface.specs.Resolve.{overlay, is_overlay, interface_named, with_overlay, with_found, with_use, with_uses}
+use Rattle.unit_interface.specs.Exports.{in_items, IsInterfaceOf}
+use Rattle.unit_interface.specs.Resolve.{is_overlay, interface_named, with_overlay, with_found, with_use, with_uses}
 use Rattle.typing_rules.proofs.JudgementLaws.{exact}
 use Rattle.source_order.specs.Orders.{names_of}
 use Rattle.routines.specs.Drafts.{Drafted, knowing}
 use Rattle.tp_check_decl.specs.Units.{Whole, whole, view_unit}
 use Rattle.tp_check_decl.specs.Programs.{empty_draft}
 use Rattle.tp_check_decl.specs.Interfaces.{items_of, unit_front, interface_judged, further_used}
-use Rattle.tp_check_decl.specs.Shown.{outlined, with_nothing_else, Shows, IsShownAs}
+use Rattle.tp_check_decl.specs.Shown.{outlined, with_nothing_else, Shows}
 use Rattle.tp_check_decl.specs.Checked.{IsTypedAs}
 use Rattle.tp_check_decl.proofs.CheckLaws.{lawful_outlined}
 use Rattle.source_interfaces.specs.Scopes.{outer_units, outer_scope}
@@ -37,31 +37,34 @@ use Rattle.checked_routines.specs.Reading.{scope_of, IsRead}
 use Rattle.checked_routines.specs.Rooms.{HasRoom}
 use Rattle.checked_routines.proofs.Steps.{extends_itself}
 use Rattle.checked_parts.specs.Laws.{PartLaw}
-use Rattle.checked_units.specs.Begun.{IsBegun, IsJoined, EachUse, further_uses, UsesKeep, FurtherKeep, IsRoomy}
+use Rattle.checked_units.specs.Begun.{IsBegun, IsJoined, UsesKeep, FurtherKeep, IsRoomy}
 use Rattle.checked_units.specs.Laws.{SourceLaw, UsedLaw}
 use Rattle.checked_units.proofs.Overlay.{overlay_brings}
 use Rattle.checked_units.proofs.Used.{uses_more}
 use Rattle.checked_units.proofs.Uses.{overlay_joins}
 use Rattle.shown_constants.specs.Laws.{ShownConstants}
 use Rattle.brought_interfaces.specs.Faithful.{IsFaithful}
-use Rattle.brought_interfaces.specs.Laws.{InterfaceLaw, FurtherLaw}
+use Rattle.brought_interfaces.specs.Laws.{InterfaceLaw, FurtherLaw, OwnLaw}
 use Rattle.interface_laws.proofs.AgreementLaws.{interface_grows}
 use Rattle.program_laws.specs.Closing.{AreInOrder}
-use Rattle.program_laws.proofs.Sources.{named_by, shown_some}
+use Rattle.program_laws.proofs.Sources.{named_by, shown_some, same_name}
 use Rattle.program_laws.proofs.Depth.{IsOf, IsUse, AreUses, Inherits, of_source, inherited, all_inherited}
 use Rattle.program_laws.proofs.Closing.{new_of}
 use Rattle.told_types.specs.Told.{home_of, Stands, AreClosedHomes, IsTold, IsToldInterface}
-use Rattle.told_types.proofs.Shown.{shown_key}
+use Rattle.closed_constants.specs.Bounds.{AreBelow}
+use Rattle.closed_tables.specs.Tables.{StayClosed}
 use Rattle.told_interfaces.proofs.Declaring.{paired_of, keys_stay}
 use Rattle.told_interfaces.proofs.Inherited.{own_home, comes, homes, each_told, told_behind, told_within}
 use Rattle.told_interfaces.proofs.Origins.{AreForeignUses, uses_foreign}
 use Rattle.fitting_types.specs.Fits.{IsToldScope, IsToldUse}
 use Rattle.fitting_types.proofs.Uses.{types_told, used_told, first_scope}
-use Rattle.formed_programs.specs.Laws.{IsApart, IsWritten}
 use Rattle.formed_programs.proofs.Faithful.{Stay, HasSystem, IsOfUnit, faithful}
-use Rattle.formed_programs.proofs.Tables.{not_same, stay_on, use_stays}
+use Rattle.formed_programs.proofs.Tables.{not_same, stay_on, use_stays, use_items}
 use Rattle.formed_programs.proofs.Beginnings.{IsBeginning, begins, read_complete}
-use Rattle.formed_programs.proofs.Rooms.{AreOther, outer_other, further_apart, typed_fit}
+use Rattle.formed_programs.proofs.Rooms.{typed_fit}
+use Rattle.formed_programs.proofs.Names.{IsWritten, differ, AreOther, outer_other}
+use Rattle.formed_programs.proofs.Far.{interface_far}
+use Rattle.formed_programs.proofs.Own.{IsBehind, own_stands, is_own}
 
 -- the laws that these rest on
 pub record Laws : Type 0 where
@@ -71,7 +74,9 @@ pub record Laws : Type 0 where
   pub used : UsedLaw
   pub brings : InterfaceLaw
   pub further : FurtherLaw
+  pub own : OwnLaw
   pub shown : ShownConstants
+  pub tables : StayClosed
 
 -- the unit of a source, of which 32 bits hold all numbers
 pub record IsTyped (have : List Interface) (s : Source) : Type 0 where
@@ -164,7 +169,7 @@ module _ (laws : Laws) (sources : List Source) (have : List Interface) (o : AreI
 
     outer_begun : (k : IsTyped have s) → AreUses IsOfUnit have (names_of (outer_units s)) → IsBegun s.name (outer_scope have s)
     outer_begun k uses =
-        uses_begun (first s.name) (names_of (outer_units s)) (laws.used s.name).alone (first_so s.name) uses foreign (outer_other s own.apart)
+        uses_begun (first s.name) (names_of (outer_units s)) (laws.used s.name).alone (first_so s.name) uses foreign (outer_other sources (new_of sources have o) o.acyclic place s at)
         (typed_fit s.name s.says (outer_scope have s) have s.tree k.unit k.is.typed k.room)
 
     -- ---- what the source shows
@@ -174,14 +179,19 @@ module _ (laws : Laws) (sources : List Source) (have : List Interface) (o : AreI
         let h = outer_so s in
         begins s.name (laws.parts s.name) s.says have (outer_scope have s) begun h.scope h.predeclared (λ after d. told_behind sources have o place s at no_system after d) s.tree k.unit k.is.typed own.written k.room
 
+    -- what a unit shows, its interface part shows
+    shown_by : (b : IsBeginning s.name s.says (outer_scope have s) s.tree) (i : Interface) (of : IsOf have s i) → (of.shows.unit ≡ b.unit) × Shows b.unit i
+    shown_by b i of =
+        let g = outer_scope have s in
+        let same : of.shows.unit ≡ b.unit = (exact (outlined s.name s.says g) (lawful_outlined s.name s.says g)).one s.tree of.shows.unit b.unit of.shows.holds b.holds in
+        (same, subst (λ (w : Whole). Shows w i) same of.shows.shows)
+
     of_unit : (k : IsTyped have s) (i : Interface) → IsBegun s.name (outer_scope have s) → IsOf have s i → IsOfUnit i
     of_unit k i begun of =
-        let g = outer_scope have s in
         let b = beginning k begun in
-        let same : of.shows.unit ≡ b.unit = (exact (outlined s.name s.says g) (lawful_outlined s.name s.says g)).one s.tree of.shows.unit b.unit of.shows.holds b.holds in
         record {
           unit = with_nothing_else b.unit;
-          shows = subst (λ (w : Whole). Shows w i) same of.shows.shows;
+          shows = (shown_by b i of).1;
           keyed = b.keyed;
           closed = b.closed;
           system = b.system;
@@ -200,21 +210,39 @@ module _ (laws : Laws) (sources : List Source) (have : List Interface) (o : AreI
     all_of_unit : (names : List (List ℕ)) → AreUses IsOfUnit have names
     all_of_unit names = all_inherited sources (new_of sources have o) have o.shown IsOfUnit inherits o.acyclic names
 
-    module _ (place : ℕ) (s : Source) (at : slice_get sources place ≡ Some s) (mine : Interface) (is_mine : interface_named have s.name ≡ Some mine) where
+    module _ (place : ℕ) (s : Source) (at : slice_get sources place ≡ Some s) (mine : Interface) (is_mine : interface_named have s.name ≡ Some mine)
+        (b : IsBeginning s.name s.says (outer_scope have s) s.tree) where
       abbrev name : List ℕ
       name = s.name
 
-      -- ---- units that come in behind the interface part
+      abbrev g : Environment
+      g = outer_scope have s
 
-      -- the unit's own types that others tell of stand in a table
-      abbrev HasOwn : Table → Type 0
-      HasOwn table = (key : Key) → Stands (keys_of mine.types) key → Stands (keys_of table) key
+      -- the unit behind its interface part
+      abbrev mid : typed.Unit
+      mid = with_nothing_else b.unit
+
+      of_mine : IsOf have s mine
+      of_mine = of_source sources (new_of sources have o) have o.shown place s mine at is_mine
+
+      shows_mine : IsInterfaceOf mid mine
+      shows_mine = (shown_by place s at b mine of_mine).1
+
+      mid_told : IsTold have b.unit.types
+      mid_told =
+          let own_told : IsTold have of_mine.shows.unit.types = told_within sources have o place s mine at (no_system place s at) is_mine of_mine in
+          subst (λ (w : Whole). IsTold have w.types) (shown_by place s at b mine of_mine).0 own_told
+
+      mid_items : AreBelow (length b.unit.types.types) (in_items b.unit.items)
+      mid_items = (laws.tables.outline name s.says g s.tree b.unit (outer_so s).scope.complete b.holds).items
+
+      -- ---- units that come in behind the interface part
 
       record IsMiddle (d : Drafted) : Type 0 where
         read : IsRead d []
         named : slice_get d.scope.units 0 ≡ Some name
         so : IsSo d.scope
-        own : HasOwn d.scope.types
+        behind : IsBehind mid d
 
       home_mine : home_of have name ≡ Some mine.types
       home_mine = own_home have name mine (no_system place s at) is_mine
@@ -224,85 +252,93 @@ module _ (laws : Laws) (sources : List Source) (have : List Interface) (o : AreI
       own_there d m i tells number key there is =
           let h = tells.at_home number key there in
           let same : h.home ≡ mine.types = same_Some h.home mine.types (sym h.is ∙ ap (home_of have) is ∙ home_mine) in
-          m.own key (subst (λ (table : Table). Stands (keys_of table) key) same h.stands)
+          let stands : Stands (keys_of mine.types) key = subst (λ (table : Table). Stands (keys_of table) key) same h.stands in
+          own_stands have whole_homes mid mine shows_mine b.keyed mid_items d m.behind stands.place key stands.at
 
-      found_joins : (d : Drafted) (e : Environment) (one : Identifier) → IsMiddle d → (one.name ≡ name → ⊥) → (further_used have d.scope one).holds e → HasRoom (knowing d e) → is_overlay one.name ≡ false
+      other_joins : (d : Drafted) (e : Environment) (one : Identifier) → IsMiddle d → (one.name ≡ name → ⊥) → (further_used have d.scope one).holds e → HasRoom (knowing d e) → is_overlay one.name ≡ false
           → (found : Option Interface) → interface_named have one.name ≡ found → e ≡ with_found d.scope found → IsJoined d (knowing d e)
-      found_joins d e one m other h room is None named same =
+      other_joins d e one m other h room is None found same =
           subst (λ (x : Environment). IsJoined d (knowing d x)) (sym same) (record { read = m.read; since = extends_itself (scope_of d []); named = refl })
-      found_joins d e one m other h room is (Some i) named same =
-          let tells = told one.name is i named in
-          let f = use_faithful place s at d.scope i m.so one.name is named (each_of_unit one.name is i named) other (own_there d m i tells) in
-          laws.further name have one i is named tells.closed d e m.read m.named f h room
+      other_joins d e one m other h room is (Some i) found same =
+          let tells = told one.name is i found in
+          let f = use_faithful place s at d.scope i m.so one.name is found (each_of_unit one.name is i found) other (own_there d m i tells) in
+          laws.further name have one i is found tells.closed d e m.read m.named f h room
 
-      joins : (d : Drafted) (e : Environment) (one : Identifier) → IsMiddle d → (one.name ≡ name → ⊥) → (further_used have d.scope one).holds e → HasRoom (knowing d e) → IsJoined d (knowing d e)
-      joins d e one m other h room = by (is_overlay one.name) refl
+      -- the unit itself
+      own_joins : (d : Drafted) (e : Environment) (one : Identifier) → IsMiddle d → one.name ≡ name → (further_used have d.scope one).holds e → is_overlay one.name ≡ false → IsJoined d (knowing d e)
+      own_joins d e one m same h is =
+          let found : interface_named have one.name ≡ Some mine = ap (interface_named have) same ∙ is_mine in
+          let tells = told one.name is mine found in
+          let own_one = is_own have whole_homes mid mine shows_mine b.keyed mid_items name d m.behind m.so.scope tells (found_name name mine is_mine) in
+          laws.own name have one mine is found d e m.read m.named own_one h
+
+      joins : (d : Drafted) (e : Environment) (one : Identifier) → IsMiddle d → (further_used have d.scope one).holds e → HasRoom (knowing d e) → IsJoined d (knowing d e)
+      joins d e one m h room = by (is_overlay one.name) refl (same_bytes one.name name) refl
         where
-          by : (b : Bool) → is_overlay one.name ≡ b → IsJoined d (knowing d e)
-          by true is = overlay_joins laws.stay name (written place s at).named.overlay have one is d e m.read m.named h
-          by false is =
-              found_joins d e one m other h room is (interface_named have one.name) refl
+          by : (b : Bool) → is_overlay one.name ≡ b → (c : Bool) → same_bytes one.name name ≡ c → IsJoined d (knowing d e)
+          by true is c own_name = overlay_joins laws.stay name (written place s at).named.overlay have one is d e m.read m.named h
+          by false is true own_name = own_joins d e one m (same_name one.name name own_name) h is
+          by false is false own_name =
+              other_joins d e one m (differ one.name name own_name) h room is (interface_named have one.name) refl
               (h.made ∙ ap (λ (b : Bool). cond b (with_overlay d.scope) (with_found d.scope (interface_named have one.name))) is)
 
       next_middle : (d : Drafted) (e : Environment) (one : Identifier) → IsMiddle d → e ≡ with_use have d.scope one.name → IsJoined d (knowing d e) → IsMiddle (knowing d e)
       next_middle d e one m same j =
-          let stays : Stay d.scope.types (with_use have d.scope one.name).types = use_stays have d.scope one.name m.so.scope.told.keyed (λ is i found. (told one.name is i found).told.keyed) in
+          let later : Environment = with_use have d.scope one.name in
+          let stays : Stay d.scope.types later.types = use_stays have d.scope one.name m.so.scope.told.keyed (λ is i found. (told one.name is i found).told.keyed) in
+          let types : Stay b.unit.types later.types = stay_on b.unit.types d.scope.types later.types m.behind.types stays in
           record {
             read = j.read;
             named = j.named ∙ m.named;
             so = subst IsSo (sym same) (use_so d.scope one.name m.so);
-            own = subst (λ (x : Environment). HasOwn x.types) (sym same) (λ key stands. (let there = m.own key stands in record { place = there.place; at = stays there.place key there.at }));
+            behind = record {
+              types = subst (λ (x : Environment). Stay b.unit.types x.types) (sym same) types;
+              items = ap items_of same ∙ use_items have d.scope one.name ∙ m.behind.items;
+              far = m.behind.far;
+            };
           }
 
-      uses_keep : (d : Drafted) (uses : List Identifier) → EachUse (IsApart name) uses → IsMiddle d → UsesKeep have d uses
-      uses_keep d [] apart m = tt
-      uses_keep d (one ∷ rest) apart m = λ e h room.
-          let j = joins d e one m apart.0 h room in
-          (j, uses_keep (knowing d e) rest apart.1 (next_middle d e one m h.made j))
+      uses_keep : (d : Drafted) (uses : List Identifier) → IsMiddle d → UsesKeep have d uses
+      uses_keep d [] m = tt
+      uses_keep d (one ∷ rest) m = λ e h room.
+          let j = joins d e one m h room in
+          (j, uses_keep (knowing d e) rest (next_middle d e one m h.made j))
 
       -- ---- behind the interface part
 
-      module _ (unit : typed.Unit) (is : IsUnitOf have s unit) where
-        abbrev g : Environment
-        g = outer_scope have s
+      middle : (front : _) (here : _) (own : Identifier) (uses : _) (outer : ℕ) (interface : _) (all : _) (body : _) → (outlined name s.says g (t.Unit here own uses outer interface all body)).holds b.unit
+          → (unit_front name s.says own uses.items).holds front → (d : Drafted) → (interface_judged name g interface.items).holds d → IsRead d [] → slice_get d.scope.units 0 ≡ Some name → IsMiddle d
+      middle front here own uses outer interface all body begins fronted d h r named =
+          let w : Whole = whole name front d.scope (items_of d.scope) d.globals [] None in
+          let tree : Tree = t.Unit here own uses outer interface all body in
+          let holds : (outlined name s.says g tree).holds w = record { part = front; holds = fronted; made = record { part = d; holds = h; made = refl } } in
+          let same : b.unit ≡ w = (exact (outlined name s.says g) (lawful_outlined name s.says g)).one tree b.unit w begins holds in
+          let scope = outer_so s in
+          let declares = (interface_grows name g interface.items d h).declares in
+          record {
+            read = r;
+            named = named;
+            so = record {
+              scope = record { told = subst (λ (x : Whole). IsTold have x.types) same mid_told; complete = read_complete d r };
+              predeclared = stay_on type_table g.types d.scope.types scope.predeclared (keys_stay name g.types d.scope.types (paired_of g.types scope.scope.told.keyed) declares);
+            };
+            behind = record {
+              types = subst (λ (x : Whole). Stay x.types d.scope.types) (sym same) (λ number key stands. stands);
+              items = ap (λ (x : Whole). x.items) (sym same);
+              far = interface_far name g interface.items d h;
+            };
+          }
 
-        middle : (front : _) (here : _) (own : Identifier) (uses : _) (outer : ℕ) (interface : _) (all : _) (body : _) → (shows : IsShownAs name s.says g (t.Unit here own uses outer interface all body) mine)
-            → IsTold have shows.unit.types → (unit_front name s.says own uses.items).holds front → (d : Drafted) → (interface_judged name g interface.items).holds d → IsRead d [] → slice_get d.scope.units 0 ≡ Some name → IsMiddle d
-        middle front here own uses outer interface all body shows within fronted d h r named =
-            let w : Whole = whole name front d.scope (items_of d.scope) d.globals [] None in
-            let tree : Tree = t.Unit here own uses outer interface all body in
-            let holds : (outlined name s.says g tree).holds w = record { part = front; holds = fronted; made = record { part = d; holds = h; made = refl } } in
-            let same : shows.unit ≡ w = (exact (outlined name s.says g) (lawful_outlined name s.says g)).one tree shows.unit w shows.holds holds in
-            let shown : Shows w mine = subst (λ (x : Whole). Shows x mine) same shows.shows in
-            let scope = outer_so s in
-            let declares = (interface_grows name g interface.items d h).declares in
-            let whole_told : IsTold have d.scope.types = subst (λ (x : Whole). IsTold have x.types) same within in
-            record {
-              read = r;
-              named = named;
-              so = record {
-                scope = record { told = whole_told; complete = read_complete d r };
-                predeclared = stay_on type_table g.types d.scope.types scope.predeclared (keys_stay name g.types d.scope.types (paired_of g.types scope.scope.told.keyed) declares);
-              };
-              own = λ key stands. shown_key (with_nothing_else w) mine shown whole_told.keyed stands.place key stands.at;
-            }
+      keeps : (tree : Tree) (unit : typed.Unit) → IsTypedAs name s.says g have tree (view_unit unit) → (outlined name s.says g tree).holds b.unit → FurtherKeep name g have tree
+      keeps (t.Program heading uses all body) unit j begins = tt
+      keeps (t.Unit here own uses outer interface all body) unit j begins = λ d h r named.
+          uses_keep d (drop outer uses.items) (middle j.part here own uses outer interface all body begins j.holds d h r named)
 
-        keeps : (tree : Tree) → IsTypedAs name s.says g have tree (view_unit unit) → (shows : IsShownAs name s.says g tree mine) → IsTold have shows.unit.types → EachUse (IsApart name) (further_uses tree)
-            → FurtherKeep name g have tree
-        keeps (t.Program heading uses all body) j shows within apart = tt
-        keeps (t.Unit here own uses outer interface all body) j shows within apart = λ d h r named.
-            uses_keep d (drop outer uses.items) apart (middle j.part here own uses outer interface all body shows within j.holds d h r named)
-
-        -- the unit is well formed
-        pub known_formed : IsRoomy unit → IsWellFormed unit
-        known_formed room =
-            let w = written place s at in
-            let of = of_source sources (new_of sources have o) have o.shown place s mine at is_mine in
-            let begun = outer_begun place s at (record { unit = unit; is = is; room = room }) (all_of_unit (names_of (outer_units s))) in
-            laws.source name s.says g have s.tree unit (keeps s.tree is.typed of.shows (told_within sources have o place s mine at (no_system place s at) is_mine of) (further_apart name s.tree w.apart)) begun w.written room is.typed
-
-    -- so is each typed unit of a source
+    -- so each typed unit of a source is well formed
     pub each_formed : (place : ℕ) (s : Source) → slice_get sources place ≡ Some s → (unit : typed.Unit) → IsUnitOf have s unit → IsRoomy unit → IsWellFormed unit
     each_formed place s at unit is room =
         let n = named_by (IsShownIn sources have) have s.name o.shown (shown_some have s.name (all place s at)) in
-        known_formed place s at n.interface n.found unit is room
+        let k : IsTyped have s = record { unit = unit; is = is; room = room } in
+        let begun = outer_begun place s at k (all_of_unit (names_of (outer_units s))) in
+        let further = keeps place s at n.interface n.found (beginning place s at k begun) s.tree unit is.typed (beginning place s at k begun).holds in
+        laws.source s.name s.says (outer_scope have s) have s.tree unit further begun (written place s at).written room is.typed

@@ -4,6 +4,9 @@ mod Faithful
 mod Constants
 mod Tables
 mod Rooms
+mod Names
 mod Beginnings
+mod Far
+mod Own
 mod Known
 mod Whole

@@ -9,6 +9,7 @@ use Rattle.unit_interface.specs.declared.interfaces.Interface.{Interface}
 use Rattle.unit_interface.specs.Keyed.{IsKeyed}
 use Rattle.unit_interface.specs.Resolve.{is_overlay, interface_named, with_overlay, with_found, with_use}
 use Rattle.type_denoters.specs.Additions.{count_of}
+use Rattle.tp_check_decl.specs.Interfaces.{items_of}
 use Rattle.interface_laws.specs.Declared.{with_declared, Declares}
 use Rattle.told_types.proofs.Arrived.{key_stays}
 use Rattle.formed_programs.proofs.Faithful.{Stay}
@@ -36,6 +37,15 @@ use_stays have g name keyed own = by (is_overlay name) refl (interface_named hav
     by true is found at = λ place key e. e
     by false is None at = λ place key e. e
     by false is (Some i) at = λ place key e. key_stays g.types i.types keyed (own is i at) place key e
+
+-- what the block of the unit shows stays
+pub use_items : (have : List Interface) (g : Environment) (name : List ℕ) → items_of (with_use have g name) ≡ items_of g
+use_items have g name = by (is_overlay name) (interface_named have name)
+  where
+    by : (b : Bool) (found : Option Interface) → items_of (cond b (with_overlay g) (with_found g found)) ≡ items_of g
+    by true found = refl
+    by false None = refl
+    by false (Some i) = refl
 
 -- ---- what a unit declares
 

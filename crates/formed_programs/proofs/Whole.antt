@@ -14,10 +14,11 @@ use Rattle.unit_interface.proofs.CircleLaws.{one_true}
 use Rattle.source_order.specs.Orders.{all_uses}
 use Rattle.source_order.proofs.Reached.{in_order as all_in_order}
 use Rattle.front_end.specs.Typed.{sources_at, IsUnitOf}
-use Rattle.checked_units.specs.Begun.{IsRoomy}
+use Rattle.checked_units.specs.Begun.{IsSource, IsRoomy}
 use Rattle.program_laws.specs.Closing.{AreInOrder}
-use Rattle.formed_programs.specs.Laws.{IsWritten, WholeLaw}
+use Rattle.formed_programs.specs.Laws.{WholeLaw}
 use Rattle.formed_programs.proofs.Alone.{at_place}
+use Rattle.formed_programs.proofs.Names.{IsWritten, kind_named}
 use Rattle.formed_programs.proofs.Known.{Laws, IsTyped, each_formed}
 
 module _ (have : List Interface) (sources : List Source) where
@@ -67,4 +68,6 @@ whole_formed laws held name texts sources gathers program is written room =
     let places : List ℕ = start_order (all_uses sources) 0 in
     let typed_units = λ (place : ℕ) (s : Source) (at : slice_get sources place ≡ Some s).
     unit_at u.have sources places program.units place s u.typed room (all_in_order held name texts sources gathers place (slice_get_within sources place s at)) at in
-    all_formed u.have sources (each_formed laws sources u.have o u.interfaces.all (λ place s at. at_place IsWritten sources place s written at) typed_units) places program.units u.typed room
+    let whole = λ (place : ℕ) (s : Source) (at : slice_get sources place ≡ Some s).
+    (let w : IsWritten s = record { named = kind_named sources place s (u.kinds place s at); written = at_place (λ (source : Source). IsSource source.tree) sources place s written at } in w) in
+    all_formed u.have sources (each_formed laws sources u.have o u.interfaces.all whole typed_units) places program.units u.typed room

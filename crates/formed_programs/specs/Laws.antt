@@ -11,7 +11,7 @@ use Rattle.source_tree.specs.Sources.{used}
 use Rattle.source_gathering.specs.declared.sources.Source.{Source}
 use Rattle.source_gathering.specs.Walk.{Gathers}
 use Rattle.unit_interface.specs.declared.interfaces.Interface.{Interface}
-use Rattle.scopes.specs.Predeclared.{system, first}
+use Rattle.scopes.specs.Predeclared.{first}
 use Rattle.scopes.specs.Environment.{Environment}
 use Rattle.unit_interface.specs.Merge.{with_interface}
 use Rattle.unit_interface.specs.Resolve.{overlay, is_overlay, interface_named, with_use}
@@ -57,22 +57,8 @@ UsingLaw = (have : List Interface) (source : Source) (unit : typed.Unit) → IsU
 abbrev pub ProgramLaw : Type 0
 ProgramLaw = (sources : List Source) (program : Program) → IsProgram sources program → All IsAlone sources → All IsRoomy program.units → All IsWellFormed program.units
 
--- no name of the predeclared units
-pub record IsNamed (name : List ℕ) : Type 0 where
-  pub overlay : name ≡ overlay → ⊥
-  pub system : name ≡ system → ⊥
-
-abbrev pub IsApart : List ℕ → Identifier → Type 0
-IsApart name one = one.name ≡ name → ⊥
-
--- The file of the source has no name of a predeclared unit, and the source doesn't use itself; what the lexer gives is in it, and not too
--- much.
-pub record IsWritten (source : Source) : Type 0 where
-  pub named : IsNamed source.name
-  pub apart : EachUse (IsApart source.name) (used source.tree)
-  pub written : IsSource source.tree
-
--- The units of each program are well formed, if 32 bits hold their numbers.
+-- The units of each program are well formed, where what the lexer gives is in its sources, and not too much, and if 32 bits hold their
+-- numbers.
 abbrev pub WholeLaw : Type 0
 WholeLaw = (held : Folder) (name : List ℕ) (texts : List Text) (sources : List Source) → Gathers held name texts sources
-    → (program : Program) → IsProgram sources program → All IsWritten sources → All IsRoomy program.units → All IsWellFormed program.units
+    → (program : Program) → IsProgram sources program → All (λ (source : Source). IsSource source.tree) sources → All IsRoomy program.units → All IsWellFormed program.units

@@ -2,9 +2,10 @@
 
 ghost use Rattle.formed_programs.specs.Laws.{UnitLaw, UsingLaw, ProgramLaw, WholeLaw};
 
-use brought_interfaces::{further_use_law, interface_law};
+use brought_interfaces::{further_use_law, interface_law, own_use_law};
 use checked_parts::part_keeping_law;
 use checked_units::checked_unit_laws;
+use closed_tables::table_laws;
 use constant_values::constant_value_law;
 use shown_constants::shown_constant_law;
 
@@ -20,6 +21,8 @@ pub fn formed_program_laws()
     part_keeping_law();
     interface_law();
     further_use_law();
+    own_use_law();
+    table_laws();
     shown_constant_law();
     constant_value_law();
 }

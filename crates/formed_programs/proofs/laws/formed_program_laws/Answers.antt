@@ -21,5 +21,7 @@ returns-clause-whole c = whole_formed (record {
   used = c.checked_unit_laws.ensures.used;
   brings = c.interface_law.ensures;
   further = c.further_use_law.ensures;
+  own = c.own_use_law.ensures;
   shown = c.shown_constant_law.ensures;
+  tables = c.table_laws.ensures.closed;
 })

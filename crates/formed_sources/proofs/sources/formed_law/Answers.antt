@@ -1,0 +1,5 @@
+use Rattle.formed_sources.proofs.Founds.{formed}
+use Rattle.formed_sources.proofs.sources.formed_law.Goals as goal
+
+pub returns : goal.returns
+returns c = formed c.written_source_laws.ensures.sources c.formed_program_laws.ensures.whole

@@ -1,0 +1,10 @@
+//! From the files of a program to its typed program, of which all units are well formed.
+#![tactic(auto)]
+
+mod numbers;
+mod sources;
+#[cfg(test)]
+mod tests;
+mod variables;
+
+pub use sources::formed_sources;

@@ -1,0 +1,7 @@
+pub mod Halves
+pub mod Leaves
+pub mod Contents
+pub mod Pieces
+pub mod Tokens
+pub mod Lexemes
+pub mod Gathered

@@ -1,0 +1,6 @@
+//! What the lexer gives is in the trees of sources.
+#![tactic(auto)]
+
+mod laws;
+
+pub use laws::spelled_law;
