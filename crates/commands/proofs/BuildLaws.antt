@@ -8,6 +8,7 @@ use Rattle.front_end.specs.declared.program.TypedSources.{TypedSources}
 use Rattle.front_end.specs.Found.{IsFoundIn}
 use Rattle.front_end.specs.Typed.{IsProgramIn}
 use Rattle.front_end.specs.Untyped.{IsRefusing, IsDeclining, IsNoProgram}
+use Rattle.formed_sources.specs.Formed.{AreFormed}
 use Rattle.one_reading.proofs.Readings.{one_reading}
 use Rattle.one_program.proofs.Programs.{one_folder, found_none}
 use Rattle.cpu_8086.specs.State.{State}
@@ -42,7 +43,7 @@ use Rattle.commands.specs.Go.{DoesSoon, IsNotMade, IsBuiltFrom, IsNotBuilt, IsNo
 use Rattle.commands.specs.declared.go.Prepared.{Prepared}
 use Rattle.commands.specs.Prepared.{IsPrepared}
 use Rattle.commands.specs.Run.{refused_as, limit_of}
-use Rattle.commands.proofs.HeldLaws.{literal_too, does_too, told_alike}
+use Rattle.commands.proofs.HeldLaws.{found_in, literal_too, does_too, told_alike}
 
 -- ---- the executable
 
@@ -61,19 +62,16 @@ pub not_spelled : (found : TypedSources) (result : Result (List ℕ) Outcome) �
 not_spelled found (Ok bytes) none = tt
 not_spelled found (Err error) none = subst (IsNotMade found) (sym none) tt
 
-found_in : (held : Folder) (name : List ℕ) (found : TypedSources) → IsFoundIn held name found → IsProgramIn held name found.program
-found_in held name found is = record { texts = found.texts.items; sources = found.sources.items; gathers = is.gathers; is = is.is }
-
-built_by : (held : Folder) (name bytes : List ℕ) (found : TypedSources) → IsFoundIn held name found → DoesSoon found.program bytes → IsBuiltFrom held name bytes
-built_by held name bytes found is does =
+built_by : (held : Folder) (name bytes : List ℕ) (found : TypedSources) → IsFoundIn held name found → AreFormed found.program → DoesSoon found.program bytes → IsBuiltFrom held name bytes
+built_by held name bytes found is formed does =
     let here = found_in held name found is in
-    record { program = found.program; is = here; does = λ one there. does_too found.program one bytes (one_folder held name found.program one here there) does }
+    record { program = found.program; is = here; formed = formed; does = λ one there. does_too found.program one bytes (one_folder held name found.program one here there) does }
 
-pub built_from : (known : Option Folder) (name : List ℕ) (found : TypedSources) (result : Result (List ℕ) Outcome) → IfSome known (λ held. IsFoundIn held name found) → IfOk result (DoesSoon found.program)
-    → IfSome known (λ held. IfOk result (IsBuiltFrom held name))
-built_from None name found result is does = tt
-built_from (Some held) name found (Err error) is does = tt
-built_from (Some held) name found (Ok bytes) is does = built_by held name bytes found is does
+pub built_from : (known : Option Folder) (name : List ℕ) (found : TypedSources) (result : Result (List ℕ) Outcome) → IfSome known (λ held. IsFoundIn held name found)
+    → IfSome known (λ held. AreFormed found.program) → IfOk result (DoesSoon found.program) → IfSome known (λ held. IfOk result (IsBuiltFrom held name))
+built_from None name found result is formed does = tt
+built_from (Some held) name found (Err error) is formed does = tt
+built_from (Some held) name found (Ok bytes) is formed does = built_by held name bytes found is formed does
 
 other_form : (known : Option Folder) (name : List ℕ) (buffer : Option ℕ) (r : Refusal) (found : TypedSources) → IfSome known (λ held. IsFoundIn held name found) → IsNotMade found (outcome.Refused r)
     → IfSome known (λ held. IsNotBuilt held name buffer r)

@@ -16,6 +16,9 @@ use Rattle.outcomes.specs.declared.refusal.Refusal.{Refusal}
 use Rattle.outcomes.specs.declared.refusal.Refusal.TheVariants as refusal
 use Rattle.outcomes.specs.declared.outcome.Outcome.{Outcome}
 use Rattle.mean_program.specs.Shown.{Sinks, Writes, Shows}
+use Rattle.front_end.specs.declared.program.TypedSources.{TypedSources}
+use Rattle.front_end.specs.Found.{IsFoundIn}
+use Rattle.front_end.specs.Typed.{IsProgramIn}
 use Rattle.front_end.specs.Untyped.{IsNoProgram}
 use Rattle.one_reading.specs.Alike.{AreAlike}
 use Rattle.one_program.specs.Folder.{FoundNone}
@@ -32,6 +35,13 @@ use Rattle.commands.specs.Turbo.{HoldsLiteral}
 pub none_found : (known : Option Folder) (name : List ℕ) (result : Outcome) → IfSome known (λ held. IsNoProgram held name result) → IfSome known (λ held. FoundNone held name result)
 none_found None name result why = tt
 none_found (Some held) name result why = found_none held name result why
+
+pub found_in : (held : Folder) (name : List ℕ) (found : TypedSources) → IsFoundIn held name found → IsProgramIn held name found.program
+found_in held name found is = record { texts = found.texts.items; sources = found.sources.items; gathers = is.gathers; is = is.is }
+
+pub program_in : (known : Option Folder) (name : List ℕ) (found : TypedSources) → IfSome known (λ held. IsFoundIn held name found) → IfSome known (λ held. IsProgramIn held name found.program)
+program_in None name found is = tt
+program_in (Some held) name found is = found_in held name found is
 
 -- ---- programs that are the same
 

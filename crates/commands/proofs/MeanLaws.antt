@@ -19,6 +19,7 @@ use Rattle.mean_program.specs.Shown.{outcome_of, IsUnread, Writes, Shows}
 use Rattle.front_end.specs.Typed.{IsProgramIn}
 use Rattle.front_end.specs.Untyped.{IsDeclining}
 use Rattle.one_program.specs.Folder.{IsExempt, FoundNone}
+use Rattle.formed_sources.specs.Formed.{AreFormed}
 use Rattle.command_line.specs.Words.{IsMean}
 use Rattle.commands.specs.Mean.{turns_of, sinks_of, ShowedMeaning, MeanDid}
 use Rattle.commands.specs.Performs.{DidMean}
@@ -172,11 +173,12 @@ unread_complete held outcome.NoMemory name turns program old mid errors faults i
 unread_complete held other name turns program old mid errors faults is why = absurd why
 
 showed_complete : (folder : Option Folder) (result : Outcome) (name : List ℕ) (turns : Option ℕ) (program : Program) (old mid : World) (errors : Option (List ℕ)) (faults : ℕ) → IfSome folder (λ held. IsProgramIn held name program)
+    → IfSome folder (λ held. AreFormed program)
     → Shows program (turns_of turns) result old.streams.input mid.streams.input old.streams.input_faults mid.streams.input_faults (sinks_of old.streams) (sinks_of mid.streams) → mid.streams.errors_faults ≤ faults
     → IfSome folder (λ held. IsMeanEnd held name turns result old.streams.input mid.streams.input ⊎ IsFaultOrNoMemory result old (told mid errors faults))
-showed_complete None result name turns program old mid errors faults is shows rises = tt
-showed_complete (Some held) result name turns program old mid errors faults is (inr declines) rises = unread_complete held result name turns program old mid errors faults is declines.cause
-showed_complete (Some held) result name turns program old mid errors faults is (inl means) rises = by means.writes
+showed_complete None result name turns program old mid errors faults is formed shows rises = tt
+showed_complete (Some held) result name turns program old mid errors faults is formed (inr declines) rises = unread_complete held result name turns program old mid errors faults is declines.cause
+showed_complete (Some held) result name turns program old mid errors faults is formed (inl means) rises = by means.writes
   where
     new : World
     new = told mid errors faults
@@ -190,6 +192,7 @@ showed_complete (Some held) result name turns program old mid errors faults is (
         record {
           program = program;
           is = is;
+          formed = formed;
           bytes = means.bytes;
           whole = means.whole;
           stands = λ one here. ap (λ (seen : Seen). outcome_of seen.end) (means_alike program one (one_folder held name program one is here) means.bytes (turns_of turns));
@@ -204,7 +207,7 @@ complete result words old mid errors faults meant rises = λ name turns asked. b
     by : (name : List ℕ) (turns : Option ℕ) → MeanDid result name turns old mid
         → IfSome old.folder (λ held. IsMeanEnd held name turns result old.streams.input mid.streams.input ⊎ IsFaultOrNoMemory result old (told mid errors faults))
     by name turns (inl gave) = none_complete old.folder result name turns old mid errors faults gave.reason gave.declines gave.counted
-    by name turns (inr showed) = showed_complete old.folder result name turns showed.program old mid errors faults showed.is showed.shows rises
+    by name turns (inr showed) = showed_complete old.folder result name turns showed.program old mid errors faults showed.is showed.formed showed.shows rises
 
 failing : (folder : Option Folder) (result : Outcome) (name : List ℕ) (turns : Option ℕ) (old new : World) → IsFaultOrNoMemory result old new
     → IfSome folder (λ held. IsMeanEnd held name turns result old.streams.input new.streams.input ⊎ IsFaultOrNoMemory result old new)
@@ -297,17 +300,18 @@ no_program_line (Some held) inner result name turns old mid errors faults line u
 }
 
 showed_line : (folder : Option Folder) (inner result : Outcome) (name : List ℕ) (turns : Option ℕ) (program : Program) (old mid : World) (errors : Option (List ℕ)) (faults : ℕ) → AfterLine result inner mid.streams.errors errors
-    → IfSome folder (λ held. IsProgramIn held name program)
+    → IfSome folder (λ held. IsProgramIn held name program) → IfSome folder (λ held. AreFormed program)
     → Shows program (turns_of turns) inner old.streams.input mid.streams.input old.streams.input_faults mid.streams.input_faults (sinks_of old.streams) (sinks_of mid.streams)
     → IfSome folder (λ held. MeansFiles held result name turns old (told mid errors faults))
-showed_line None inner result name turns program old mid errors faults line is shows = tt
-showed_line (Some held) inner result name turns program old mid errors faults line is shows = record {
+showed_line None inner result name turns program old mid errors faults line is formed shows = tt
+showed_line (Some held) inner result name turns program old mid errors faults line is formed shows = record {
   inner = inner;
   before = mid.streams.errors;
   before_faults = mid.streams.errors_faults;
   did = inr (
     program,
     is,
+    formed,
     λ one here. shows_too program one (turns_of turns) inner old.streams.input mid.streams.input old.streams.input_faults mid.streams.input_faults (sinks_of old.streams) (sinks_of mid.streams)
         (one_folder held name program one is here) shows,
   );
@@ -328,4 +332,4 @@ means inner result words old mid errors faults meant line = λ name turns asked.
   where
     by : (name : List ℕ) (turns : Option ℕ) → MeanDid inner name turns old mid → IfSome old.folder (λ held. MeansFiles held result name turns old (told mid errors faults))
     by name turns (inl gave) = no_program_line old.folder inner result name turns old mid errors faults line gave.untouched.streams gave.reason
-    by name turns (inr showed) = showed_line old.folder inner result name turns showed.program old mid errors faults line showed.is showed.shows
+    by name turns (inr showed) = showed_line old.folder inner result name turns showed.program old mid errors faults line showed.is showed.formed showed.shows

@@ -148,6 +148,7 @@ stands_there None now end name bytes options o o' ran is = tt
 stands_there (Some held) now end name bytes options o o' ran is = record {
   program = ran.built.program;
   is = ran.built.is;
+  formed = ran.built.formed;
   bytes = bytes;
   there = subst (λ (f : Option Folder). Holds f (file_of name Executable) bytes) (sym is) (with_file-same held (file_of name Executable) bytes);
   agrees = λ one here. (ran.built.does one here).agrees;

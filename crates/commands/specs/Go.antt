@@ -13,6 +13,7 @@ use Rattle.meaning.specs.Meaning.{mean}
 use Rattle.front_end.specs.declared.program.TypedSources.{TypedSources}
 use Rattle.front_end.specs.Typed.{IsProgram, IsProgramIn}
 use Rattle.front_end.specs.Untyped.{IsRefusing}
+use Rattle.formed_sources.specs.Formed.{AreFormed}
 use Rattle.one_program.specs.Folder.{FoundNone}
 use Rattle.literal_programs.specs.Literals.{IsLiteral}
 use Rattle.literal_programs.specs.Agrees.{Agrees}
@@ -72,10 +73,12 @@ IsNotMade found (outcome.Refused r) = (IsLiteral found.program → ⊥) × (r �
 IsNotMade found outcome.NoMemory = Unit {0}
 IsNotMade found other = ⊥
 
--- The files hold a program of this name, and these bytes do what each means that they hold, which is of the literal form.
+-- The files hold a program of this name, of well-formed units, and these bytes do what each means that they hold, which is of the literal
+-- form.
 pub record IsBuiltFrom (held : Folder) (name bytes : List ℕ) : Type 0 where
   pub program : Program
   pub is : IsProgramIn held name program
+  pub formed : AreFormed program
   pub does : (one : Program) → IsProgramIn held name one → DoesSoon one bytes
 
 -- The executable of such a program would not begin: with the buffer that is asked for it takes more than the memory below segment A000h.

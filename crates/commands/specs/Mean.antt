@@ -8,6 +8,7 @@ use Rattle.outcomes.specs.declared.outcome.Outcome.TheVariants as outcome
 use Rattle.mean_program.specs.Shown.{Sinks, streams, Shows}
 use Rattle.front_end.specs.Typed.{IsProgramIn}
 use Rattle.front_end.specs.Untyped.{IsDeclining}
+use Rattle.formed_sources.specs.Formed.{AreFormed}
 use Rattle.one_program.specs.Folder.{FoundNone}
 use Rattle.commands.specs.World.{World, IsUntouched}
 
@@ -25,10 +26,12 @@ pub record GaveNoProgram (result : Outcome) (name : List ℕ) (old new : World) 
   pub counted : result ≡ outcome.FilesFault → HasRisen old.files_faults new.files_faults
   pub untouched : IsUntouched old new
 
--- Its meaning on the whole input, within so many turns, was shown, or it was not, for want of an input or of memory, or by a fault.
+-- The meaning of one, of well-formed units, on the whole input and within so many turns, was shown, or it was not, for want of an input or of
+-- memory, or by a fault.
 pub record ShowedMeaning (result : Outcome) (name : List ℕ) (turns : Option ℕ) (old new : World) : Type 0 where
   pub program : Program
   pub is : IfSome old.folder (λ held. IsProgramIn held name program)
+  pub formed : IfSome old.folder (λ held. AreFormed program)
   pub shows : Shows program (turns_of turns) result old.streams.input new.streams.input old.streams.input_faults new.streams.input_faults (sinks_of old.streams) (sinks_of new.streams)
   pub folder : new.folder ≡ old.folder
 

@@ -10,6 +10,7 @@ use Rattle.meaning.specs.Meaning.{mean}
 use Rattle.whole_input.specs.Input.{IsWhole, HasMore}
 use Rattle.front_end.specs.Typed.{IsProgramIn}
 use Rattle.one_program.specs.Folder.{FoundNone}
+use Rattle.formed_sources.specs.Formed.{AreFormed}
 use Rattle.mean_program.specs.Shown.{WritesAll, Shows, outcome_of as meant_as}
 use Rattle.literal_programs.specs.Literals.{IsLiteral}
 use Rattle.literal_programs.specs.Agrees.{Agrees}
@@ -45,10 +46,12 @@ HasRun outcome.InputFault = Unit {0}
 HasRun outcome.OutputFault = Unit {0}
 HasRun other = ⊥
 
--- The files held a program of this name, and one now holds an executable that does what each program means which they held.
+-- The files held a program of this name, of well-formed units, and one now holds an executable that does what each program means which they
+-- held.
 pub record HoldsExecutable (held : Folder) (now : Option Folder) (name : List ℕ) : Type 0 where
   pub program : Program
   pub is : IsProgramIn held name program
+  pub formed : AreFormed program
   pub bytes : List ℕ
   pub there : Holds now (file_of name Executable) bytes
   pub agrees : (one : Program) → IsProgramIn held name one → Agrees one bytes
@@ -135,10 +138,11 @@ pub record HasLongInput (held : Folder) (name : List ℕ) (input : Option (List 
 abbrev pub HasNoMeaning : Folder → List ℕ → Option (List ℕ) → Refusal → Type 0
 HasNoMeaning held name input r = FoundNone held name (outcome.Refused r) ⊎ HasLongInput held name input r
 
--- The files hold a program of this name, and the outcome is how the meaning of each stands on the input that was read.
+-- The files hold a program of this name, of well-formed units, and the outcome is how the meaning of each stands on the input that was read.
 pub record StandsSo (held : Folder) (name : List ℕ) (turns : Option ℕ) (result : Outcome) (input input' : Option (List ℕ)) : Type 0 where
   pub program : Program
   pub is : IsProgramIn held name program
+  pub formed : AreFormed program
   pub bytes : List ℕ
   pub whole : IsWhole input input' bytes
   pub stands : (one : Program) → IsProgramIn held name one → result ≡ meant_as (mean one bytes (turns_of turns)).end
@@ -253,13 +257,13 @@ abbrev pub WentFiles : List (List ℕ) → World → World → Outcome → Type 
 WentFiles words old new result =
     (name : List ℕ) (options : RunOptions) → IsGo words name options → IfSome old.folder (λ held. GoesFiles held result name options old new)
 
--- What `mean` did with the files that a folder holds: no program of this name was found, and nothing was read or written; or what each
--- means that they hold was shown, the input read to its end; then came the line.
+-- What `mean` did with the files that a folder holds: no program of this name was found, and nothing was read or written; or they hold one,
+-- of well-formed units, and what each means that they hold was shown, the input read to its end; then came the line.
 pub record MeansFiles (held : Folder) (result : Outcome) (name : List ℕ) (turns : Option ℕ) (old new : World) : Type 0 where
   pub inner : Outcome
   pub before : Option (List ℕ)
   pub before_faults : ℕ
-  pub did : (FoundNone held name inner × (streams_before new before before_faults ≡ old.streams)) ⊎ ((program : Program) × IsProgramIn held name program
+  pub did : (FoundNone held name inner × (streams_before new before before_faults ≡ old.streams)) ⊎ ((program : Program) × IsProgramIn held name program × AreFormed program
       × ((one : Program) → IsProgramIn held name one → Shows one (turns_of turns) inner old.streams.input new.streams.input old.streams.input_faults new.streams.input_faults
       (sinks_of old.streams) (sinks_of (streams_before new before before_faults))))
   pub line : AfterLine result inner before new.streams.errors

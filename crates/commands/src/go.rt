@@ -14,7 +14,8 @@ use crate::run::{LIMIT, refused_as};
 use command_line::RunOptions;
 use cpu_8086::Machine;
 use dos_runner::run;
-use front_end::{TypedSources, typed_sources};
+use formed_sources::formed_sources;
+use front_end::TypedSources;
 use literal_places::place_outside;
 use literal_programs::literal_executable;
 use mz_file::{Exe, write_exe};
@@ -84,7 +85,7 @@ fn build<F: Files>(alloc: Global, name: &Name, files: &mut F) -> Result<Bytes, O
     ensures unchanged { F.folder files.new ≡ F.folder files.old }
     ensures counted { F.faults files.old ≤ F.faults files.new }
 {
-    match typed_sources(alloc, name, files) {
+    match formed_sources(alloc, name, files) {
         Ok(found) => executable_of(alloc, &found),
         Err(outcome) => Err(outcome),
     }

@@ -4,7 +4,7 @@ ghost use Rattle.std.specs.Prelude.{◌≡◌, ◌≤◌, unwrap_or};
 ghost use Rattle.commands.specs.Mean.{MeanDid};
 ghost use Rattle.commands.specs.World.{world};
 
-use front_end::typed_program;
+use formed_sources::formed_sources;
 use mean_program::show_meaning;
 use outcomes::Outcome;
 use std::alloc::Global;
@@ -34,10 +34,10 @@ pub fn mean<F: Files, S: Source, K: Sink, E: Sink>(
     ensures files_counted { F.faults files.old ≤ F.faults files.new }
     ensures errors_counted { E.faults errors.old ≤ E.faults errors.new }
 {
-    match typed_program(alloc, name, files) {
-        Ok(program) => {
+    match formed_sources(alloc, name, files) {
+        Ok(found) => {
             let turns = turns.unwrap_or(TURNS);
-            show_meaning(alloc, &program, turns, input, output, errors)
+            show_meaning(alloc, &found.program, turns, input, output, errors)
         }
         Err(outcome) => outcome,
     }

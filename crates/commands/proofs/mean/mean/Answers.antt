@@ -3,18 +3,19 @@ use Rattle.outcomes.specs.declared.outcome.Outcome.{Outcome}
 use Rattle.mean_program.specs.Shown.{Shows}
 use Rattle.commands.specs.Mean.{sinks_of}
 use Rattle.commands.specs.World.{World, world}
-use Rattle.commands.proofs.HeldLaws.{none_found}
+use Rattle.commands.proofs.HeldLaws.{none_found, program_in}
 use Rattle.commands.proofs.mean.mean.Goals as goal
 
 pub returns-in-Ok-clause-did : goal.returns-in-Ok-clause-did
 returns-in-Ok-clause-did g c =
     let old : World = world (g.F.Files.folder c.args.files.now) (g.F.Files.faults c.args.files.now) (g.S.Source.remaining c.args.input.now) (g.K.Sink.contents c.args.output.now) (g.E.Sink.contents c.args.errors.now) (g.S.Source.faults c.args.input.now) (g.K.Sink.faults c.args.output.now) (g.E.Sink.faults c.args.errors.now) in
-    let files = c.typed_program.new.files in
+    let files = c.formed_sources.new.files in
     let new : World = world (g.F.Files.folder files) (g.F.Files.faults files) (g.S.Source.remaining c.show_meaning.new.input) (g.K.Sink.contents c.show_meaning.new.output) (g.E.Sink.contents c.show_meaning.new.errors) (g.S.Source.faults c.show_meaning.new.input) (g.K.Sink.faults c.show_meaning.new.output) (g.E.Sink.faults c.show_meaning.new.errors) in
     inr (record {
-      program = c.in-Ok.program;
-      is = c.in-Ok.ensures.program;
-      shows = subst (λ (turns : ℕ). Shows c.in-Ok.program turns c.show_meaning.result old.streams.input new.streams.input old.streams.input_faults new.streams.input_faults (sinks_of old.streams) (sinks_of new.streams))
+      program = c.in-Ok.found.program;
+      is = program_in old.folder c.args.name.now c.in-Ok.found c.in-Ok.ensures.found;
+      formed = c.in-Ok.ensures.formed;
+      shows = subst (λ (turns : ℕ). Shows c.in-Ok.found.program turns c.show_meaning.result old.streams.input new.streams.input old.streams.input_faults new.streams.input_faults (sinks_of old.streams) (sinks_of new.streams))
           c.unwrap_or-turns.ensures c.show_meaning.ensures.shown;
       folder = c.in-Ok.ensures.unchanged;
     })
