@@ -3,8 +3,6 @@
 
 mod numbers;
 mod sources;
-#[cfg(test)]
-mod tests;
 mod variables;
 
 pub use sources::formed_sources;
