@@ -1,0 +1,16 @@
+pub mod Alike
+pub mod Keys
+pub mod Agreeing
+pub mod Keeping
+pub mod Types
+pub mod Routines
+pub mod Parts
+pub mod Counts
+pub mod Owned
+pub mod Behind
+pub mod ToldOn
+pub mod First
+pub mod Using
+pub mod Units
+pub mod Whole
+pub mod Listed

@@ -1,0 +1,58 @@
+-- The table of a unit that is told but for the unit's own types stays so with further types that the unit declares.
+use Rattle.std.proofs.Common.{◌≡◌, ◌∙◌, inl, inr, ℕ, ◌<◌, List, length, Some, arith, sym, ap, subst}
+use Rattle.std.specs.Prelude.{slice_get}
+use Rattle.std.proofs.lemmas.Option.{slice_get_within}
+use Rattle.type_layout.specs.declared.definitions.TypeDef.{TypeDef}
+use Rattle.type_layout.specs.Table.{Table}
+use Rattle.type_layout.proofs.Local.{slice_get-append}
+use Rattle.unit_interface.specs.declared.keys.Key.{Key}
+use Rattle.unit_interface.specs.declared.interfaces.Interface.{Interface}
+use Rattle.unit_interface.specs.Merge.{keys_of, renumbered}
+use Rattle.unit_interface.specs.Exports.{in_type}
+use Rattle.closed_constants.specs.Bounds.{AreBelow}
+use Rattle.told_types.specs.Told.{between, next_key, IsOther, AreOthersAlike, AreOthersFronted, IsClosedTable, AreClosedHomes, IsToldBut}
+use Rattle.told_types.specs.Laws.{IsWithDeclared}
+use Rattle.told_types.proofs.Known.{keys_long, own_named}
+use Rattle.told_types.proofs.Carried.{stays_same}
+use Rattle.told_types.proofs.Longer.{in_parts}
+
+module _ (have : List Interface) (homes : AreClosedHomes have) (name : List ℕ) (table longer : Table) (told : IsToldBut have name table) (closed : IsClosedTable table) (h : IsWithDeclared name table longer) where
+  pub stays : (number : ℕ) (key : Key) → slice_get (keys_of table) number ≡ Some key → slice_get (keys_of longer) number ≡ Some key
+  stays number key at =
+      ap (λ (ks : List Key). slice_get ks number) h.more_keys ∙ slice_get-append (keys_of table) h.keys number (slice_get_within (keys_of table) number key at) ∙ at
+
+  -- a type of another unit is one of the table
+  other_in : (number : ℕ) (key : Key) → IsOther name key → slice_get (keys_of longer) number ≡ Some key → slice_get (keys_of table) number ≡ Some key
+  other_in number key other at =
+      elim (in_parts (keys_of table) h.keys number key (ap (λ (ks : List Key). slice_get ks number) (sym h.more_keys) ∙ at)) [
+        | inl old ↦ old
+        | inr new ↦ absurd (other (h.own new.0 key new.1))
+      ]
+
+  alike : AreOthersAlike have name longer
+  alike number place key from first one other at stands is there f =
+      let old = other_in number key other at in
+      let low : number < length table.types = omega (arith, slice_get_within (keys_of table) number key old, keys_long table closed.paired) in
+      let here : slice_get table.types number ≡ Some one =
+      sym (slice_get-append table.types h.types number low) ∙ ap (λ (ts : List TypeDef). slice_get ts number) (sym h.more_types) ∙ stands in
+      let a = told.alike number place key from first one other old here is there f in
+      let named : AreBelow (length table.types) (in_type (renumbered (between from table) a.unit first)) =
+      subst (λ (t : TypeDef). AreBelow (length table.types) (in_type t)) a.is (own_named table number one closed here) in
+      record {
+        unit = a.unit;
+        is = a.is ∙ stays_same from table longer (homes key.unit from is) closed.paired h.keyed.apart stays a.unit first (own_named from place first (homes key.unit from is) f) named;
+      }
+
+  fronted : AreOthersFronted have name longer
+  fronted number place key from low high other at is there f =
+      let s = told.fronted number place key from low high other (other_in number (next_key key) other at) is there f in
+      record { place = s.place; at = stays s.place key s.at }
+
+  pub told_on : IsToldBut have name longer
+  told_on = record {
+    keyed = h.keyed;
+    alike = alike;
+    followed = h.followed;
+    fronted = fronted;
+    at_home = λ number key other at. told.at_home number key other (other_in number key other at);
+  }

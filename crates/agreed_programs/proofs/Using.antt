@@ -1,0 +1,85 @@
+-- Scopes in which units come that are used behind an interface part: the types of the unit itself stay those that it has declared.
+use Rattle.std.proofs.Common.{◌≡◌, inl, inr, ℕ, Bool, true, false, cond, List, [], ◌∷◌, Option, Some, None, refl, sym, subst}
+use Rattle.std.specs.Prelude.{slice_get}
+use Rattle.type_layout.specs.Table.{Table}
+use Rattle.syntax_tree.specs.declared.identifier.Identifier.{Identifier}
+use Rattle.scopes.specs.Environment.{Environment}
+use Rattle.scopes.specs.Predeclared.{first}
+use Rattle.unit_interface.specs.declared.keys.Key.{Key}
+use Rattle.unit_interface.specs.declared.interfaces.Interface.{Interface}
+use Rattle.unit_interface.specs.Merge.{keys_of, with_types}
+use Rattle.unit_interface.specs.Keyed.{IsKeyed}
+use Rattle.unit_interface.specs.Resolve.{is_overlay, interface_named, with_overlay, with_found, with_use, with_uses}
+use Rattle.tp_check_decl.specs.Interfaces.{all_used}
+use Rattle.told_types.specs.Told.{Stands, AreClosedHomes, AreAtHome, AreOthersAtHome}
+use Rattle.told_types.proofs.Arrived.{key_from}
+use Rattle.fitting_types.specs.Fits.{IsToldScope, IsToldUse}
+use Rattle.fitting_types.proofs.Uses.{used_told}
+use Rattle.agreed_programs.specs.Told.{AreOwned}
+use Rattle.agreed_programs.proofs.Owned.{types_owned}
+use Rattle.agreed_programs.proofs.First.{first_owned}
+
+-- The unit's own types are those of another table, and stay there; types of others are at home.
+pub record IsOwnTable (have : List Interface) (name : List ℕ) (base table : Table) : Type 0 where
+  pub at_home : AreOthersAtHome have name table
+  pub from : (place : ℕ) (key : Key) → key.unit ≡ name → slice_get (keys_of table) place ≡ Some key → Stands (keys_of base) key
+  pub owned : AreOwned table
+
+module _ (have : List Interface) (name : List ℕ) (base : Table) where
+  -- what the interface tells of the unit's types stands in the table
+  abbrev pub TellsOwn : Interface → Type 0
+  TellsOwn i = (number : ℕ) (key : Key) → slice_get (keys_of i.types) number ≡ Some key → key.unit ≡ name → Stands (keys_of base) key
+
+  merged_own : (table other : Table) → IsKeyed table → IsKeyed other → AreAtHome have other → ((number : ℕ) (key : Key) → slice_get (keys_of other) number ≡ Some key → key.unit ≡ name → Stands (keys_of base) key)
+      → IsOwnTable have name base table → IsOwnTable have name base (with_types table other)
+  merged_own table other keyed also home tells h = record {
+    at_home = λ number key far at. elim (key_from table other keyed also number key at) [
+      | inl before ↦ h.at_home number key far before
+      | inr more ↦ home more.place key more.at
+    ];
+    from = λ place key mine at. elim (key_from table other keyed also place key at) [
+      | inl before ↦ h.from place key mine before
+      | inr more ↦ tells more.place key more.at mine
+    ];
+    owned = types_owned table other keyed h.owned;
+  }
+
+  use_own : (g : Environment) (word : List ℕ) → IsToldScope have g → IsToldUse have word → (is_overlay word ≡ false → (i : Interface) → interface_named have word ≡ Some i → TellsOwn i)
+      → IsOwnTable have name base g.types → IsOwnTable have name base (with_use have g word).types
+  use_own g word scope told tells h = by (is_overlay word) refl (interface_named have word) refl
+    where
+      by : (b : Bool) → is_overlay word ≡ b → (found : Option Interface) → interface_named have word ≡ found → IsOwnTable have name base (cond b (with_overlay g) (with_found g found)).types
+      by true is found at = h
+      by false is None at = h
+      by false is (Some i) at = (let o = told is i at in merged_own g.types i.types scope.told.keyed o.told.keyed o.at_home (tells is i at) h)
+
+  -- behind several units
+  pub record IsOwnScope (g : Environment) : Type 0 where
+    pub scope : IsToldScope have g
+    pub table : IsOwnTable have name base g.types
+
+  module _ (homes : AreClosedHomes have) (told : (word : List ℕ) → IsToldUse have word) (tells : (word : List ℕ) → is_overlay word ≡ false → (i : Interface) → interface_named have word ≡ Some i → TellsOwn i) where
+    next_own : (g : Environment) (word : List ℕ) → IsOwnScope g → IsOwnScope (with_use have g word)
+    next_own g word h = record { scope = used_told have homes g word h.scope (told word); table = use_own g word h.scope (told word) (tells word) h.table }
+
+    pub all_own : (g : Environment) (uses : List Identifier) (h : Environment) → (all_used have g uses).holds h → IsOwnScope g → IsOwnScope h
+    all_own g [] h e own = subst (λ (x : Environment). IsOwnScope x) (sym e) own
+    all_own g (one ∷ rest) h e own = all_own e.part rest h e.made (subst (λ (x : Environment). IsOwnScope x) (sym e.holds.made) (next_own g one.name own))
+
+-- ---- scopes that sources are read over
+
+module _ (have : List Interface) (homes : AreClosedHomes have) (told : (word : List ℕ) → IsToldUse have word) where
+  use_owned : (g : Environment) (word : List ℕ) → IsToldScope have g → AreOwned g.types → AreOwned (with_use have g word).types
+  use_owned g word scope h = by (is_overlay word) refl (interface_named have word) refl
+    where
+      by : (b : Bool) → is_overlay word ≡ b → (found : Option Interface) → interface_named have word ≡ found → AreOwned (cond b (with_overlay g) (with_found g found)).types
+      by true is found at = h
+      by false is None at = h
+      by false is (Some i) at = types_owned g.types i.types scope.told.keyed h
+
+  pub uses_owned : (g : Environment) (words : List (List ℕ)) → IsToldScope have g → AreOwned g.types → AreOwned (with_uses have g words).types
+  uses_owned g [] scope h = h
+  uses_owned g (word ∷ words) scope h = uses_owned (with_use have g word) words (used_told have homes g word scope (told word)) (use_owned g word scope h)
+
+  pub outer_owned : (name : List ℕ) (words : List (List ℕ)) → IsToldScope have (first name) → AreOwned (with_uses have (first name) words).types
+  outer_owned name words scope = uses_owned (first name) words scope first_owned

@@ -1,0 +1,34 @@
+-- When the units of a program agree on their types.
+use Rattle.std.specs.Prelude.{◌≡◌, ℕ, All, List, Some, slice_get}
+use Rattle.type_layout.specs.declared.definitions.TypeDef.{TypeDef}
+use Rattle.type_layout.specs.Table.{Table, IsWellFormed}
+use Rattle.tp_outside.specs.Folder.{Folder}
+use Rattle.tp_lexer.specs.declared.token.Text.{Text}
+use Rattle.source_gathering.specs.declared.sources.Source.{Source}
+use Rattle.source_gathering.specs.Walk.{Gathers}
+use Rattle.typed_tree.specs.declared.units.Unit.{Unit as TypedUnit}
+use Rattle.typed_tree.specs.declared.units.Program.{Program}
+use Rattle.unit_interface.specs.declared.interfaces.Interface.{Interface}
+use Rattle.declared_types.specs.Agreement.{IsUnit, IsShort, AreAgreed}
+use Rattle.front_end.specs.Typed.{IsProgram}
+use Rattle.told_types.specs.Told.{AreClosedHomes}
+use Rattle.agreed_programs.specs.Told.{IsToldIn}
+
+-- Units whose tables tell of types what the interfaces of the units that declare these tell agree on all types.
+abbrev pub ToldLaw : Type 0
+ToldLaw = (have : List Interface) → AreClosedHomes have → (program : Program) → ((unit : TypedUnit) → IsUnit program unit → IsToldIn have unit) → AreAgreed program
+
+-- what each table of types keeps: its types stand behind their parts within the limits, and a byte tells the size of a string type
+pub record IsKeptTable (table : Table) : Type 0 where
+  pub well_formed : IsWellFormed table
+  pub short : (k : ℕ) (one : TypeDef) → slice_get table.types k ≡ Some one → IsShort one
+
+-- The units of a program agree on all types.
+abbrev pub AgreedLaw : Type 0
+AgreedLaw = (held : Folder) (name : List ℕ) (texts : List Text) (sources : List Source) → Gathers held name texts sources
+    → (program : Program) → IsProgram sources program → All (λ (unit : TypedUnit). IsKeptTable unit.types) program.units → AreAgreed program
+
+-- And each is found by its name.
+abbrev pub ListedLaw : Type 0
+ListedLaw = (held : Folder) (name : List ℕ) (texts : List Text) (sources : List Source) → Gathers held name texts sources
+    → (program : Program) → IsProgram sources program → All (IsUnit program) program.units

@@ -1,0 +1,6 @@
+//! Units of a program agree on their types, where each tells of them what interfaces tell.
+#![tactic(auto)]
+
+mod laws;
+
+pub use laws::agreed_program_laws;
