@@ -1,0 +1,6 @@
+//! Checked units keep what a well-typed program asks of first values and of routines.
+#![tactic(auto)]
+
+mod laws;
+
+pub use laws::sound_unit_laws;
