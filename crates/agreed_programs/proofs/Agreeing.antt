@@ -84,7 +84,7 @@ module _ (home a b : Table) (at_home : IsClosedTable home) (ka : IsKeyed a) (kb 
 -- ---- the units of a program
 
 -- a name is another's, or not
-name_is : (one other : List ℕ) → (one ≡ other) ⊎ (one ≡ other → ⊥)
+pub name_is : (one other : List ℕ) → (one ≡ other) ⊎ (one ≡ other → ⊥)
 name_is one other = by (same_bytes one other) refl
   where
     by : (b : Bool) → same_bytes one other ≡ b → (one ≡ other) ⊎ (one ≡ other → ⊥)

@@ -8,11 +8,11 @@ use Rattle.unit_interface.specs.Merge.{keys_of}
 use Rattle.agreed_programs.specs.Told.{AreOwned}
 
 -- each element of a list
-abbrev Each : {A : Type 0} → (A → Type 0) → List A → Type 0
+abbrev pub Each : {A : Type 0} → (A → Type 0) → List A → Type 0
 Each P [] = Unit {0}
 Each P (x ∷ xs) = P x × Each P xs
 
-at_each : {A : Type 0} → (P : A → Type 0) (xs : List A) (number : ℕ) (x : A) → Each P xs → slice_get xs number ≡ Some x → P x
+pub at_each : {A : Type 0} → (P : A → Type 0) (xs : List A) (number : ℕ) (x : A) → Each P xs → slice_get xs number ≡ Some x → P x
 at_each P [] zero x all at = cc
 at_each P [] (suc number) x all at = cc
 at_each P (y ∷ ys) zero x all at = let same : y ≡ x = cc in subst P same all.0

@@ -14,3 +14,5 @@ pub mod Using
 pub mod Units
 pub mod Whole
 pub mod Listed
+pub mod Declarers
+pub mod Sources

@@ -15,9 +15,11 @@ use Rattle.source_gathering.specs.declared.sources.Source.{Source}
 use Rattle.typed_tree.specs.declared.units.Item.{Item}
 use Rattle.scopes.specs.Environment.{Environment}
 use Rattle.scopes.specs.declared.entries.BlockKind.TheVariants.{Part}
-use Rattle.scopes.specs.Predeclared.{system}
+use Rattle.scopes.specs.Predeclared.{system, first as bare_scope}
+use Rattle.unit_interface.specs.declared.keys.Key.{Key}
 use Rattle.unit_interface.specs.declared.interfaces.Interface.{Interface}
 use Rattle.unit_interface.specs.Merge.{keys_of}
+use Rattle.unit_interface.specs.Keyed.{IsKeyed}
 use Rattle.unit_interface.specs.Resolve.{is_overlay, interface_named}
 use Rattle.typing_rules.proofs.JudgementLaws.{exact}
 use Rattle.source_order.specs.Orders.{names_of}
@@ -48,17 +50,17 @@ use Rattle.agreed_programs.proofs.Counts.{count_grows}
 use Rattle.agreed_programs.proofs.Keeping.{KeepsTo}
 use Rattle.agreed_programs.proofs.Behind.{AreNumbered, IsOwnBehind, is_declared, behind_itself, behind_stays}
 use Rattle.agreed_programs.proofs.ToldOn.{told_on}
-use Rattle.agreed_programs.proofs.Using.{TellsOwn, IsOwnScope, all_own, outer_owned}
+use Rattle.agreed_programs.proofs.Using.{TellsOwn, IsOwnScope, all_own, outer_owned, uses_bare}
 use Rattle.agreed_programs.proofs.Routines.{all_keep}
 use Rattle.agreed_programs.proofs.Parts.{interface_keeps, program_keeps}
 
 -- ---- how units end
 
-ended_types : (name : List ℕ) (front : _) (items : List Item) (body : Option CompoundStatement) (d : Drafted) (unit : Whole) → (ended name front items body d).holds unit → unit.types ≡ d.scope.types
+pub ended_types : (name : List ℕ) (front : _) (items : List Item) (body : Option CompoundStatement) (d : Drafted) (unit : Whole) → (ended name front items body d).holds unit → unit.types ≡ d.scope.types
 ended_types name front items None d unit h = ap (λ (w : Whole). w.types) h.made
 ended_types name front items (Some body) d unit h = ap (λ (w : Whole). w.types) h.made
 
-ended_name : (name : List ℕ) (front : _) (items : List Item) (body : Option CompoundStatement) (d : Drafted) (unit : Whole) → (ended name front items body d).holds unit → unit.name ≡ name
+pub ended_name : (name : List ℕ) (front : _) (items : List Item) (body : Option CompoundStatement) (d : Drafted) (unit : Whole) → (ended name front items body d).holds unit → unit.name ≡ name
 ended_name name front items None d unit h = ap (λ (w : Whole). w.name) h.made
 ended_name name front items (Some body) d unit h = ap (λ (w : Whole). w.name) h.made
 
@@ -99,6 +101,22 @@ pub record IsSoTold (have : List Interface) (name : List ℕ) (table : Table) : 
   pub told : IsToldBut have name table
   pub owned : AreOwned table
 
+-- Behind the units that the implementation part uses, types of others are at home, and the unit's own are those behind its interface part.
+pub record IsUsedSo (have : List Interface) (name : List ℕ) (d : Drafted) (h : Environment) : Type 0 where
+  pub keyed : IsKeyed d.scope.types
+  pub own : IsOwnScope have name d.scope.types h
+
+abbrev pub AreUsedSo : (have : List Interface) (name : List ℕ) (says : Directives) (g : Environment) (tree : Tree) (unit : Whole) → IsTypedAs name says g have tree unit → Type 0
+AreUsedSo have name says g (t.Program heading uses all body) unit h = Unit {0}
+AreUsedSo have name says g (t.Unit here own uses outer interface all body) unit h = IsUsedSo have name h.made.part h.made.made.part
+
+-- What is known to a source by the units that its interface part uses has no types of its own, and no block is open.
+pub record IsFirstScope (name : List ℕ) (g : Environment) : Type 0 where
+  pub keyed : IsKeyed g.types
+  pub owned : AreOwned g.types
+  pub none : (number : ℕ) (key : Key) → slice_get (keys_of g.types) number ≡ Some key → key.unit ≡ name → ⊥
+  pub bare : g.blocks ≡ []
+
 module _ (sources : List Source) (have : List Interface) (o : AreInOrder sources have) (place : ℕ) (s : Source) (at : slice_get sources place ≡ Some s) (no_system : same_bytes s.name system ≡ false) where
   abbrev name : List ℕ
   name = s.name
@@ -115,10 +133,16 @@ module _ (sources : List Source) (have : List Interface) (o : AreInOrder sources
   home : AreAtHome have g.types
   home = scopes_home sources have o name (names_of (outer_units s))
 
+  pub first_so : IsFirstScope name g
+  first_so = record {
+    keyed = scope.told.keyed;
+    owned = outer_owned have all_homes (each_told sources have o) name (names_of (outer_units s)) (first_scope have all_homes name);
+    none = no_own sources have o place s at no_system;
+    bare = uses_bare have (bare_scope name) (names_of (outer_units s));
+  }
+
   start : IsOwnBehind name g.types g.types
-  start =
-      behind_itself name g.types scope.told.keyed scope.told.followed (λ p key there mine. absurd (no_own sources have o place s at no_system p key there mine))
-      (outer_owned have all_homes (each_told sources have o) name (names_of (outer_units s)) (first_scope have all_homes name))
+  start = behind_itself name g.types scope.told.keyed scope.told.followed (λ p key there mine. absurd (first_so.none p key there mine)) first_so.owned
 
   -- behind declarations over the scope that the source is read over
   behind_first : (h : Environment) → KeepsTo name g h → IsOwnBehind name g.types h.types
@@ -191,6 +215,43 @@ module _ (sources : List Source) (have : List Interface) (o : AreInOrder sources
             let b = keeps.keeps (IsOwnBehind name h.types) (behind_stays name h.types) begun in
             record { told = told_on have all_homes name h.types last.types told_used (closed_table h own_used.scope.complete) (is_declared name h.types last.types b); owned = b.longer.owned }
 
+    -- ---- units, behind their interface parts
+
+    -- the table tells what the others tell, and the others tell of the unit's types what it has
+    record IsToldFirst (d : Drafted) : Type 0 where
+      told : IsTold have d.scope.types
+      tells : (word : List ℕ) → is_overlay word ≡ false → (i : Interface) → interface_named have word ≡ Some i → TellsOwn have name d.scope.types i
+
+    abbrev AreToldFirst : (tree : Tree) (unit : Whole) → IsTypedAs name s.says g have tree unit → Type 0
+    AreToldFirst (t.Program heading uses all body) unit h = Unit {0}
+    AreToldFirst (t.Unit here own uses outer interface all body) unit h = IsToldFirst h.made.part
+
+    first_told : (tree : Tree) (unit : Whole) (h : IsTypedAs name s.says g have tree unit) (shows : IsShownAs name s.says g tree mine) → IsTold have shows.unit.types → AreToldFirst tree unit h
+    first_told (t.Program heading uses all body) unit h shows within = tt
+    first_told (t.Unit here own uses outer interface all body) unit h shows within =
+        let n = h.made in
+        let d = n.part in
+        let tree : Tree = t.Unit here own uses outer interface all body in
+        let w : Whole = whole name h.part d.scope (items_of d.scope) d.globals [] None in
+        let holds : (outlined name s.says g tree).holds w = record { part = h.part; holds = h.holds; made = record { part = d; holds = n.holds; made = refl } } in
+        let same : shows.unit ≡ w = (exact (outlined name s.says g) (lawful_outlined name s.says g)).one tree shows.unit w shows.holds holds in
+        let shown : Shows w mine = subst (λ (x : Whole). Shows x mine) same shows.shows in
+        let told : IsTold have d.scope.types = subst (λ (x : Whole). IsTold have x.types) same within in
+        record { told = told; tells = tells_own w shown told }
+
+    -- so it is behind the units that the implementation part uses
+    pub used_so : (tree : Tree) (unit : Whole) (h : IsTypedAs name s.says g have tree unit) (shows : IsShownAs name s.says g tree mine) → IsTold have shows.unit.types → AreUsedSo have name s.says g tree unit h
+    used_so (t.Program heading uses all body) unit h shows within = tt
+    used_so (t.Unit here own uses outer interface all body) unit h shows within =
+        let n = h.made in
+        let d = n.part in
+        let u = n.made in
+        let f = first_told (t.Unit here own uses outer interface all body) unit h shows within in
+        record {
+          keyed = f.told.keyed;
+          own = own_used d (interface_keeps name g interface.items d n.holds) (behind_complete name g interface.items d n.holds scope.complete) f.told f.tells (drop outer uses.items) u.part u.holds;
+        }
+
     pub of_source : (tree : Tree) (unit : Whole) → IsTypedAs name s.says g have tree unit → (shows : IsShownAs name s.says g tree mine) → IsTold have shows.unit.types → IsSoTold have name unit.types
     of_source (t.Program heading uses all body) unit h shows within = of_program uses.items (view_declarations all.items) body unit h
     of_source (t.Unit here own uses outer interface all body) unit h shows within =
@@ -198,13 +259,7 @@ module _ (sources : List Source) (have : List Interface) (o : AreInOrder sources
         let d = n.part in
         let u = n.made in
         let st = u.made in
-        let tree : Tree = t.Unit here own uses outer interface all body in
-        let w : Whole = whole name h.part d.scope (items_of d.scope) d.globals [] None in
-        let holds : (outlined name s.says g tree).holds w = record { part = h.part; holds = h.holds; made = record { part = d; holds = n.holds; made = refl } } in
-        let same : shows.unit ≡ w = (exact (outlined name s.says g) (lawful_outlined name s.says g)).one tree shows.unit w shows.holds holds in
-        let shown : Shows w mine = subst (λ (x : Whole). Shows x mine) same shows.shows in
-        let told : IsTold have d.scope.types = subst (λ (x : Whole). IsTold have x.types) same within in
+        let f = first_told (t.Unit here own uses outer interface all body) unit h shows within in
         let keeps = all_keep name unit_site (stage (knowing d u.part) []) (view_declarations all.items) st.part st.holds in
         subst (IsSoTold have name) (sym (ended_types name h.part (items_of d.scope) body st.part.draft unit st.made))
-        (behind_last d (interface_keeps name g interface.items d n.holds) (behind_complete name g interface.items d n.holds scope.complete) told (tells_own w shown told)
-        (drop outer uses.items) u.part u.holds st.part.draft.scope keeps)
+        (behind_last d (interface_keeps name g interface.items d n.holds) (behind_complete name g interface.items d n.holds scope.complete) f.told f.tells (drop outer uses.items) u.part u.holds st.part.draft.scope keeps)

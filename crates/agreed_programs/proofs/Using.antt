@@ -1,5 +1,5 @@
 -- Scopes in which units come that are used behind an interface part: the types of the unit itself stay those that it has declared.
-use Rattle.std.proofs.Common.{◌≡◌, inl, inr, ℕ, Bool, true, false, cond, List, [], ◌∷◌, Option, Some, None, refl, sym, subst}
+use Rattle.std.proofs.Common.{◌≡◌, ◌∙◌, inl, inr, ℕ, Bool, true, false, cond, List, [], ◌∷◌, Option, Some, None, refl, sym, ap, subst}
 use Rattle.std.specs.Prelude.{slice_get}
 use Rattle.type_layout.specs.Table.{Table}
 use Rattle.syntax_tree.specs.declared.identifier.Identifier.{Identifier}
@@ -83,3 +83,21 @@ module _ (have : List Interface) (homes : AreClosedHomes have) (told : (word : L
 
   pub outer_owned : (name : List ℕ) (words : List (List ℕ)) → IsToldScope have (first name) → AreOwned (with_uses have (first name) words).types
   outer_owned name words scope = uses_owned (first name) words scope first_owned
+
+-- ---- used units open no block
+
+use_bare : (have : List Interface) (g : Environment) (word : List ℕ) → (with_use have g word).blocks ≡ g.blocks
+use_bare have g word = by (is_overlay word) (interface_named have word)
+  where
+    by : (b : Bool) (found : Option Interface) → (cond b (with_overlay g) (with_found g found)).blocks ≡ g.blocks
+    by true found = refl
+    by false None = refl
+    by false (Some one) = refl
+
+pub uses_bare : (have : List Interface) (g : Environment) (words : List (List ℕ)) → (with_uses have g words).blocks ≡ g.blocks
+uses_bare have g [] = refl
+uses_bare have g (word ∷ words) = uses_bare have (with_use have g word) words ∙ use_bare have g word
+
+pub used_bare : (have : List Interface) (g : Environment) (uses : List Identifier) (h : Environment) → (all_used have g uses).holds h → h.blocks ≡ g.blocks
+used_bare have g [] h e = ap (λ (x : Environment). x.blocks) e
+used_bare have g (one ∷ rest) h e = used_bare have e.part rest h e.made ∙ ap (λ (x : Environment). x.blocks) e.holds.made ∙ use_bare have g one.name

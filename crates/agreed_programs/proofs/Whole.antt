@@ -49,7 +49,7 @@ second_not true b e = (let f : true ≡ false = e in cc)
 second_not false b e = e
 
 -- no source of a program has the name of SYSTEM
-not_system : (sources : List Source) (place : ℕ) (s : Source) → is_of_kind sources place s ≡ true → same_bytes s.name system ≡ false
+pub not_system : (sources : List Source) (place : ℕ) (s : Source) → is_of_kind sources place s ≡ true → same_bytes s.name system ≡ false
 not_system sources place s kind =
     second_not (same_bytes s.name (codes "OVERLAY")) (same_bytes s.name (codes "SYSTEM"))
     (first_not (is_reserved s.name) (cond (nat_eq place 0) (is_program s.tree && not (is_used sources s.name)) (not (is_program s.tree))) kind)
@@ -64,11 +64,11 @@ or_right false b e = e
 
 -- ---- the source of a unit
 
-record IsListed (units : List typed.Unit) (unit : typed.Unit) : Type 0 where
-  number : ℕ
-  at : slice_get units number ≡ Some unit
+pub record IsListed (units : List typed.Unit) (unit : typed.Unit) : Type 0 where
+  pub number : ℕ
+  pub at : slice_get units number ≡ Some unit
 
-listed : (units : List typed.Unit) (name : List ℕ) (unit : typed.Unit) → unit_in units name ≡ Some unit → IsListed units unit
+pub listed : (units : List typed.Unit) (name : List ℕ) (unit : typed.Unit) → unit_in units name ≡ Some unit → IsListed units unit
 listed [] name unit found = absurd (cc)
 listed (first ∷ rest) name unit found = by (same_bytes name first.name) found (λ more. listed rest name unit more)
   where
@@ -108,7 +108,7 @@ module _ (sources : List Source) (have : List Interface) where
 
 -- ---- units
 
-contains_at : (sources : List Source) (place : ℕ) (source : Source) → slice_get sources place ≡ Some source → Contains sources source
+pub contains_at : (sources : List Source) (place : ℕ) (source : Source) → slice_get sources place ≡ Some source → Contains sources source
 contains_at sources place source at = (place, slice_get_within sources place source at, get_or_from_slice_get sources place source source at)
 
 kept_at : (units : List typed.Unit) (number : ℕ) (unit : typed.Unit) → All (λ (u : typed.Unit). IsKeptTable u.types) units → slice_get units number ≡ Some unit → IsKeptTable unit.types

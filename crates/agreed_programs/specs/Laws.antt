@@ -9,6 +9,8 @@ use Rattle.source_gathering.specs.Walk.{Gathers}
 use Rattle.typed_tree.specs.declared.units.Unit.{Unit as TypedUnit}
 use Rattle.typed_tree.specs.declared.units.Program.{Program}
 use Rattle.unit_interface.specs.declared.interfaces.Interface.{Interface}
+use Rattle.sound_standards.specs.Laws.{HasClasses}
+use Rattle.declared_classes.specs.Laws.{HasDeclarers}
 use Rattle.declared_types.specs.Agreement.{IsUnit, IsShort, AreAgreed}
 use Rattle.front_end.specs.Typed.{IsProgram}
 use Rattle.told_types.specs.Told.{AreClosedHomes}
@@ -32,3 +34,13 @@ AgreedLaw = (held : Folder) (name : List ℕ) (texts : List Text) (sources : Lis
 abbrev pub ListedLaw : Type 0
 ListedLaw = (held : Folder) (name : List ℕ) (texts : List Text) (sources : List Source) → Gathers held name texts sources
     → (program : Program) → IsProgram sources program → All (IsUnit program) program.units
+
+-- The unit that declares an object type is one of them.
+abbrev pub DeclarersLaw : Type 0
+DeclarersLaw = (held : Folder) (name : List ℕ) (texts : List Text) (sources : List Source) → Gathers held name texts sources
+    → (program : Program) → IsProgram sources program → HasDeclarers program
+
+-- So each class is found by the key of its type.
+abbrev pub ClassesLaw : Type 0
+ClassesLaw = (held : Folder) (name : List ℕ) (texts : List Text) (sources : List Source) → Gathers held name texts sources
+    → (program : Program) → IsProgram sources program → All (λ (unit : TypedUnit). IsKeptTable unit.types) program.units → HasClasses program
