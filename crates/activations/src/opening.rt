@@ -2,7 +2,7 @@
 
 ghost use Rattle.std.specs.Prelude.{◌≡◌, ◌++◌, Some, map, length, IfOk, OnOk};
 ghost use Rattle.std.specs.Option.{option_map, option_copied};
-ghost use Rattle.well_formed.specs.Scopes.{variables_of};
+ghost use Rattle.type_fits.specs.Routines.{variables_of};
 ghost use Rattle.meaning.specs.Trees.{At, holding};
 ghost use Rattle.meaning.specs.Shapes.{new_tree};
 ghost use Rattle.meaning.specs.Store.{with_new, without};

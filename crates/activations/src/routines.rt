@@ -2,7 +2,7 @@
 
 ghost use Rattle.std.specs.Prelude.{◌≡◌, ◌++◌, map, IfOk, OnOk};
 ghost use Rattle.type_layout.specs.declared.definitions.Param.{Param as ParamOf};
-ghost use Rattle.well_formed.specs.Scopes.{listed, variables_of};
+ghost use Rattle.type_fits.specs.Routines.{listed, variables_of};
 ghost use Rattle.meaning.specs.Activations.{is_self_of, is_alias, result_number, is_constructor};
 
 use std::alloc::{AllocError, Global};

@@ -15,6 +15,7 @@ use Rattle.told_types.specs.Told.{next_key, AreFollowed}
 use Rattle.told_types.specs.Laws.{IsWithDeclared}
 use Rattle.told_types.proofs.Keys.{not_found}
 use Rattle.agreed_programs.specs.Told.{AreOwned}
+use Rattle.agreed_programs.specs.Methods.{HasDeclaredMethods}
 use Rattle.agreed_programs.proofs.Counts.{count_next}
 use Rattle.agreed_programs.proofs.Keeping.{with_own, Stays}
 use Rattle.agreed_programs.proofs.Owned.{all_keys, key_is, key_stays, key_last, type_front, type_last, owned_with}
@@ -116,8 +117,8 @@ module _ (name : List ℕ) (base : Table) where
             absurd (not_both (is_enumeration (Some one)) (ap (λ (t : TypeDef). is_enumeration (Some t)) is) plain)
       ]
 
-  add_one : (table : Table) (one : TypeDef) → is_enumeration (Some one) ≡ false → IsAddable table name one → IsOwnBehind name base table → IsOwnBehind name base (with_own name table one)
-  add_one table one plain fits h =
+  add_one : (table : Table) (one : TypeDef) → is_enumeration (Some one) ≡ false → HasDeclaredMethods one → IsAddable table name one → IsOwnBehind name base table → IsOwnBehind name base (with_own name table one)
+  add_one table one plain methods fits h =
       let l = h.longer in
       record {
         longer = add table one fits l;
@@ -147,9 +148,9 @@ module _ (name : List ℕ) (base : Table) where
             ∙ ap (λ (k : Key). Some (next_key k)) last.1
       ]
 
-  add_two : (table : Table) (one other : TypeDef) → is_enumeration (Some other) ≡ false → IsAddable table name one → IsAddable (with_own name table one) name other → IsOwnBehind name base table
-      → IsOwnBehind name base (with_own name (with_own name table one) other)
-  add_two table one other plain fits behind h =
+  add_two : (table : Table) (one other : TypeDef) → is_enumeration (Some other) ≡ false → HasDeclaredMethods one → HasDeclaredMethods other → IsAddable table name one
+      → IsAddable (with_own name table one) name other → IsOwnBehind name base table → IsOwnBehind name base (with_own name (with_own name table one) other)
+  add_two table one other plain methods last fits behind h =
       let middle = with_own name table one in
       let l = add table one fits h.longer in
       record {

@@ -5,6 +5,7 @@ use Rattle.type_layout.specs.Table.{Table, IsAddable, with_type}
 use Rattle.scopes.specs.Environment.{Environment}
 use Rattle.unit_interface.specs.Misfits.{is_enumeration}
 use Rattle.type_denoters.specs.Additions.{count_of, with_type_of}
+use Rattle.agreed_programs.specs.Methods.{HasDeclaredMethods}
 
 -- a table with a further type of a unit
 abbrev pub with_own : List ℕ → Table → TypeDef → Table
@@ -12,9 +13,9 @@ with_own unit table one = with_type table unit (count_of table unit) one
 
 -- A property that stays with each type of a unit that the table takes, alone or, if it is an enumeration, with the set behind it.
 pub record Stays (unit : List ℕ) (P : Table → Type 0) : Type 0 where
-  pub one : (table : Table) (one : TypeDef) → is_enumeration (Some one) ≡ false → IsAddable table unit one → P table → P (with_own unit table one)
-  pub two : (table : Table) (one other : TypeDef) → is_enumeration (Some other) ≡ false → IsAddable table unit one → IsAddable (with_own unit table one) unit other → P table
-      → P (with_own unit (with_own unit table one) other)
+  pub one : (table : Table) (one : TypeDef) → is_enumeration (Some one) ≡ false → HasDeclaredMethods one → IsAddable table unit one → P table → P (with_own unit table one)
+  pub two : (table : Table) (one other : TypeDef) → is_enumeration (Some other) ≡ false → HasDeclaredMethods one → HasDeclaredMethods other → IsAddable table unit one
+      → IsAddable (with_own unit table one) unit other → P table → P (with_own unit (with_own unit table one) other)
 
 -- from one scope to another each such property stays
 pub record KeepsTo (unit : List ℕ) (g h : Environment) : Type 1 where
@@ -30,10 +31,10 @@ pub next : (unit : List ℕ) (g h k : Environment) → KeepsTo unit g h → Keep
 next unit g h k one two = record { keeps = λ P s p. two.keeps P s (one.keeps P s p) }
 
 -- a type is added, which is no ordinal type of an enumeration
-pub one_more : (unit : List ℕ) (g : Environment) (one : TypeDef) → is_enumeration (Some one) ≡ false → IsAddable g.types unit one → KeepsTo unit g (with_type_of unit g one)
-one_more unit g one other fits = record { keeps = λ P s p. s.one g.types one other fits p }
+pub one_more : (unit : List ℕ) (g : Environment) (one : TypeDef) → is_enumeration (Some one) ≡ false → HasDeclaredMethods one → IsAddable g.types unit one → KeepsTo unit g (with_type_of unit g one)
+one_more unit g one other methods fits = record { keeps = λ P s p. s.one g.types one other methods fits p }
 
 -- or any type with another one behind it
-pub two_more : (unit : List ℕ) (g : Environment) (one two : TypeDef) → is_enumeration (Some two) ≡ false → IsAddable g.types unit one → IsAddable (with_own unit g.types one) unit two
-    → KeepsTo unit g (with_type_of unit (with_type_of unit g one) two)
-two_more unit g one two other fits behind = record { keeps = λ P s p. s.two g.types one two other fits behind p }
+pub two_more : (unit : List ℕ) (g : Environment) (one two : TypeDef) → is_enumeration (Some two) ≡ false → HasDeclaredMethods one → HasDeclaredMethods two → IsAddable g.types unit one
+    → IsAddable (with_own unit g.types one) unit two → KeepsTo unit g (with_type_of unit (with_type_of unit g one) two)
+two_more unit g one two other methods last fits behind = record { keeps = λ P s p. s.two g.types one two other methods last fits behind p }

@@ -1,6 +1,7 @@
 pub mod Alike
 pub mod Keys
 pub mod Agreeing
+pub mod Methods
 pub mod Keeping
 pub mod Types
 pub mod Routines
@@ -16,3 +17,4 @@ pub mod Whole
 pub mod Listed
 pub mod Declarers
 pub mod Sources
+pub mod Below

@@ -17,7 +17,7 @@ use Rattle.source_tree.specs.declared.declaration.RoutineHeader.{RoutineHeader}
 use Rattle.scopes.specs.declared.entries.BlockKind.TheVariants.{Routine}
 use Rattle.scopes.specs.Members.{narrow}
 use Rattle.scopes.specs.Environment.{Environment, with_block}
-use Rattle.well_formed.specs.Fits.{definition}
+use Rattle.type_fits.specs.Fits.{definition}
 use Rattle.type_parts.specs.Objects.{name_of as method_name, header_place}
 use Rattle.type_denoters.specs.Trees.{view_denoter}
 use Rattle.type_denoters.specs.Denoters.{ground}

@@ -6,7 +6,7 @@ use Rattle.type_layout.specs.declared.definitions.Field.{Field}
 use Rattle.type_layout.specs.declared.definitions.TypeDef.{TypeDef}
 use Rattle.type_layout.specs.declared.definitions.TypeDef.TheVariants.{SetOf}
 use Rattle.type_layout.specs.declared.texts.Place.{Place}
-use Rattle.type_layout.specs.Table.{IsAddable}
+use Rattle.type_layout.specs.Table.{IsAddable, place_of}
 use Rattle.syntax_tree.specs.declared.identifier.Identifier.{Identifier}
 use Rattle.type_tree.specs.declared.parameter.Method as written
 use Rattle.type_tree.specs.declared.types.TypeDenoter.{TypeDenoter}
@@ -26,8 +26,10 @@ use Rattle.constant_expressions.specs.Values.{number_of}
 use Rattle.type_denoters.specs.Places.{first_place}
 use Rattle.type_denoters.specs.Denoters.{set_base_of, ground, with_set, range_by, range_of, values_entered, enumeration_of, Ground, string_of, array_of, arrays_of, Listed, Indexes, judged, indexes_judged, fields_judged}
 use Rattle.type_parts.specs.Promised.{promises}
-use Rattle.type_parts.specs.Objects.{object_allowed}
+use Rattle.type_parts.specs.Objects.{inside, object_allowed}
 use Rattle.type_parts.specs.Parts.{whole, next_routine, types_declared, type_part}
+use Rattle.agreed_programs.specs.Methods.{HasDeclaredMethods}
+use Rattle.agreed_programs.proofs.Methods.{methods_declared}
 use Rattle.agreed_programs.proofs.Keeping.{KeepsTo, unchanged, same_table, next, one_more, two_more}
 
 -- what is known with a type
@@ -43,8 +45,9 @@ unfolding added
 added_fits unit g place asked one made h = h.holds.asked
 
 added_keeps : (unit : List ℕ) (g : Environment) (place : Place) (asked : Rule) (one : TypeDef) (made : Denoted) → (added unit g place asked one).holds made → is_enumeration (Some one) ≡ false
-    → KeepsTo unit g made.scope
-added_keeps unit g place asked one made h other = same_table unit g (with_type_of unit g one) made.scope (added_is unit g place asked one made h) (one_more unit g one other (added_fits unit g place asked one made h))
+    → HasDeclaredMethods one → KeepsTo unit g made.scope
+added_keeps unit g place asked one made h other methods =
+    same_table unit g (with_type_of unit g one) made.scope (added_is unit g place asked one made h) (one_more unit g one other methods (added_fits unit g place asked one made h))
 
 pub entered_keeps : (unit : List ℕ) (g : Environment) (place : Place) (name : List ℕ) (one : Entry) (h : Environment) → (entered g place name one).holds h → KeepsTo unit g h
 unfolding entered
@@ -55,20 +58,20 @@ entered_keeps unit g place name one h e = same_table unit g _ h e.made (unchange
 module _ (unit : List ℕ) where
   -- a type, and the set behind it
   set_behind : (g : Environment) (first place : Place) (asked : Rule) (one : TypeDef) (base : TypeId) (made : Denoted) (h : Environment)
-      → (added unit g first asked one).holds made → (with_set unit made.scope place base).holds h → KeepsTo unit g h
-  set_behind g first place asked one base made h begun over =
+      → (added unit g first asked one).holds made → (with_set unit made.scope place base).holds h → HasDeclaredMethods one → KeepsTo unit g h
+  set_behind g first place asked one base made h begun over methods =
       let to = added_is unit made.scope place rules.SetBase (SetOf base) over.part over.holds in
       let from = added_is unit g first asked one made begun in
       same_table unit g (with_type_of unit (with_type_of unit g one) (SetOf base)) h
       (over.made ∙ to ∙ ap (λ (k : Environment). with_type_of unit k (SetOf base)) from)
-      (two_more unit g one (SetOf base) refl (added_fits unit g first asked one made begun)
+      (two_more unit g one (SetOf base) refl methods tt (added_fits unit g first asked one made begun)
       (subst (λ (k : Environment). IsAddable k.types unit (SetOf base)) from (added_fits unit made.scope place rules.SetBase (SetOf base) over.part over.holds)))
 
   range_by_keeps : (g : Environment) (place : Place) (s t : Sort) (low high : ℤ) (made : Denoted) → (range_by unit g place s t low high).holds made → KeepsTo unit g made.scope
   range_by_keeps g place s t low high made e =
       let one = e.made in
       let over = one.made in
-      same_scope unit g made _ over.made (set_behind g place place rules.Constant _ (set_base_of s) one.part over.part one.holds over.holds)
+      same_scope unit g made _ over.made (set_behind g place place rules.Constant _ (set_base_of s) one.part over.part one.holds over.holds tt)
 
   range_keeps : (g : Environment) (place : Place) (low high : Constant) (made : Denoted) → (range_of unit g place low high).holds made → KeepsTo unit g made.scope
   unfolding range_of
@@ -84,16 +87,16 @@ module _ (unit : List ℕ) where
       let one = e.made in
       let two = one.made in
       let three = two.made in
-      next unit g two.part made.scope (set_behind g place place rules.Constant _ one.part.ty one.part two.part one.holds two.holds)
+      next unit g two.part made.scope (set_behind g place place rules.Constant _ one.part.ty one.part two.part one.holds two.holds tt)
       (same_scope unit two.part made _ three.made (values_keep two.part one.part.ty 0 names three.part three.holds))
 
   string_keeps : (g : Environment) (place : Place) (size : Constant) (made : Denoted) → (string_of unit g place size).holds made → KeepsTo unit g made.scope
   unfolding string_of
-  string_keeps g place size made e = added_keeps unit g _ _ _ made e.made refl
+  string_keeps g place size made e = added_keeps unit g _ _ _ made e.made refl tt
 
   array_keeps : (g : Environment) (place : Place) (index element : TypeId) (made : Denoted) → (array_of unit g place index element).holds made → KeepsTo unit g made.scope
   unfolding array_of
-  array_keeps g place index element made e = added_keeps unit g _ _ _ made e.made refl
+  array_keeps g place index element made e = added_keeps unit g _ _ _ made e.made refl tt
 
   arrays_keep : (place : Place) (types : List TypeId) (element made : Denoted) → (arrays_of unit place types element).holds made → KeepsTo unit element.scope made.scope
   arrays_keep place [] element made e = same_scope unit element.scope made element e (unchanged unit element.scope _ refl)
@@ -111,20 +114,20 @@ mutual
   type_keeps on g (named one) made e = same_scope on.unit g made _ e.made (unchanged on.unit g _ refl)
   type_keeps on g (range low high) made e = range_keeps on.unit g (first_place low) e.left e.right made e.made
   type_keeps on g (enumeration place all) made e = enumeration_keeps on.unit g place all made e
-  type_keeps on g (pointer one) made e = added_keeps on.unit g _ _ _ made e.made refl
+  type_keeps on g (pointer one) made e = added_keeps on.unit g _ _ _ made e.made refl tt
   type_keeps on g string made e = same_scope on.unit g made _ e (unchanged on.unit g _ refl)
   type_keeps on g (sized place size) made e = string_keeps on.unit g place e.part made e.made
-  type_keeps on g (procedure place groups) made e = added_keeps on.unit g _ _ _ made e.made refl
-  type_keeps on g (function place groups result) made e = added_keeps on.unit g _ _ _ made e.made refl
+  type_keeps on g (procedure place groups) made e = added_keeps on.unit g _ _ _ made e.made refl tt
+  type_keeps on g (function place groups result) made e = added_keeps on.unit g _ _ _ made e.made refl tt
   type_keeps on g (object place ancestor all methods) made e = absurd e
   type_keeps on g (array place all element) made e =
       let one = e.made in
       next on.unit g e.part.scope made.scope (indexes_keep on g [] all e.part e.holds)
       (next on.unit e.part.scope one.part.scope made.scope (type_keeps on e.part.scope element one.part one.holds) (arrays_keep on.unit place e.part.types one.part made one.made))
   type_keeps on g (record_of place all) made e =
-      next on.unit g e.part.scope made.scope (fields_keep on g [] all e.part e.holds) (added_keeps on.unit e.part.scope _ _ _ made e.made refl)
+      next on.unit g e.part.scope made.scope (fields_keep on g [] all e.part e.holds) (added_keeps on.unit e.part.scope _ _ _ made e.made refl tt)
   type_keeps on g (set place element) made e =
-      next on.unit g e.part.scope made.scope (type_keeps on g element e.part e.holds) (added_keeps on.unit e.part.scope _ _ _ made e.made refl)
+      next on.unit g e.part.scope made.scope (type_keeps on g element e.part e.holds) (added_keeps on.unit e.part.scope _ _ _ made e.made refl tt)
 
   indexes_keep : (on : Ground) (g : Environment) (before : List TypeId) (all : Denoters) (made : Indexes) → (indexes_judged on g before all).holds made → KeepsTo on.unit g made.scope
   indexes_keep on g before no_denoters made e = same_indexes on.unit g made _ e (unchanged on.unit g _ refl)
@@ -144,7 +147,9 @@ object_keeps : (on : Ground) (next_one : Option ℕ) (name : List ℕ) (g : Envi
 object_keeps on None name g place ancestor all methods made e = absurd e
 object_keeps on (Some first) name g place ancestor all methods made e =
     let l = e.made in
-    next on.unit g l.part.scope made.scope (fields_keep on g [] all l.part l.holds) (added_keeps on.unit l.part.scope _ _ _ made l.made.made refl)
+    let m = l.made in
+    next on.unit g l.part.scope made.scope (fields_keep on g [] all l.part l.holds)
+    (added_keeps on.unit l.part.scope _ _ _ made m.made refl (methods_declared (inside l.part.scope name) (place_of l.part.scope.types.units on.unit) first l.part.fields methods m.part m.holds))
 
 whole_keeps : (on : Ground) (next_one : Option ℕ) (name : List ℕ) (g : Environment) (one : TypeDenoter) (made : Denoted) → (whole on next_one name g one).holds made → KeepsTo on.unit g made.scope
 whole_keeps on next_one name g (t.Object' here ancestor shape fields semicolon methods) made e = object_keeps on next_one name g here.place ancestor (view_field_row fields) methods.items made e

@@ -1,2 +1,4 @@
+pub mod Methods
 pub mod Told
 pub mod Laws
+pub mod Below

@@ -4,3 +4,4 @@
 mod laws;
 
 pub use laws::agreed_program_laws;
+pub use program_laws::program_laws;

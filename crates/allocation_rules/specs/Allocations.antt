@@ -13,7 +13,7 @@ use Rattle.typed_tree.specs.declared.statements.Destructor.{Destructor}
 use Rattle.typed_tree.specs.declared.statements.Destructor.TheVariants as destructor
 use Rattle.typed_tree.specs.Expressions.{Expression, NoArguments, Std, Make}
 use Rattle.typed_tree.specs.Statements.{Statement, Unmake}
-use Rattle.well_formed.specs.Fits.{definition}
+use Rattle.type_fits.specs.Fits.{definition}
 use Rattle.scopes.specs.Environment.{Environment}
 use Rattle.typing_rules.specs.declared.faults.Rule.TheVariants as rules
 use Rattle.typing_rules.specs.Faults.{broken}

@@ -9,7 +9,7 @@ use Rattle.type_layout.specs.declared.definitions.TypeDef.{TypeDef}
 use Rattle.type_layout.specs.declared.definitions.TypeDef.TheVariants as type
 use Rattle.type_layout.specs.Table.{Table, place_of}
 use Rattle.type_layout.proofs.Local.{slice_get-append}
-use Rattle.well_formed.specs.Fits.{definition}
+use Rattle.type_fits.specs.Fits.{definition}
 use Rattle.scopes.specs.Symbols.{SymbolList}
 use Rattle.unit_interface.specs.Merge.{ids_in, with_items, with_interface}
 use Rattle.unit_interface.specs.Exports as exports
@@ -19,8 +19,8 @@ use Rattle.closed_constants.specs.Ordered.{IsOrdered}
 use Rattle.closed_constants.proofs.Below.{below_first, below_last}
 use Rattle.closed_scopes.specs.Scopes.{AreClosed}
 use Rattle.sound_tables.proofs.Sound.{sound}
-use Rattle.declared_values.proofs.Given.{below_names}
-use Rattle.checked_routines.specs.Reading.{IsTabled}
+use Rattle.checked_units.proofs.Below.{below_names}
+use Rattle.checked_units.specs.Below.{IsTabled}
 use Rattle.checked_units.specs.Bringing.{IsForeign}
 use Rattle.brought_interfaces.specs.Laws.{InterfaceLaw}
 use Rattle.brought_interfaces.proofs.Merged.{IsGrownTo, grown_to}
@@ -91,6 +91,6 @@ interface_brings closing name g i s known table complete named shown fits faithf
           foreign;
       sound = sound h fit whole after.ordered.begins;
       table = tabled name g.types h.types table after.ordered grown whole.types;
-      entries = entries_there name g i s named faithful.other names each low;
+      entries = entries_there name g i s named faithful.other each low;
       values = constants_there name g i s named faithful.other names each;
     }

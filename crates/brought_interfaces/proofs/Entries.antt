@@ -1,16 +1,11 @@
 -- What the names of a used unit mean is there.
-use Rattle.std.proofs.Common.{◌≡◌, ℕ, zero, suc, ◌<◌, ◌≤◌, Bool, true, false, cond, List, [], ◌∷◌, ◌++◌, length, Some, refl, sym, subst, ap, ◌∙◌, arith, append-nil, append_assoc}
+use Rattle.std.proofs.Common.{◌≡◌, ℕ, zero, suc, ◌≤◌, Bool, true, false, cond, List, [], ◌∷◌, ◌++◌, length, Some, refl, sym, subst, ap, ◌∙◌, arith, append-nil, append_assoc}
 use Rattle.std.specs.Prelude.{slice_get}
-use Rattle.std.proofs.lemmas.Option.{slice_get_within}
-use Rattle.type_layout.specs.declared.definitions.TypeId.{TypeId}
-use Rattle.type_layout.specs.declared.definitions.RoutineId.{RoutineId}
 use Rattle.type_layout.specs.Table.{place_of, with_unit}
 use Rattle.type_layout.specs.Words.{same_bytes}
 use Rattle.typed_tree.specs.declared.units.Item.{Item}
 use Rattle.typed_tree.specs.declared.units.Item.TheVariants as item
-use Rattle.typed_tree.specs.declared.units.Routine.{Routine}
-use Rattle.well_formed.specs.Scopes.{Scope, IsGlobal, IsRoutineAt}
-use Rattle.well_formed.specs.Typed.{IsRoutineValue}
+use Rattle.well_formed.specs.Scopes.{Scope, IsNamed}
 use Rattle.scopes.specs.Predeclared.{system}
 use Rattle.scopes.specs.declared.entries.Entry.{Entry}
 use Rattle.scopes.specs.declared.entries.Entry.TheVariants as entry
@@ -19,14 +14,13 @@ use Rattle.scopes.specs.Environment.{Environment}
 use Rattle.unit_interface.specs.declared.interfaces.Interface.{Interface}
 use Rattle.unit_interface.specs.Merge.{ids_in, with_items, with_declaring, with_all_declaring, with_interface}
 use Rattle.typed_nodes.proofs.Fields.{some_within}
-use Rattle.typed_calls.specs.Laws.{IsFree}
 use Rattle.closed_constants.specs.Bounds.{AreBelow, in_entry}
 use Rattle.sound_tables.proofs.Sound.{header_in}
 use Rattle.constant_values.specs.Whole.{IsConstantOf}
-use Rattle.declared_values.specs.Values.{IsConstantIn}
-use Rattle.known_names.specs.Known.{IsVariableIn, IsAtDepth, IsEntry, EachOf}
-use Rattle.checked_parts.proofs.Tables.{placed}
+use Rattle.checked_units.specs.Below.{IsConstantIn, IsEntry, EachOf}
+use Rattle.checked_units.proofs.Below.{unit_among, snoc_last, placed}
 use Rattle.checked_units.specs.Bringing.{with_table}
+use Rattle.checked_units.proofs.Told.{IsShown, named_at, names_told, entries_told}
 use Rattle.checked_units.proofs.Overlay.{EachItem, items_have}
 use Rattle.shown_constants.specs.Agreed.{AreConstantsIn}
 use Rattle.brought_interfaces.proofs.Merged.{get_front}
@@ -79,9 +73,6 @@ module _ (name : List ℕ) (g : Environment) (i : Interface) (s : Scope) (named 
       let all = longer_all i.types.units (with_unit g.units i.name) in
       ap (λ (us : List (List ℕ)). slice_get us place) all.is ∙ get_front (with_unit g.units i.name) all.back place i.name (placed g.units i.name).there
 
-  within : place < length h.units
-  within = slice_get_within h.units place i.name at_place
-
   behind_first : 1 ≤ place
   behind_first = by place at_place
     where
@@ -96,18 +87,6 @@ module _ (name : List ℕ) (g : Environment) (i : Interface) (s : Scope) (named 
           let same : i.name ≡ name = cc in
           absurd (other same)
       by (suc n) e = omega arith
-
-  global : (n number : ℕ) (ty : TypeId) → 1 ≤ n → n < length h.units → IsGlobal wide n number ty
-  global zero number ty first low = absurd (omega (arith, first))
-  global (suc n) number ty first low = low
-
-  routine : (Asked : Routine → Type 0) (n number : ℕ) → 1 ≤ n → n < length h.units → IsRoutineAt Asked wide n number
-  routine Asked zero number first low = absurd (omega (arith, first))
-  routine Asked (suc n) number first low = low
-
-  depth : (n number level : ℕ) → 1 ≤ n → IsAtDepth wide n number level
-  depth zero number level first = absurd (omega (arith, first))
-  depth (suc n) number level first = tt
 
   -- what an item means, but for types
   abbrev pub IsOfInterface : Entry → Type 0
@@ -127,28 +106,27 @@ module _ (name : List ℕ) (g : Environment) (i : Interface) (s : Scope) (named 
   pub of_interface : AreConstantsIn h.types.types (ids_in g.types i.types) i.items → EachOf IsOfInterface (with_items (ids_in g.types i.types) place [] i.items)
   of_interface k = items_have IsOfInterface (ids_in g.types i.types) place [] i.items tt (each_item i.items k)
 
-  variable_there : (unit level number : ℕ) (ty : TypeId) → unit ≡ place → level ≡ 0 → IsVariableIn wide [] level unit number ty
-  variable_there unit level number ty at outer =
-      subst (λ (l : ℕ). IsVariableIn wide [] l unit number ty) (sym outer) (subst (λ (u : ℕ). IsGlobal wide u number ty) (sym at) (global place number ty behind_first within))
-
-  routine_there : (Asked : Routine → Type 0) (code : RoutineId) → code.unit ≡ place → IsRoutineAt Asked wide code.unit code.number
-  routine_there Asked code at = subst (λ (u : ℕ). IsRoutineAt Asked wide u code.number) (sym at) (routine Asked place code.number behind_first within)
-
-  entry_there : (one : Entry) → IsOfInterface one → AreBelow (length h.types.types) (in_entry one) → IsEntry wide [] one
+  entry_there : (one : Entry) → IsOfInterface one → AreBelow (length h.types.types) (in_entry one) → IsShown wide one
   entry_there (entry.Const ty v) k low = k.value
   entry_there (entry.Ty ty) k low = some_within h.types.types ty.0 low.0
-  entry_there (entry.Var unit level number ty) k low = (some_within h.types.types ty.0 low.0, variable_there unit level number ty k.0 k.1)
+  entry_there (entry.Var unit level number ty) k low = (some_within h.types.types ty.0 low.0, k.1, subst (λ (u : ℕ). 1 ≤ u) (sym k.0) behind_first)
   entry_there (entry.Code code level header far) k low = (
-    routine_there (IsFree header) code k,
     header_in h.types.types header low,
-    λ is_far outer. routine_there (IsRoutineValue header) code k,
-    subst (λ (u : ℕ). IsAtDepth wide u code.number level) (sym k) (depth place code.number level behind_first),
+    subst (λ (u : ℕ). 1 ≤ u) (sym k) behind_first,
+    subst (λ (u : ℕ). IsNamed wide u) (sym k) (named_at wide place i.name behind_first (unit_among h place i.name at_place)),
   )
   entry_there (entry.Std number) k low = absurd k
 
-  pub entries_there : (names : SymbolList) → EachOf IsOfInterface names → EachOf (λ (one : Entry). AreBelow (length h.types.types) (in_entry one)) names → EachOf (IsEntry wide []) names
-  entries_there [] k low = tt
-  entries_there (one ∷ rest) k low = (entry_there one.1 k.0 low.0, entries_there rest k.1 low.1)
+  shown_there : (names : SymbolList) → EachOf IsOfInterface names → EachOf (λ (one : Entry). AreBelow (length h.types.types) (in_entry one)) names → EachOf (IsShown wide) names
+  shown_there [] k low = tt
+  shown_there (one ∷ rest) k low = (entry_there one.1 k.0 low.0, shown_there rest k.1 low.1)
+
+  -- the names that the unit brings
+  abbrev names : SymbolList
+  names = with_items (ids_in g.types i.types) place [] i.items
+
+  pub entries_there : EachOf IsOfInterface names → EachOf (λ (one : Entry). AreBelow (length h.types.types) (in_entry one)) names → EachOf (IsEntry wide []) names
+  entries_there k low = entries_told wide names (shown_there names k low) (names_told h (length g.used) names (snoc_last g.used names))
 
   constant_there : (one : Entry) → IsOfInterface one → IsConstantIn h.types.types one
   constant_there (entry.Const ty v) k = k

@@ -10,8 +10,8 @@ use Rattle.closed_scopes.specs.Scopes.{AreClosed, IsCompleteScope}
 use Rattle.constant_values.specs.Laws.{StayConstants}
 use Rattle.sound_tables.specs.Laws.{IsFit}
 use Rattle.routines.specs.Drafts.{knowing}
-use Rattle.checked_routines.specs.Reading.{scope_of}
-use Rattle.checked_parts.proofs.Closed.{known_closed}
+use Rattle.checked_units.specs.Below.{scope_of}
+use Rattle.checked_units.proofs.Below.{known_closed}
 use Rattle.checked_units.specs.Begun.{IsJoined}
 use Rattle.checked_units.proofs.Bringing.{brought_draft}
 use Rattle.brought_interfaces.specs.Laws.{FurtherLaw}

@@ -3,3 +3,4 @@ pub mod Entries
 pub mod Brought
 pub mod Further
 pub mod Own
+pub mod Below

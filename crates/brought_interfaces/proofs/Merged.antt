@@ -12,7 +12,7 @@ use Rattle.type_layout.proofs.Local.{slice_get-append}
 use Rattle.unit_interface.specs.Merge.{key_of, renumbered_method, renumbered, with_listed, is_new, merged}
 use Rattle.method_rules.specs.Slots.{methods_of}
 use Rattle.closed_constants.proofs.Below.{at_push}
-use Rattle.checked_parts.proofs.Tables.{placed}
+use Rattle.checked_units.proofs.Below.{placed}
 
 pub get_front : {A : Type 0} → (xs ys : List A) (k : ℕ) (x : A) → slice_get xs k ≡ Some x → slice_get (xs ++ ys) k ≡ Some x
 get_front xs ys k x e = slice_get-append xs ys k (slice_get_within xs k x e) ∙ e

@@ -12,8 +12,8 @@ use Rattle.type_layout.specs.Table.{Table, place_of}
 use Rattle.type_layout.specs.Words.{same_bytes}
 use Rattle.typed_tree.specs.declared.units.Item.{Item}
 use Rattle.typed_tree.specs.declared.units.Item.TheVariants as item
-use Rattle.well_formed.specs.Fits.{definition, AreSameHeaders}
-use Rattle.well_formed.specs.Scopes.{Scope}
+use Rattle.type_fits.specs.Fits.{definition, AreSameHeaders}
+use Rattle.well_formed.specs.Scopes.{Others, Scope}
 use Rattle.scopes.specs.declared.entries.Entry.{Entry}
 use Rattle.scopes.specs.declared.entries.Entry.TheVariants as entry
 use Rattle.scopes.specs.declared.searches.OpenBlock.{OpenBlock}
@@ -26,12 +26,9 @@ use Rattle.unit_interface.specs.Resolve.{interface_named, with_found, with_overl
 use Rattle.method_rules.specs.Slots.{methods_of}
 use Rattle.typed_nodes.specs.Tables.{IsHeaderIn, IsSound}
 use Rattle.constant_values.specs.Laws.{StayConstants}
-use Rattle.declared_values.specs.Values.{IsConstantIn}
-use Rattle.known_names.specs.Known.{opening, IsDeep, IsVariableIn, IsEntry, EachOf, EachIn}
 use Rattle.routines.specs.Drafts.{Numbered, Drafted, knowing}
-use Rattle.tp_check_decl.specs.Interfaces.{item_of, items_in, items_by, items_of}
-use Rattle.checked_routines.specs.Reading.{scope_of, tree_of, IsOwnRoutine, IsOwn as IsOwnName, IsBottom, IsTabled, IsRead}
-use Rattle.checked_routines.proofs.Lists.{plain_at}
+use Rattle.checked_units.specs.Below.{IsConstantIn, opening, IsDeep, IsVariableIn, IsEntry, EachOf, EachIn, others_of, item_of, items_in, items_by, items_of, scope_of, tree_of, IsOwnRoutine, IsOwn as IsOwnName, IsBottom, IsTabled, IsRead}
+use Rattle.checked_units.proofs.BelowMore.{plain_at}
 use Rattle.checked_units.specs.Begun.{IsJoined}
 use Rattle.checked_units.specs.Bringing.{Brings}
 use Rattle.checked_units.proofs.Bringing.{brought_draft}
@@ -106,12 +103,12 @@ module _ (types : List TypeDef) where
   constants_back [] h = tt
   constants_back (one ∷ rest) h = constant_back one.0 one.1 (items_in rest) h.0 (constants_back rest h.1)
 
-module _ (d : Drafted) (r : IsRead d []) (all_far : All (λ (one : Numbered). one.first.far ≡ true) d.routines) (units : ℕ) where
+module _ (d : Drafted) (r : IsRead d []) (all_far : All (λ (one : Numbered). one.first.far ≡ true) d.routines) (others : Others) where
   abbrev known : Scope
   known = scope_of d []
 
   abbrev wide : List TypeDef → Scope
-  wide types = record known { types = types; units = units }
+  wide types = record known { types = types; others = others }
 
   abbrev after : Scope
   after = wide d.scope.types.types
@@ -130,9 +127,9 @@ module _ (d : Drafted) (r : IsRead d []) (all_far : All (λ (one : Numbered). on
       let same : AreSameHeaders header it.one.first.header = subst (λ (h : Header). AreSameHeaders h it.one.first.header) it.first itself in
       let is_far = far_at number it.one it.is in
       let deep : IsDeep after.routines 0 it.one.first.outer = subst (λ (o : Option ℕ). IsDeep after.routines 0 o) (sym it.outer) tt in (
-        (tree_of it.one, at, record { free = it.free; same = same }),
+        (tree_of it.one, at, record { free = record { free = it.free; same = same }; outer = it.outer }),
         within,
-        λ far level. (tree_of it.one, at, record { far = is_far; free = it.free; outermost = it.outer; same = same }),
+        λ far level. ((tree_of it.one, at, record { far = is_far; free = it.free; outermost = it.outer; same = same }), tt),
         (tree_of it.one, at, deep),
       )
 
@@ -178,12 +175,12 @@ own_brings name d i r named own =
     let place : place_of g.units i.name ≡ 0 = ap (λ (word : List ℕ). place_of g.units word) own.own ∙ first_place g.units name named in
     let same : g.types ≡ h.types = sym own.types in
     let units = units_longer g i in
-    let entries : EachOwn (IsEntry (wide d r own.far (length h.units) h.types.types) []) (map (renumbered_item ids) i.items) =
-    subst (λ (t : Table). EachOwn (IsEntry (wide d r own.far (length h.units) t.types) []) (map (renumbered_item ids) i.items)) same
-    (subst (λ (items : List Item). EachOwn (IsEntry (after d r own.far (length h.units)) []) items) (sym own.items) (shown_entries d r own.far (length h.units))) in
+    let entries : EachOwn (IsEntry (wide d r own.far (others_of h) h.types.types) []) (map (renumbered_item ids) i.items) =
+    subst (λ (t : Table). EachOwn (IsEntry (wide d r own.far (others_of h) t.types) []) (map (renumbered_item ids) i.items)) same
+    (subst (λ (items : List Item). EachOwn (IsEntry (after d r own.far (others_of h)) []) items) (sym own.items) (shown_entries d r own.far (others_of h))) in
     let constants : EachOwn (IsConstantIn h.types.types) (map (renumbered_item ids) i.items) =
     subst (λ (t : Table). EachOwn (IsConstantIn t.types) (map (renumbered_item ids) i.items)) same
-    (subst (λ (items : List Item). EachOwn (IsConstantIn g.types.types) items) (sym own.items) (shown_constants d r own.far (length h.units))) in
+    (subst (λ (items : List Item). EachOwn (IsConstantIn g.types.types) items) (sym own.items) (shown_constants d r own.far (others_of h))) in
     record {
       names = with_items ids (place_of g.units i.name) [] i.items;
       whole = refl;
@@ -194,7 +191,7 @@ own_brings name d i r named own =
           absurd (none_beyond g.types.types class.0 at method high (ap (λ (t : Table). slice_get (methods_of (definition t.types class)) at) same ∙ m));
       sound = subst (λ (t : Table). IsSound t.types) same r.known.sound;
       table = subst (λ (t : Table). IsTabled t) same r.table;
-      entries = own_have (IsEntry (wide d r own.far (length h.units) h.types.types) []) ids (place_of g.units i.name) i.items place entries;
+      entries = own_have (IsEntry (wide d r own.far (others_of h) h.types.types) []) ids (place_of g.units i.name) i.items place entries;
       values = own_have (IsConstantIn h.types.types) ids (place_of g.units i.name) i.items place constants;
     }
 

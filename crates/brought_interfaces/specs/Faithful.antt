@@ -6,7 +6,7 @@ use Rattle.unit_interface.specs.declared.interfaces.Interface.{Interface}
 use Rattle.unit_interface.specs.Exports.{renumbered_item}
 use Rattle.unit_interface.specs.Merge.{key_of, is_new, merged, ids_in, with_types, with_interface}
 use Rattle.routines.specs.Drafts.{Numbered, Drafted}
-use Rattle.tp_check_decl.specs.Interfaces.{items_of}
+use Rattle.checked_units.specs.Below.{items_of}
 use Rattle.shown_constants.specs.Agreed.{AreConstantsIn}
 
 -- It is that of another unit than the one which is read, no type that is new in the scope is of the unit which is read, and its

@@ -9,11 +9,8 @@ use Rattle.unit_interface.specs.Fitting.{types_fit}
 use Rattle.unit_interface.specs.Resolve.{is_overlay, interface_named}
 use Rattle.closed_scopes.specs.Scopes.{IsCompleteScope, IsClosedInterface}
 use Rattle.sound_tables.specs.Laws.{IsFit}
-use Rattle.known_names.specs.Known.{AreKnown}
 use Rattle.routines.specs.Drafts.{Drafted, knowing}
-use Rattle.tp_check_decl.specs.Interfaces.{further_used}
-use Rattle.checked_routines.specs.Reading.{IsTabled, IsRead}
-use Rattle.checked_routines.specs.Rooms.{HasRoom}
+use Rattle.checked_units.specs.Below.{AreKnown, further_used, IsTabled, IsRead, HasRoom}
 use Rattle.checked_units.specs.Begun.{IsJoined}
 use Rattle.checked_units.specs.Bringing.{Brings}
 use Rattle.brought_interfaces.specs.Faithful.{IsFaithful, IsOwn}

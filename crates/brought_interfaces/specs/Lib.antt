@@ -1,2 +1,3 @@
 pub mod Faithful
 pub mod Laws
+pub mod Below

@@ -3,4 +3,6 @@
 
 mod laws;
 
+pub use checked_units::{checked_unit_laws, part_keeping_law};
 pub use laws::{further_use_law, interface_law, own_use_law};
+pub use shown_constants::shown_constant_law;

@@ -1,5 +1,5 @@
 -- Each expression that is typed by the rules has a typed node.
-use Rattle.std.proofs.Common.{◌≡◌, inl, inr, ℕ, ◌<◌, ◌≤◌, not, Bool, true, false, cond, List, [], ◌∷◌, length, Option, Some, None, sym, subst, arith}
+use Rattle.std.proofs.Common.{◌≡◌, inl, inr, ℕ, ◌<◌, not, Bool, true, false, cond, List, [], ◌∷◌, Option, Some, None, sym, subst, arith}
 use Rattle.std.proofs.Math.IntN.{pos}
 use Rattle.std.specs.Prelude.{◌≤ℤ◌, bit_xor}
 use Rattle.std.proofs.lemmas.Int.{ints}
@@ -13,7 +13,7 @@ use Rattle.pascal_grammar.specs.declared.lexeme.Position.{Position}
 use Rattle.syntax_tree.specs.declared.expression.PlacedSign.{PlacedSign}
 use Rattle.typed_tree.specs.declared.expressions.Value.TheVariants as value
 use Rattle.typed_tree.specs.Expressions.{Expression, Const}
-use Rattle.well_formed.specs.Fits.{definition, IsValue}
+use Rattle.type_fits.specs.Fits.{definition, IsValue}
 use Rattle.well_formed.specs.Scopes.{Scope}
 use Rattle.well_formed.specs.Typed.{IsTyped}
 use Rattle.scopes.specs.Environment.{Environment}
@@ -58,13 +58,13 @@ module _ (g : Environment) (s : Scope) (a : Agrees g s) where
       let most : pos byte ≤ℤ pos 255 = omega (arith, ints, h) in
       value_held s.types (definition s.types char) host.Char (pos byte) (stored_char s.types a.sound) (holding host.Char (pos byte) least most)
 
-  string_typed : (bytes : List ℕ) → length bytes ≤ 255 → IsTyped s (Const string (value.Chars bytes))
-  string_typed bytes h = subst (λ (o : Option TypeDef). IsValue s.types (value.Chars bytes) o) (sym (text_type s.types a.sound)) h
+  string_typed : (bytes : List ℕ) → IsText bytes → IsTyped s (Const string (value.Chars bytes))
+  string_typed bytes h = subst (λ (o : Option TypeDef). IsValue s.types (value.Chars bytes) o) (sym (text_type s.types a.sound)) (h.short, h.each)
 
   text_typed : (bytes : List ℕ) → IsText bytes → IsTyped s (text_constant bytes)
-  text_typed [] h = string_typed [] h.short
+  text_typed [] h = string_typed [] h
   text_typed (byte ∷ []) h = character byte (All-head (λ (b : ℕ). b < 256) byte [] h.each)
-  text_typed (byte ∷ (other ∷ bytes)) h = string_typed (byte ∷ (other ∷ bytes)) h.short
+  text_typed (byte ∷ (other ∷ bytes)) h = string_typed (byte ∷ (other ∷ bytes)) h
 
   control_typed : (letter : List ℕ) → IsLetter letter → IsTyped s (control_constant letter)
   control_typed [] h = string_typed [] h

@@ -1,7 +1,7 @@
 -- When what is known where some blocks are open agrees with what trees may name there.
 use Rattle.std.specs.Prelude.{◌≡◌, ℕ, List, Some}
 use Rattle.type_layout.specs.declared.definitions.TypeId.{TypeId}
-use Rattle.well_formed.specs.Fits.{definition, IsValue}
+use Rattle.type_fits.specs.Fits.{definition, IsValue}
 use Rattle.well_formed.specs.Scopes.{Scope, HasVariable}
 use Rattle.well_formed.specs.Typed.{HasPlace}
 use Rattle.scopes.specs.declared.entries.Entry.{Entry}

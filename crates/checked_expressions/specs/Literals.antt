@@ -12,7 +12,7 @@ pub record IsText (bytes : List ℕ) : Type 0 where
 -- the control character of a letter is a byte
 abbrev pub IsLetter : List ℕ → Type 0
 IsLetter (letter ∷ []) = bit_xor letter 64 < 256
-IsLetter bytes = length bytes ≤ 255
+IsLetter bytes = IsText bytes
 
 abbrev mutual
   -- each number has 32 bits, and each text is one

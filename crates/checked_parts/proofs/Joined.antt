@@ -1,5 +1,5 @@
 -- What is known stays known behind a part, where what it declares is well formed.
-use Rattle.std.proofs.Common.{◌≡◌, ◌⊎◌, inl, inr, ℕ, zero, suc, ◌+◌, ◌<◌, ◌≤◌, Bool, true, cond, All, List, [], ◌∷◌, ◌++◌, length, map, get_or, Option, Some, None, refl, sym, subst, ap, ◌∙◌, arith, length-append}
+use Rattle.std.proofs.Common.{◌≡◌, ◌⊎◌, inl, inr, ℕ, zero, suc, ◌+◌, ◌<◌, ◌≤◌, Bool, true, cond, All, List, [], ◌∷◌, ◌++◌, length, map, get_or, Option, Some, None, refl, sym, subst, ap, ◌∙◌, arith, length-append, append-nil}
 use Rattle.std.specs.Prelude.{ℤ, slice_get, ◌^◌, option_map}
 use Rattle.std.specs.Cmp.Lexicographic.{bytes_decides}
 use Rattle.std.proofs.lemmas.Bool.{lt-ltb}
@@ -18,8 +18,9 @@ use Rattle.type_layout.specs.declared.definitions.TypeDef.TheVariants as type
 use Rattle.type_layout.specs.Words.{same_bytes}
 use Rattle.typed_tree.specs.declared.units.Global.{Global}
 use Rattle.typed_tree.specs.declared.units.Routine.{Routine}
-use Rattle.well_formed.specs.Fits.{definition, IsSome, IsObject, shape_of}
-use Rattle.well_formed.specs.Scopes.{Scope, HasRoutine, IsRoutineAt, listed, variables_of}
+use Rattle.type_fits.specs.Fits.{definition, IsSome, IsObject, shape_of}
+use Rattle.type_fits.specs.Routines.{listed, variables_of}
+use Rattle.well_formed.specs.Scopes.{prototype, Scope, HasRoutine, IsRoutineAt}
 use Rattle.well_formed.specs.WellFormed.{IsOwner}
 use Rattle.scopes.specs.declared.entries.Entry.{Entry}
 use Rattle.scopes.specs.declared.entries.Entry.TheVariants as entry
@@ -37,11 +38,13 @@ use Rattle.routines.specs.Drafts.{Done, Numbered, Drafted, Stage, progress_of}
 use Rattle.routines.specs.Methods.{method_announced, awaiting}
 use Rattle.typed_nodes.specs.Tables.{IsInTable, IsResultIn, IsHeaderIn, NamesWithin}
 use Rattle.typed_methods.specs.Declared.{IsMethod, HasMethods}
-use Rattle.wider_scopes.specs.Wider.{IsSame}
+use Rattle.wider_scopes.specs.Wider.{IsSame, AreAmong}
 use Rattle.closed_constants.specs.Ordered.{IsOrdered}
 use Rattle.closed_constants.specs.Bounds.{AreBelow}
 use Rattle.known_names.specs.Known.{open_in, AreNested, IsVariableIn, IsEntry, EachIn, IsPlaced, AreKnown}
 use Rattle.known_names.specs.Growing.{Extends}
+use Rattle.known_names.specs.Others.{others_of}
+use Rattle.known_names.proofs.Others.{unit_told_from, others_grow}
 use Rattle.known_names.proofs.Growing.{further_known}
 use Rattle.declared_names.specs.Declaring.{typing, with_names}
 use Rattle.declared_parts.specs.Declaring.{IsGlobalOf, IsOwnOf}
@@ -115,6 +118,19 @@ module _ (unit : List ℕ) (site : Site) (s : Stage) (frames : List Frame) (at :
     units_are : q.scope.units ≡ before.scope.units
     units_are = ap (λ (g : Environment). g.units) gives.whole ∙ units_same (typing before.scope q.scope.types) gives.names
 
+    used_same : (g : Environment) (names : SymbolList) → (with_names g names).used ≡ g.used
+    used_same g [] = refl
+    used_same g (one ∷ rest) = used_same (with_name g one.0 one.1) rest
+
+    -- what is supposed of other units
+    others_more : AreAmong (others_of before.scope) (others_of q.scope)
+    others_more = others_grow before.scope q.scope (record {
+      used = ([], ap (λ (g : Environment). g.used) gives.whole ∙ used_same (typing before.scope q.scope.types) gives.names ∙ sym (append-nil before.scope.used));
+      units = ([], units_are ∙ sym (append-nil before.scope.units));
+      table_units = (awaits.units, awaits.has_units);
+      types = gives.types;
+    })
+
     framed : AreFramed (length before.routines) old_frames
     framed =
         subst (λ (n : ℕ). AreFramed n old_frames) (trees_length before.routines old_frames)
@@ -126,7 +142,7 @@ module _ (unit : List ℕ) (site : Site) (s : Stage) (frames : List Frame) (at :
 
     to_middle : Extends old middle
     to_middle =
-        let it = extends_part old q.scope.types.types back (length q.scope.units) before.globals gives.globals.0 (map tree_of news) types_are (ap (λ (us : List (List ℕ)). length us) units_are) refl in
+        let it = extends_part old q.scope.types.types back (others_of q.scope) before.globals gives.globals.0 (map tree_of news) types_are others_more refl in
         subst (λ (gs : List Global). Extends old (record middle { globals = map (λ (global : Global). global.ty) gs })) (sym gives.globals.1)
         (subst (λ (rs : List Routine). Extends old (record middle { globals = map (λ (global : Global). global.ty) (before.globals ++ gives.globals.0); routines = rs })) (sym (trees_more before.routines news old_frames framed)) it)
 
@@ -201,7 +217,7 @@ module _ (unit : List ℕ) (site : Site) (s : Stage) (frames : List Frame) (at :
         next (inl f) = inl (omega (arith, f))
         next (inr f) = inr (omega (arith, f))
 
-    method_same : (class : TypeId) (header : Header) (one other : Routine) → IsSame one other → IsMethod class header one → IsMethod class header other
+    method_same : (class : TypeId) (header : Header) (one other : Routine) → IsSame one other → IsMethod class header (prototype one) → IsMethod class header (prototype other)
     method_same class header one other k h = record {
       owned = sym k.owner ∙ h.owned;
       same = record { kind = h.same.kind ∙ ap (λ (x : Header). x.kind) k.header; params = h.same.params ∙ ap (λ (x : Header). map shape_of x.params) k.header; result = h.same.result ∙ ap (λ (x : Header). x.result) k.header };
@@ -211,9 +227,7 @@ module _ (unit : List ℕ) (site : Site) (s : Stage) (frames : List Frame) (at :
     routine_kept class header zero number h =
         let it = grows.routines number h.0 h.1 in
         (it.0, it.1, method_same class header h.0 it.0 it.2.same h.2)
-    routine_kept class header (suc u) number h =
-        let more = grows.units in
-        omega (arith, h, more)
+    routine_kept class header (suc u) number h = (h.0, grows.others.routines _ h.1, h.2)
 
     -- the unit itself is the first that is named
     own_unit : (units : List (List ℕ)) → slice_get units 0 ≡ Some unit → unit_at units (Some unit) ≡ Some 0
@@ -225,7 +239,11 @@ module _ (unit : List ℕ) (site : Site) (s : Stage) (frames : List Frame) (at :
         rw yes (ap (λ (b : Bool). option_map narrow (cond b (Some 0) None)) some)
 
     has_methods : HasMethods (typing before.scope q.scope.types) new
-    has_methods = record { types = refl; methods = by }
+    has_methods = record {
+      types = refl;
+      units = λ one told. subst (λ (us : List (List ℕ)). slice_get us one.number ≡ Some one.name) units_are (unit_told_from q.scope one told);
+      methods = by;
+    }
       where
         by : (class : TypeId) (number : ℕ) (method : Method) (routine : RoutineId) → slice_get (methods_of (definition new.types class)) number ≡ Some method
             → routine_in (typing before.scope q.scope.types) method.routine ≡ Some routine → HasRoutine (IsMethod class method.header) new routine

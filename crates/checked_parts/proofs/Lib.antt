@@ -7,3 +7,4 @@ pub mod Trees
 pub mod Names
 pub mod Joined
 pub mod Kept
+pub mod Below

@@ -16,7 +16,7 @@ use Rattle.type_tree.specs.declared.parameter.Method as written
 use Rattle.type_tree.specs.declared.types.TypeDenoter.{TypeDenoter}
 use Rattle.type_tree.specs.declared.types.TypeDenoter.TheVariants as t
 use Rattle.source_tree.specs.declared.declaration.TypeDeclaration.{TypeDeclaration}
-use Rattle.well_formed.specs.Fits.{definition, IsObject}
+use Rattle.type_fits.specs.Fits.{definition, IsObject}
 use Rattle.scopes.specs.declared.entries.Entry.{Entry}
 use Rattle.scopes.specs.declared.entries.Entry.TheVariants as entry
 use Rattle.scopes.specs.declared.searches.OpenBlock.{OpenBlock}

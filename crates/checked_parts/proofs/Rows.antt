@@ -9,7 +9,7 @@ use Rattle.type_layout.specs.Layouts.{plain, layout_by, size_of}
 use Rattle.type_layout.proofs.Given.{get_or-given_by-front}
 use Rattle.type_layout.proofs.Measured.{is_measured}
 use Rattle.typed_tree.specs.declared.units.Global.{Global}
-use Rattle.well_formed.specs.Fits.{IsSome}
+use Rattle.type_fits.specs.Fits.{IsSome}
 use Rattle.well_formed.specs.WellFormed.{IsFirst}
 use Rattle.syntax_tree.specs.declared.identifier.Identifier.{Identifier}
 use Rattle.source_tree.specs.declared.declaration.ConstantDeclaration.{ConstantDeclaration}

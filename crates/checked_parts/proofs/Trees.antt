@@ -10,7 +10,9 @@ use Rattle.type_layout.specs.declared.definitions.TypeDef.{TypeDef}
 use Rattle.type_layout.proofs.Local.{slice_get-append}
 use Rattle.typed_tree.specs.declared.units.Global.{Global}
 use Rattle.typed_tree.specs.declared.units.Routine.{Routine}
-use Rattle.well_formed.specs.Scopes.{Scope, listed, variables_of}
+use Rattle.type_fits.specs.Routines.{listed, variables_of}
+use Rattle.well_formed.specs.Scopes.{Others, Scope}
+use Rattle.wider_scopes.specs.Wider.{AreAmong}
 use Rattle.routines.specs.Drafts.{Numbered}
 use Rattle.typed_nodes.proofs.Fields.{get-append}
 use Rattle.known_names.specs.Known.{at_level}
@@ -92,11 +94,11 @@ extends_inner s number locals back routines is low =
 
 -- ---- all of it
 
-pub extends_part : (s : Scope) (types back : List TypeDef) (units : ℕ) (xs ys : List Global) (routines : List Routine) → types ≡ s.types ++ back → units ≡ s.units → s.globals ≡ map (λ (global : Global). global.ty) xs
-    → Extends s (record s { types = types; units = units; globals = map (λ (global : Global). global.ty) (xs ++ ys); routines = s.routines ++ routines })
-extends_part s types back units xs ys routines t u g = record {
+pub extends_part : (s : Scope) (types back : List TypeDef) (others : Others) (xs ys : List Global) (routines : List Routine) → types ≡ s.types ++ back → AreAmong s.others others → s.globals ≡ map (λ (global : Global). global.ty) xs
+    → Extends s (record s { types = types; others = others; globals = map (λ (global : Global). global.ty) (xs ++ ys); routines = s.routines ++ routines })
+extends_part s types back others xs ys routines t o g = record {
   types = (back, t);
-  units = omega (arith, u);
+  others = o;
   globals = λ number ty e. globals_front xs ys number ty (subst (λ (l : List TypeId). slice_get l number ≡ Some ty) g e);
   routines = λ number one e. (one, get_front s.routines routines number one e, further_itself one);
 }

@@ -15,8 +15,9 @@ use Rattle.syntax_tree.specs.declared.statement.CompoundStatement.{CompoundState
 use Rattle.statement_tree.specs.Trees.{compound, view_statements}
 use Rattle.typed_tree.specs.declared.units.Routine.{Routine}
 use Rattle.typed_tree.specs.Statements.{Statement}
-use Rattle.well_formed.specs.Fits.{definition, IsSome, shape_of}
-use Rattle.well_formed.specs.Scopes.{Scope, listed, variables_of}
+use Rattle.type_fits.specs.Fits.{definition, IsSome, shape_of}
+use Rattle.type_fits.specs.Routines.{listed, variables_of}
+use Rattle.well_formed.specs.Scopes.{Others, Scope}
 use Rattle.well_formed.specs.WellFormed.{IsStatement, IsOwner}
 use Rattle.scopes.specs.declared.entries.Entry.{Entry}
 use Rattle.scopes.specs.declared.entries.Entry.TheVariants as entry
@@ -37,6 +38,7 @@ use Rattle.checked_statements.specs.Trees.{depth_in}
 use Rattle.checked_statements.proofs.Checked.{stated_well}
 use Rattle.known_names.specs.Known.{open_in, first_in, AreNested, IsPlaced, AreKnown, scope_over}
 use Rattle.known_names.specs.Growing.{Extends}
+use Rattle.known_names.specs.Others.{others_of}
 use Rattle.known_names.proofs.Frames.{open_end}
 use Rattle.known_names.proofs.Entering.{blocks_join, routine_known, closed_known, closed_each}
 use Rattle.known_names.proofs.Growing.{same_known}
@@ -68,12 +70,12 @@ placed_with routines number locals placed at one e =
     let it = get_back routines number at locals one e in
     placed_same it.0 one it.2 (placed at it.0 it.1)
 
--- with other types and units, which are the same
-abbrev fitted : Scope → List TypeDef → ℕ → Scope
-fitted s types units = record { types = types; units = units; globals = s.globals; routines = s.routines; levels = s.levels; withs = s.withs }
+-- with other types and suppositions, which are the same
+abbrev fitted : Scope → List TypeDef → Others → Scope
+fitted s types others = record { types = types; others = others; globals = s.globals; routines = s.routines; around = s.around; levels = s.levels; withs = s.withs }
 
-fit : (P : Scope → Type 0) (s : Scope) (types : List TypeDef) (units : ℕ) → s.types ≡ types → units ≡ s.units → P s → P (fitted s types units)
-fit P s types units t u h = subst (λ (n : ℕ). P (fitted s types n)) (sym u) (subst (λ (ts : List TypeDef). P (fitted s ts s.units)) t h)
+fit : (P : Scope → Type 0) (s : Scope) (types : List TypeDef) (others : Others) → s.types ≡ types → others ≡ s.others → P s → P (fitted s types others)
+fit P s types others t o h = subst (λ (x : Others). P (fitted s types x)) (sym o) (subst (λ (ts : List TypeDef). P (fitted s ts s.others)) t h)
 
 nothing_at : (at : ℕ) (ty : TypeId) → slice_get [] at ≡ Some ty → ⊥
 nothing_at zero ty e = let bad : ⊥ = cc in bad
@@ -110,7 +112,7 @@ module _ (d : Drafted) (frames : List Frame) (site : Site) (at : IsSite site fra
   there = get_with base.routines number [] (tree_of op.one) before
 
   known : AreKnown o.draft.scope opened
-  known = same_known o.draft.scope base op.read.known opened grows refl (placed_with base.routines number [] op.read.known.placed)
+  known = same_known o.draft.scope base op.read.known opened grows refl refl (placed_with base.routines number [] op.read.known.placed)
 
   abbrev entered : Environment
   entered = with_block o.draft.scope (block.Routine number o.begun.owner)
@@ -138,7 +140,7 @@ module _ (d : Drafted) (frames : List Frame) (site : Site) (at : IsSite site fra
         own = blocks_join (IsOwn o.draft.routines) [] o.draft.scope.blocks new op.read.own tt;
         values = opened_values o.draft.scope (block.Routine number o.begun.owner) op.read.values;
         bottom = subst (λ (n : ℕ). IsBottom (o.draft.scope.blocks ++ new ∷ []) (suc n)) (sym (length-map frames (λ (one : Frame). one.number))) (more_bottom o.draft.scope.blocks new (length frames) op.read.bottom);
-        units = refl;
+        others = refl;
       }
 
   params_count : length o.begun.header.params ≡ length op.one.first.header.params
@@ -189,7 +191,7 @@ module _ (d : Drafted) (frames : List Frame) (site : Site) (at : IsSite site fra
     inside_scope = scope_of within inner_frames
 
     fits : (P : Scope → Type 0) → P opened → P inside_scope
-    fits P h = fit P opened g.types.types (length g.units) k.known.has.types k.units h
+    fits P h = fit P opened g.types.types (others_of g) k.known.has.types k.others h
 
     block_there : (at : ℕ) (one : Numbered) (done : Done) → slice_get o.draft.routines at ≡ Some one → one.done ≡ Some done → IsBlock opened at done
     block_there at one done e has =

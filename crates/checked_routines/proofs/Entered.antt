@@ -11,8 +11,9 @@ use Rattle.type_layout.specs.declared.definitions.TypeDef.{TypeDef}
 use Rattle.type_layout.specs.declared.definitions.TypeDef.TheVariants as type
 use Rattle.type_layout.specs.declared.texts.Place.{Place}
 use Rattle.typed_tree.specs.declared.units.Routine.{Routine}
-use Rattle.well_formed.specs.Fits.{definition, IsSome, IsObject, shape_of}
-use Rattle.well_formed.specs.Scopes.{Scope, HasType, listed, variables_of}
+use Rattle.type_fits.specs.Fits.{definition, IsSome, IsObject, shape_of}
+use Rattle.type_fits.specs.Routines.{listed, variables_of}
+use Rattle.well_formed.specs.Scopes.{Scope, HasType}
 use Rattle.well_formed.specs.WellFormed.{IsOwner}
 use Rattle.scopes.specs.declared.entries.Entry.{Entry}
 use Rattle.scopes.specs.declared.entries.Entry.TheVariants as entry
@@ -24,6 +25,7 @@ use Rattle.routines.specs.Insides.{params_entered, self_entered}
 use Rattle.typed_nodes.specs.Tables.{IsInTable}
 use Rattle.typed_nodes.proofs.Fields.{get-append}
 use Rattle.known_names.specs.Known.{open_in, at_level, IsEntry, EachIn, AreKnown}
+use Rattle.known_names.specs.Others.{others_of}
 use Rattle.known_names.proofs.Entering.{named_known, named_open, named_each}
 use Rattle.declared_values.specs.Values.{IsConstantIn, HasValues}
 use Rattle.checked_routines.specs.Reading.{IsOwn, IsBottom}
@@ -44,7 +46,7 @@ pub record IsInner (routines : List Numbered) (s : Scope) (numbers : List ℕ) (
   pub own : EachIn (IsOwn routines) [] g.blocks
   pub values : HasValues g
   pub bottom : IsBottom g.blocks (length numbers)
-  pub units : length g.units ≡ s.units
+  pub others : others_of g ≡ s.others
 
 module _ (routines : List Numbered) (s : Scope) where
   pub named_inner : (numbers : List ℕ) (g : Environment) (name : List ℕ) (one : Entry) → IsInner routines s numbers g → IsEntry s numbers one → IsOwn routines numbers one → IsConstantIn g.types.types one
@@ -55,7 +57,7 @@ module _ (routines : List Numbered) (s : Scope) where
     own = named_each g name one (IsOwn routines) h.own (subst (λ (o : List ℕ). IsOwn routines o one) (sym h.around) own);
     values = named_values g name one h.values constant;
     bottom = named_bottom g name one (length numbers) h.bottom;
-    units = h.units;
+    others = h.others;
   }
 
   module _ (number : ℕ) (around : List ℕ) (one : Routine) (is : slice_get s.routines number ≡ Some one) where

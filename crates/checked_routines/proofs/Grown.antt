@@ -14,7 +14,7 @@ use Rattle.syntax_tree.specs.declared.statement.CompoundStatement.{CompoundState
 use Rattle.type_tree.specs.declared.parameter.MethodHeader.{MethodHeader}
 use Rattle.source_tree.specs.declared.declaration.DeclarationPart.{DeclarationPart}
 use Rattle.source_tree.specs.declared.declaration.RoutineHeader.{RoutineHeader}
-use Rattle.well_formed.specs.Fits.{definition}
+use Rattle.type_fits.specs.Fits.{definition}
 use Rattle.scopes.specs.declared.entries.Entry.{Entry}
 use Rattle.scopes.specs.declared.entries.BlockKind.TheVariants as block
 use Rattle.scopes.specs.Symbols.{SymbolList}
@@ -41,11 +41,12 @@ use Rattle.checked_routines.proofs.Entered.{entered_is}
 -- ---- one after the other
 
 pub grows_itself : (d : Drafted) → Grows d d
-grows_itself d = record { units = refl; types = ([], sym (append-nil d.scope.types.types)); globals = ([], sym (append-nil d.globals)); routines = omega arith }
+grows_itself d = record { units = refl; used = refl; types = ([], sym (append-nil d.scope.types.types)); globals = ([], sym (append-nil d.globals)); routines = omega arith }
 
 pub grows_on : (d e f : Drafted) → Grows d e → Grows e f → Grows d f
 grows_on d e f h k = record {
   units = k.units ∙ h.units;
+  used = k.used ∙ h.used;
   types = (h.types.0 ++ k.types.0, k.types.1 ∙ ap (λ (types : List TypeDef). types ++ k.types.0) h.types.1 ∙ append_assoc d.scope.types.types h.types.0 k.types.0);
   globals = (h.globals.0 ++ k.globals.0, k.globals.1 ∙ ap (λ (all : List Global). all ++ k.globals.0) h.globals.1 ∙ append_assoc d.globals h.globals.0 k.globals.0);
   routines = (let a = h.routines in let b = k.routines in omega (arith, a, b));
@@ -65,38 +66,40 @@ grows_at d e f is h = subst (λ (x : Drafted). Grows d x) (sym is) h
 
 -- ---- names and blocks
 
--- neither types nor units besides
+-- neither types nor units, nor used units besides
 pub record Keeps (g h : Environment) : Type 0 where
   pub table : h.types ≡ g.types
   pub units : h.units ≡ g.units
+  pub used : h.used ≡ g.used
 
 keeps_on : (g h k : Environment) → Keeps g h → Keeps h k → Keeps g k
-keeps_on g h k a b = record { table = b.table ∙ a.table; units = b.units ∙ a.units }
+keeps_on g h k a b = record { table = b.table ∙ a.table; units = b.units ∙ a.units; used = b.used ∙ a.used }
 
 keeps_at : (g h k : Environment) → k ≡ h → Keeps g h → Keeps g k
 keeps_at g h k is a = subst (λ (x : Environment). Keeps g x) (sym is) a
 
 entered_keeps : (g : Environment) (place : Place) (name : List ℕ) (one : Entry) (h : Environment) → (entered g place name one).holds h → Keeps g h
-entered_keeps g place name one h k = keeps_at g (with_name g name one) h (entered_is g place name one h k) (record { table = refl; units = refl })
+entered_keeps g place name one h k = keeps_at g (with_name g name one) h (entered_is g place name one h k) (record { table = refl; units = refl; used = refl })
 
 self_keeps : (level : ℕ) (place : Place) (number : ℕ) (owner : Option TypeId) (g h : Environment) → (self_entered level place number owner g).holds h → Keeps g h
-self_keeps level place number None g h k = keeps_at g g h k (record { table = refl; units = refl })
+self_keeps level place number None g h k = keeps_at g g h k (record { table = refl; units = refl; used = refl })
 self_keeps level place number (Some ty) g h k = entered_keeps g _ _ _ h k
 
 params_keep : (level : ℕ) (place : Place) (number : ℕ) (g : Environment) (params : List Param) (h : Environment) → (params_entered level place number g params).holds h → Keeps g h
-params_keep level place number g [] h k = keeps_at g g h k (record { table = refl; units = refl })
+params_keep level place number g [] h k = keeps_at g g h k (record { table = refl; units = refl; used = refl })
 params_keep level place number g (one ∷ rest) h k = keeps_on g k.part h (entered_keeps g _ _ _ k.part k.holds) (params_keep level place (narrow (number + 1)) k.part rest h k.made)
 
 pub inside_keeps : (inner : Site) (place : Place) (b : _) (g h : Environment) → (inside inner place b g).holds h → Keeps g h
 inside_keeps inner place b g h k =
     let opened : Environment = with_block g (block.Routine b.number b.owner) in
     keeps_on g k.part h
-    (keeps_on g opened k.part (record { table = refl; units = refl }) (self_keeps (depth_of inner) place (narrow (length b.header.params)) b.owner opened k.part k.holds))
+    (keeps_on g opened k.part (record { table = refl; units = refl; used = refl }) (self_keeps (depth_of inner) place (narrow (length b.header.params)) b.owner opened k.part k.holds))
     (params_keep (depth_of inner) place 0 k.part b.header.params h k.made)
 
 pub keeps_grows : (d : Drafted) (g : Environment) → Keeps d.scope g → Grows d (knowing d g)
 keeps_grows d g k = record {
   units = k.units;
+  used = k.used;
   types = ([], ap (λ (table : Table). table.types) k.table ∙ sym (append-nil d.scope.types.types));
   globals = ([], sym (append-nil d.globals));
   routines = omega arith;
@@ -111,6 +114,7 @@ announced_grows far site d one header e h =
     let count : length (d.routines ++ new ∷ []) ≡ length d.routines + 1 = length-append d.routines (new ∷ []) in
     grows_at d _ e h.made (record {
       units = keeps.units;
+      used = keeps.used;
       types = ([], ap (λ (table : Table). table.types) keeps.table ∙ sym (append-nil d.scope.types.types));
       globals = ([], sym (append-nil d.globals));
       routines = omega (arith, count);
@@ -147,6 +151,7 @@ closed_grows s e number place typed is =
     let count : length (finishing number (done place s.locals typed) s.draft.routines) ≡ length s.draft.routines = finished_length s.draft.routines number (done place s.locals typed) in
     grows_at s.draft (closed number place s typed) e is (record {
       units = refl;
+      used = refl;
       types = ([], sym (append-nil s.draft.scope.types.types));
       globals = ([], sym (append-nil s.draft.globals));
       routines = omega (arith, count);
@@ -167,8 +172,8 @@ block_grows site place o body declared more e h =
     grows_on o.draft (knowing o.draft h.part) e first (grows_on (knowing o.draft h.part) read.part.draft e inner last)
 
 names_keep : (g : Environment) (names : SymbolList) → Keeps g (with_names g names)
-names_keep g [] = record { table = refl; units = refl }
-names_keep g (one ∷ rest) = let it = names_keep (with_name g one.0 one.1) rest in record { table = it.table; units = it.units }
+names_keep g [] = record { table = refl; units = refl; used = refl }
+names_keep g (one ∷ rest) = let it = names_keep (with_name g one.0 one.1) rest in record { table = it.table; units = it.units; used = it.used }
 
 pub part_grows : (unit : List ℕ) (site : Site) (s t : Stage) (one : DeclarationPart) → (part_judged unit site s one).holds t → Grows s.draft t.draft
 unfolding part_judged
@@ -179,6 +184,7 @@ part_grows unit site s t one h =
     let named = names_keep (typing s.draft.scope h.part.scope.types) a.names in
     grows_at s.draft _ t.draft (ap (λ (x : Stage). x.draft) h.made) (record {
       units = ap (λ (g : Environment). g.units) a.whole ∙ named.units;
+      used = ap (λ (g : Environment). g.used) a.whole ∙ named.used;
       types = a.types;
       globals = a.globals;
       routines = omega (arith, count);

@@ -21,8 +21,8 @@ use Rattle.source_tree.specs.declared.declaration.RoutineHeader.TheVariants as h
 use Rattle.typed_tree.specs.declared.units.Routine.{Routine}
 use Rattle.typed_tree.specs.Frames.{param_bytes, class_argument, result_argument}
 use Rattle.typed_tree.specs.Slots.{capped, slot_of_type}
-use Rattle.well_formed.specs.Fits.{definition, IsSome}
-use Rattle.well_formed.specs.Scopes.{Scope}
+use Rattle.type_fits.specs.Fits.{definition, IsSome}
+use Rattle.well_formed.specs.Scopes.{prototype, Scope}
 use Rattle.well_formed.specs.Typed.{IsRoutineValue}
 use Rattle.well_formed.specs.WellFormed.{IsInside, IsOwner}
 use Rattle.scopes.specs.declared.entries.Entry.{Entry}
@@ -153,7 +153,7 @@ module _ (d : Drafted) (frames : List Frame) (r : IsRead d frames) where
             (record { outermost = λ some. absurd (subst (λ (o : Option TypeId). IsSome o) free some); few = omega (arith, short) })
 
     known : AreKnown d.scope more
-    known = same_known d.scope here r.known more grows refl placed
+    known = same_known d.scope here r.known more grows refl refl placed
 
     abbrev own_entry : ℕ → ℕ → Entry
     own_entry number level = entry.Code (record { unit = 0; number = number }) level first.header first.far
@@ -177,7 +177,7 @@ module _ (d : Drafted) (frames : List Frame) (r : IsRead d frames) where
         (subst (λ (o : Option ℕ). IsDeep more.routines (length (open_in d.scope)) o) (sym outer_first) (nested_deep more.routines (open_in d.scope) known.nested))
 
     -- far and outside all others, it may stand as a value
-    value : first.far ≡ true → level_of site.home ≡ 0 → IsRoutineValue first.header (tree_of new)
+    value : first.far ≡ true → level_of site.home ≡ 0 → IsRoutineValue first.header (prototype (tree_of new))
     value far level = record {
       far = far;
       free = free;
@@ -191,9 +191,9 @@ module _ (d : Drafted) (frames : List Frame) (r : IsRead d frames) where
 
     entry_known : IsEntry more (open_in d.scope) (own_entry (length d.routines) (level_of site.home))
     entry_known = (
-      (tree_of new, last, record { free = free; same = record { kind = refl; params = refl; result = refl } }),
+      (tree_of new, last, record { free = record { free = free; same = record { kind = refl; params = refl; result = refl } }; outer = outer_first }),
       k.there,
-      λ far level. (tree_of new, last, value far level),
+      λ far level. ((tree_of new, last, value far level), tt),
       (tree_of new, last, deep),
     )
 

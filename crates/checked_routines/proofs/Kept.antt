@@ -10,7 +10,8 @@ use Rattle.source_tree.specs.declared.declaration.VariableDeclaration.{VariableD
 use Rattle.source_tree.specs.declared.declaration.DeclarationPart.{DeclarationPart}
 use Rattle.source_tree.specs.declared.declaration.DeclarationPart.TheVariants as part_of
 use Rattle.typed_tree.specs.declared.units.Routine.{Routine}
-use Rattle.well_formed.specs.Scopes.{Scope, listed}
+use Rattle.type_fits.specs.Routines.{listed}
+use Rattle.well_formed.specs.Scopes.{Scope}
 use Rattle.type_parts.specs.Objects as objects
 use Rattle.declarations.specs.declared.homes.Home.{Home}
 use Rattle.declarations.specs.declared.homes.Home.TheVariants as home

@@ -19,7 +19,7 @@ use Rattle.syntax_tree.specs.declared.identifier.Identifier.{Identifier}
 use Rattle.type_tree.specs.declared.parameter.MethodHeader.{MethodHeader}
 use Rattle.source_tree.specs.declared.declaration.RoutineHeader.{RoutineHeader}
 use Rattle.source_tree.specs.declared.declaration.RoutineHeader.TheVariants as h
-use Rattle.well_formed.specs.Fits.{definition, IsSome, shape_of}
+use Rattle.type_fits.specs.Fits.{definition, IsSome, shape_of}
 use Rattle.scopes.specs.declared.entries.Entry.TheVariants as entry
 use Rattle.scopes.specs.declared.searches.OpenBlock.{OpenBlock}
 use Rattle.scopes.specs.Members.{narrow}

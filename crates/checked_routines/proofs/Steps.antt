@@ -8,7 +8,9 @@ use Rattle.type_layout.specs.declared.definitions.Param.{Param}
 use Rattle.type_layout.specs.declared.definitions.TypeDef.{TypeDef}
 use Rattle.type_layout.proofs.Local.{slice_get-append}
 use Rattle.typed_tree.specs.declared.units.Routine.{Routine}
-use Rattle.well_formed.specs.Scopes.{Scope, HasType, listed, variables_of}
+use Rattle.type_fits.specs.Routines.{listed, variables_of}
+use Rattle.well_formed.specs.Scopes.{Others, Scope, HasType}
+use Rattle.wider_scopes.specs.Wider.{AreAmong}
 use Rattle.scopes.specs.declared.entries.Entry.{Entry}
 use Rattle.scopes.specs.declared.searches.OpenBlock.{OpenBlock}
 use Rattle.scopes.specs.Symbols.{SymbolList}
@@ -18,6 +20,18 @@ use Rattle.known_names.proofs.Frames.{level_below, nested_deep, IsOpen, stands, 
 use Rattle.checked_routines.specs.Reading.{Frame, with_locals, numbers_of, AreThere}
 use Rattle.checked_routines.proofs.Lists.{having, get_with, get_other, same_itself, IsNone, AreBelow}
 
+-- ---- what is supposed of other units
+
+pub among_itself : (others : Others) → AreAmong others others
+among_itself others = record { units = λ unit h. h; globals = λ global h. h; routines = λ routine h. h }
+
+pub among_on : (one two three : Others) → AreAmong one two → AreAmong two three → AreAmong one three
+among_on one two three h k = record {
+  units = λ unit e. k.units unit (h.units unit e);
+  globals = λ global e. k.globals global (h.globals global e);
+  routines = λ routine e. k.routines routine (h.routines routine e);
+}
+
 -- ---- growth
 
 pub further_itself : (one : Routine) → IsFurther one one
@@ -26,7 +40,7 @@ further_itself one = record { same = same_itself one; variables = λ number ty e
 pub extends_itself : (s : Scope) → Extends s s
 extends_itself s = record {
   types = ([], sym (append-nil s.types));
-  units = omega arith;
+  others = among_itself s.others;
   globals = λ number ty e. e;
   routines = λ number one e. (one, e, further_itself one);
 }
@@ -34,7 +48,7 @@ extends_itself s = record {
 pub extends_on : (s t u : Scope) → Extends s t → Extends t u → Extends s u
 extends_on s t u h k = record {
   types = (h.types.0 ++ k.types.0, k.types.1 ∙ ap (λ (types : List TypeDef). types ++ k.types.0) h.types.1 ∙ append_assoc s.types h.types.0 k.types.0);
-  units = (let a = h.units in let b = k.units in omega (arith, a, b));
+  others = among_on s.others t.others u.others h.others k.others;
   globals = λ number ty e. k.globals number ty (h.globals number ty e);
   routines = λ number one e. (
       let first = h.routines number one e in
@@ -60,7 +74,7 @@ with_routines s routines = record s { routines = routines }
 pub extends_end : (s : Scope) (one : Routine) → Extends s (with_routines s (s.routines ++ one ∷ []))
 extends_end s one = record {
   types = ([], sym (append-nil s.types));
-  units = omega arith;
+  others = among_itself s.others;
   globals = λ number ty e. e;
   routines = λ number other e. (other, slice_get-append s.routines (one ∷ []) number (slice_get_within s.routines number other e) ∙ e, further_itself other);
 }
@@ -71,7 +85,7 @@ pub extends_with : (s : Scope) (number : ℕ) (locals : List TypeId) (one : Rout
     → Extends s (with_routines s (with_locals number locals s.routines))
 extends_with s number locals one is keeps = record {
   types = ([], sym (append-nil s.types));
-  units = omega arith;
+  others = among_itself s.others;
   globals = λ n ty e. e;
   routines = λ n other e. by n other e (number == n) refl;
 }

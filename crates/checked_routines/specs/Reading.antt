@@ -12,8 +12,9 @@ use Rattle.type_layout.specs.Table.{Table}
 use Rattle.typed_tree.specs.declared.statements.Stmt.TheVariants as stmt
 use Rattle.typed_tree.specs.declared.units.Global.{Global}
 use Rattle.typed_tree.specs.declared.units.Routine.{Routine}
-use Rattle.well_formed.specs.Fits.{definition}
-use Rattle.well_formed.specs.Scopes.{Scope, HasType, listed}
+use Rattle.type_fits.specs.Fits.{definition}
+use Rattle.type_fits.specs.Routines.{listed}
+use Rattle.well_formed.specs.Scopes.{Scope, HasType}
 use Rattle.well_formed.specs.WellFormed.{IsStatement, IsInside, IsOwner, IsFirst}
 use Rattle.scopes.specs.declared.entries.Entry.{Entry}
 use Rattle.scopes.specs.declared.entries.Entry.TheVariants as entry
@@ -29,6 +30,7 @@ use Rattle.routines.specs.Drafts.{Done, Numbered, Drafted, Stage}
 use Rattle.typed_nodes.specs.Tables.{IsInTable, IsHeaderIn, IsSound}
 use Rattle.known_names.specs.Known.{EachIn, open_in, first_in, AreNested, AreKnown, scope_over}
 use Rattle.known_names.specs.Growing.{Extends}
+use Rattle.known_names.specs.Others.{others_of}
 use Rattle.closed_constants.specs.Ordered.{IsOrdered}
 use Rattle.declared_values.specs.Values.{HasValues}
 
@@ -71,9 +73,10 @@ trees_of routines (one ∷ frames) = with_locals one.number one.locals (trees_of
 abbrev pub scope_of : Drafted → List Frame → Scope
 scope_of d frames = record {
   types = d.scope.types.types;
-  units = length d.scope.units;
+  others = others_of d.scope;
   globals = map (λ (global : Global). global.ty) d.globals;
   routines = trees_of d.routines frames;
+  around = [];
   levels = [];
   withs = [];
 }

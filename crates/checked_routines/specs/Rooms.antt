@@ -11,9 +11,10 @@ pub record HasRoom (d : Drafted) : Type 0 where
   pub globals : length d.globals < 2 ^ 32
   pub types : IsFit d.scope.types.types
 
--- what declarations leave of a unit: each thing under its number, and further ones behind
+-- what declarations leave of a unit: used units as they were, each thing under its number, and further ones behind
 pub record Grows (d e : Drafted) : Type 0 where
   pub units : e.scope.units ≡ d.scope.units
+  pub used : e.scope.used ≡ d.scope.used
   pub types : (back : List TypeDef) × (e.scope.types.types ≡ d.scope.types.types ++ back)
   pub globals : (back : List Global) × (e.globals ≡ d.globals ++ back)
   pub routines : length d.routines ≤ length e.routines

@@ -9,11 +9,11 @@ use Rattle.expression_tree.specs.Trees.{Tree, Operand, Operands, plain, wide, no
 use Rattle.statement_tree.specs.Places.{place_of}
 use Rattle.typed_tree.specs.Expressions.{Expression, Load}
 use Rattle.typed_tree.specs.Statements.{Written, Taken}
-use Rattle.well_formed.specs.Fits as fits
-use Rattle.well_formed.specs.Fits.{definition, stored_as, family_of, IsSome}
+use Rattle.type_fits.specs.Fits as fits
+use Rattle.type_fits.specs.Fits.{definition, stored_as, family_of, IsSome}
 use Rattle.well_formed.specs.Scopes.{Scope, HasType}
 use Rattle.well_formed.specs.Typed.{IsTyped, HasPlace}
-use Rattle.well_formed.specs.Standard.{sort_of}
+use Rattle.type_fits.specs.Standard.{sort_of}
 use Rattle.well_formed.specs.WellFormed.{IsCondition, IsCount, IsWritten, IsTaken}
 use Rattle.scopes.specs.Environment.{Environment}
 use Rattle.typing_rules.specs.declared.faults.Rule.{Rule}

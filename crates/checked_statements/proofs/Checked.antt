@@ -14,7 +14,7 @@ use Rattle.statement_tree.specs.Trees.{Label, alone, from_to, Task, Tasks, Branc
 use Rattle.typed_tree.specs.declared.statements.LabelRange.{LabelRange}
 use Rattle.typed_tree.specs.Expressions.{Expression}
 use Rattle.typed_tree.specs.Statements.{Statement, If}
-use Rattle.well_formed.specs.Fits.{definition, IsRecord, IsObject}
+use Rattle.type_fits.specs.Fits.{definition, IsRecord, IsObject}
 use Rattle.well_formed.specs.Scopes.{Scope}
 use Rattle.well_formed.specs.WellFormed as trees
 use Rattle.well_formed.specs.WellFormed.{IsLabelled, IsStatement, AreStatements, AreArms}

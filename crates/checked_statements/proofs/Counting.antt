@@ -15,10 +15,10 @@ use Rattle.expression_tree.specs.Trees.{Tree}
 use Rattle.statement_tree.specs.Places.{place_of}
 use Rattle.typed_tree.specs.declared.expressions.Variable.{Variable}
 use Rattle.typed_tree.specs.Expressions.{Expression, type_of}
-use Rattle.well_formed.specs.Fits.{definition, stored_as, IsSome, AreStoredAlike}
+use Rattle.type_fits.specs.Fits.{definition, stored_as, IsSome, AreStoredAlike}
 use Rattle.well_formed.specs.Scopes.{Scope, HasVariable}
 use Rattle.well_formed.specs.Typed.{IsTyped}
-use Rattle.well_formed.specs.Standard.{sort_of}
+use Rattle.type_fits.specs.Standard.{sort_of}
 use Rattle.well_formed.specs.WellFormed.{IsCounted}
 use Rattle.scopes.specs.declared.entries.Entry.{Entry}
 use Rattle.scopes.specs.declared.entries.Entry.TheVariants as entry

@@ -9,8 +9,7 @@ use Rattle.type_layout.specs.declared.definitions.Header.{Header}
 use Rattle.type_layout.specs.declared.definitions.Method.{Method}
 use Rattle.type_layout.proofs.Local.{slice_get-append}
 use Rattle.typed_tree.specs.declared.expressions.Variable.{Variable}
-use Rattle.typed_tree.specs.declared.units.Routine.{Routine}
-use Rattle.well_formed.specs.Scopes.{Scope, HasType, IsHeld, IsVariableAt, HasVariable, IsRoutineAt, HasRoutine}
+use Rattle.well_formed.specs.Scopes.{Prototype, Scope, HasType, IsNamed, IsHeld, IsVariableAt, HasVariable, IsRoutineAt, HasRoutine, IsWithin}
 use Rattle.well_formed.specs.Typed.{IsRoutineValue, HasPlace}
 use Rattle.well_formed.specs.WellFormed as trees
 use Rattle.scopes.specs.declared.entries.Entry.{Entry}
@@ -60,24 +59,29 @@ module _ (g : Environment) (s : Scope) (ty : TypeId) where
   named_inside unit level number t h =
       subst (λ (v : Variable). HasVariable inner v t) (sym (variable_same g ty unit level number)) (variable_kept (variable g unit level number) t h)
 
-  routine_at : (Asked : Routine → Type 0) (unit number : ℕ) → IsRoutineAt Asked s unit number → IsRoutineAt Asked inner unit number
+  routine_at : (Asked : Prototype → Type 0) (unit number : ℕ) → IsRoutineAt Asked s unit number → IsRoutineAt Asked inner unit number
   routine_at Asked zero number h = h
   routine_at Asked (suc unit) number h = h
 
-  routine_kept : (Asked : Routine → Type 0) (routine : RoutineId) → HasRoutine Asked s routine → HasRoutine Asked inner routine
+  routine_kept : (Asked : Prototype → Type 0) (routine : RoutineId) → HasRoutine Asked s routine → HasRoutine Asked inner routine
   routine_kept Asked routine h = routine_at Asked routine.unit routine.number h
+
+  name_kept : (unit : ℕ) → IsNamed s unit → IsNamed inner unit
+  name_kept zero h = tt
+  name_kept (suc unit) h = h
 
   known_kept : (one : Entry) → IsKnown g s one → IsKnown (within g ty) inner one
   known_kept (entry.Const t v) h = h
   known_kept (entry.Ty t) h = h
   known_kept (entry.Var unit level number t) h = named_inside unit level number t h
   known_kept (entry.Code routine level header far) h =
-      (routine_kept (IsFree header) routine h.0, h.1, λ f l. routine_kept (IsRoutineValue header) routine (h.2 f l))
+      (routine_kept (λ one. IsFree header one × IsWithin s.around one.outer) routine h.0, h.1, λ f l. (routine_kept (IsRoutineValue header) routine (h.2 f l).0, name_kept routine.unit (h.2 f l).1))
   known_kept (entry.Std number) h = tt
 
   methods_kept : HasMethods g s → HasMethods (within g ty) inner
   methods_kept h = record {
     types = h.types;
+    units = h.units;
     methods = λ class number method routine m r. routine_kept (IsMethod class method.header) routine (h.methods class number method routine m r);
   }
 

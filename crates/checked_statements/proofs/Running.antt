@@ -10,7 +10,7 @@ use Rattle.expression_tree.specs.Trees.{Tree, name, call, Operand, Operands, pla
 use Rattle.typed_tree.specs.declared.expressions.Value.TheVariants as value
 use Rattle.typed_tree.specs.Expressions.{Expression, Const}
 use Rattle.typed_tree.specs.Statements.{Statement, Written, Run}
-use Rattle.well_formed.specs.Fits.{definition, stored_as, IsInteger}
+use Rattle.type_fits.specs.Fits.{definition, stored_as, IsInteger}
 use Rattle.well_formed.specs.Scopes.{Scope}
 use Rattle.well_formed.specs.Typed.{IsTyped}
 use Rattle.well_formed.specs.WellFormed.{IsCall, IsStatement}

@@ -11,8 +11,8 @@ use Rattle.pascal_grammar.specs.declared.lexeme.Position.{Position}
 use Rattle.expression_tree.specs.Trees.{Tree, name}
 use Rattle.typed_tree.specs.Expressions.{Expression, Load}
 use Rattle.typed_tree.specs.Statements.{Statement, Assign}
-use Rattle.well_formed.specs.Fits as fits
-use Rattle.well_formed.specs.Fits.{definition, IsStructured, Descends, JoinBy}
+use Rattle.type_fits.specs.Fits as fits
+use Rattle.type_fits.specs.Fits.{definition, IsStructured, Descends, JoinBy}
 use Rattle.well_formed.specs.Scopes.{Scope}
 use Rattle.well_formed.specs.Typed.{IsTyped, Takes}
 use Rattle.well_formed.specs.WellFormed.{IsStatement}

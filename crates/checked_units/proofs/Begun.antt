@@ -13,18 +13,8 @@ use Rattle.routines.specs.Drafts.{Drafted, knowing, Stage, stage}
 use Rattle.routines.specs.Blocks.{all_judged}
 use Rattle.tp_check_decl.specs.Interfaces.{declared, all_declared, interface_judged, all_used}
 use Rattle.tp_check_decl.specs.Programs.{unit_site, empty_draft, declarations_judged}
-use Rattle.known_names.specs.Known.{open_from, EachIn}
-use Rattle.known_names.specs.Growing.{Extends}
-use Rattle.known_names.proofs.Entering.{opened_known}
-use Rattle.checked_routines.specs.Reading.{scope_of, IsOwn, IsRead, IsStage}
-use Rattle.checked_routines.specs.Rooms.{HasRoom, Grows}
-use Rattle.checked_routines.specs.Trees.{variables_of, variables_in}
-use Rattle.checked_routines.specs.Laws.{StaysRead, PartsKeep}
-use Rattle.checked_routines.proofs.Constants.{opened_values}
-use Rattle.checked_routines.proofs.Steps.{extends_itself, extends_on}
-use Rattle.checked_routines.proofs.Grown.{grows_itself, grows_on, room_before, heading_grows, part_grows, all_grow}
-use Rattle.checked_routines.proofs.Opened.{heading_read}
-use Rattle.checked_routines.proofs.Kept.{part_locals, stage_kept, all_kept}
+use Rattle.checked_parts.specs.Below.{open_from, EachIn, Extends, scope_of, IsOwn, IsRead, IsStage, HasRoom, Grows, variables_of, variables_in, StaysRead, PartsKeep}
+use Rattle.checked_parts.proofs.Below.{opened_known, opened_values, extends_itself, extends_on, grows_itself, grows_on, room_before, heading_grows, part_grows, all_grow, heading_read, part_locals, stage_kept, all_kept}
 use Rattle.checked_units.proofs.Used.{all_used_grow, room_types}
 use Rattle.checked_units.specs.Begun.{IsBegun, UsesKeep, HaveLiterals, interface_variables, IsBlock, IsInterface}
 

@@ -1,5 +1,5 @@
 -- What is known stays known where a used unit comes into the scope.
-use Rattle.std.proofs.Common.{◌≡◌, ◌⊎◌, inl, inr, ℕ, zero, suc, ◌+◌, ◌<◌, ◌≤◌, Bool, true, false, cond, List, [], ◌∷◌, ◌++◌, length, get_or, Option, Some, None, refl, sym, subst, ap, ◌∙◌, arith, length-append}
+use Rattle.std.proofs.Common.{◌≡◌, ◌⊎◌, inl, inr, ℕ, zero, suc, ◌+◌, ◌<◌, ◌≤◌, Bool, true, false, cond, List, [], ◌∷◌, ◌++◌, length, get_or, Option, Some, None, refl, sym, subst, ap, ◌∙◌, arith}
 use Rattle.std.specs.Prelude.{slice_get, position, option_map}
 use Rattle.std.specs.Cmp.Lexicographic.{bytes_decides}
 use Rattle.std.proofs.lemmas.Bool.{lt-ltb}
@@ -14,8 +14,9 @@ use Rattle.type_layout.specs.declared.definitions.TypeDef.{TypeDef}
 use Rattle.type_layout.specs.Words.{same_bytes}
 use Rattle.type_layout.proofs.Local.{slice_get-append}
 use Rattle.typed_tree.specs.declared.units.Routine.{Routine}
-use Rattle.well_formed.specs.Fits.{definition, IsObject}
-use Rattle.well_formed.specs.Scopes.{Scope, HasRoutine, IsRoutineAt}
+use Rattle.type_fits.specs.Fits.{definition, IsObject}
+use Rattle.well_formed.specs.Scopes.{Prototype, Others, Scope, HasRoutine, IsRoutineAt}
+use Rattle.wider_scopes.specs.Wider.{AreAmong}
 use Rattle.well_formed.specs.WellFormed.{IsOwner}
 use Rattle.scopes.specs.declared.entries.Entry.{Entry}
 use Rattle.scopes.specs.declared.entries.Entry.TheVariants as entry
@@ -27,15 +28,11 @@ use Rattle.method_rules.specs.Slots.{methods_of}
 use Rattle.method_rules.specs.Methods.{unit_at, routine_of, routine_in}
 use Rattle.typed_methods.specs.Declared.{IsMethod, HasMethods}
 use Rattle.typed_nodes.specs.Tables.{IsInTable, IsResultIn, IsSound}
-use Rattle.known_names.specs.Known.{open_from, open_in, IsEntry, EachOf, EachIn, AreKnown}
-use Rattle.known_names.specs.Growing.{Extends}
-use Rattle.known_names.proofs.Growing.{nested_kept, entry_kept}
 use Rattle.constant_values.specs.Laws.{StayConstants}
-use Rattle.declared_values.specs.Values.{IsConstantIn, HasValues}
 use Rattle.routines.specs.Drafts.{Done, Numbered, Drafted, knowing}
 use Rattle.tp_check_decl.specs.Programs.{empty_draft}
-use Rattle.checked_routines.specs.Reading.{scope_of, IsOwn, IsAnnounced, IsBlock, IsBottom, IsTabled, IsGlobalIn, IsRead}
-use Rattle.checked_routines.proofs.Steps.{further_itself, extends_on, each_weaker}
+use Rattle.checked_parts.specs.Below.{open_from, open_in, IsEntry, EachOf, EachIn, AreKnown, Extends, others_of, IsConstantIn, HasValues, scope_of, IsOwn, IsAnnounced, IsBlock, IsBottom, IsTabled, IsGlobalIn, IsRead}
+use Rattle.checked_parts.proofs.Below.{unit_told_from, method_among, others_grow, nested_kept, entry_kept, further_itself, extends_on, each_weaker}
 use Rattle.checked_parts.proofs.Objects.{some_object}
 use Rattle.checked_parts.proofs.Names.{each_for}
 use Rattle.checked_parts.proofs.Rows.{in_more, global_more}
@@ -95,12 +92,14 @@ constant_more stay types more sound (entry.Std number) h = tt
 
 -- ---- what is brought
 
-module _ (name : List ℕ) (g h : Environment) (s : Scope) (known : AreKnown g s) (units : s.units ≡ length g.units) (named : slice_get g.units 0 ≡ Some name) (table : IsTabled g.types) (b : Brings name g h s) where
+module _ (name : List ℕ) (g h : Environment) (s : Scope) (known : AreKnown g s) (told : s.others ≡ others_of g) (named : slice_get g.units 0 ≡ Some name) (table : IsTabled g.types) (b : Brings name g h s) where
   abbrev wide : Scope
   wide = with_table s h
 
-  more_units : length h.units ≡ length g.units + length b.units.0
-  more_units = ap (λ (us : List (List ℕ)). length us) b.units.1 ∙ length-append g.units b.units.0
+  more_told : AreAmong s.others (others_of h)
+  more_told =
+      subst (λ (o : Others). AreAmong o (others_of h)) (sym told)
+      (others_grow g h (record { used = (b.names ∷ [], ap (λ (e : Environment). e.used) b.whole); units = b.units; table_units = b.table_units; types = b.types }))
 
   types_are : s.types ≡ g.types.types
   types_are = known.has.types
@@ -108,18 +107,27 @@ module _ (name : List ℕ) (g h : Environment) (s : Scope) (known : AreKnown g s
   pub grows : Extends s wide
   grows = record {
     types = (b.types.0, b.types.1 ∙ ap (λ (types : List TypeDef). types ++ b.types.0) (sym types_are));
-    units = (let more = more_units in omega (arith, more, units));
+    others = more_told;
     globals = λ number ty e. e;
     routines = λ number one e. (one, e, further_itself one);
   }
 
-  -- a routine of a unit that stands behind the first
-  foreign_by : (Asked : Routine → Type 0) (number i n : ℕ) → n ≡ narrow i → 1 ≤ i → i < length h.units → IsRoutineAt Asked wide n number
-  foreign_by Asked number i zero e first low = absurd (omega (arith, e, first))
-  foreign_by Asked number i (suc u) e first low = omega (arith, e, low)
+  -- a method whose routine is of a unit that stands behind the first
+  foreign_by : (class : TypeId) (number : ℕ) (method : Method) (i n : ℕ) → slice_get (methods_of (definition h.types.types class)) number ≡ Some method
+      → routine_in h method.routine ≡ Some (routine_of method.routine.number n) → n ≡ narrow i → 1 ≤ i → IsRoutineAt (IsMethod class method.header) wide n method.routine.number
+  foreign_by class number method i zero m r e first = absurd (omega (arith, e, first))
+  foreign_by class number method i (suc u) m r e first = (
+    record { header = method.header; owner = Some class; outer = None; far = true },
+    method_among h class number method (routine_of method.routine.number (suc u)) m r,
+    record { owned = refl; same = record { kind = refl; params = refl; result = refl } },
+  )
 
-  found_low : (word : List ℕ) (i : ℕ) → position (same_bytes word) h.units ≡ Some i → i < length h.units
-  found_low word i e = slice_get_within h.units i word (found_at h.units word i e)
+  -- a routine by the name of its unit
+  routine_by : (method : Method) (word : List ℕ) (i : ℕ) → slice_get h.types.units method.routine.unit ≡ Some word → position (same_bytes word) h.units ≡ Some i
+      → routine_in h method.routine ≡ Some (routine_of method.routine.number (narrow i))
+  routine_by method word i there e =
+      ap (λ (o : Option (List ℕ)). option_map (routine_of method.routine.number) (unit_at h.units o)) there
+      ∙ ap (λ (o : Option ℕ). option_map (routine_of method.routine.number) (option_map narrow o)) e
 
   -- another name is not the first
   behind_first : (word : List ℕ) (i : ℕ) → (word ≡ name → ⊥) → position (same_bytes word) h.units ≡ Some i → 1 ≤ i
@@ -141,15 +149,15 @@ module _ (name : List ℕ) (g h : Environment) (s : Scope) (known : AreKnown g s
           let same : routine_of method.routine.number (narrow i) ≡ routine = cc in
           subst (λ (x : RoutineId). HasRoutine (IsMethod class method.header) wide x) same (each i e)
 
-  routine_kept : (Asked : Routine → Type 0) (u number : ℕ) → IsRoutineAt Asked s u number → IsRoutineAt Asked wide u number
+  routine_kept : (Asked : Prototype → Type 0) (u number : ℕ) → IsRoutineAt Asked s u number → IsRoutineAt Asked wide u number
   routine_kept Asked zero number k = k
-  routine_kept Asked (suc u) number k = let more = more_units in omega (arith, k, more, units)
+  routine_kept Asked (suc u) number k = (k.0, more_told.routines _ k.1, k.2)
 
   same_type : (ty : TypeId) → ty.0 < length g.types.types → definition h.types.types ty ≡ definition g.types.types ty
   same_type ty low = ap (λ (types : List TypeDef). definition types ty) b.types.1 ∙ slice_get-append g.types.types b.types.0 ty.0 low
 
   has_methods : HasMethods h wide
-  has_methods = record { types = refl; methods = by }
+  has_methods = record { types = refl; units = unit_told_from h; methods = by }
     where
       by : (class : TypeId) (number : ℕ) (method : Method) (routine : RoutineId) → slice_get (methods_of (definition wide.types class)) number ≡ Some method → routine_in h method.routine ≡ Some routine
           → HasRoutine (IsMethod class method.header) wide routine
@@ -158,17 +166,17 @@ module _ (name : List ℕ) (g h : Environment) (s : Scope) (known : AreKnown g s
           cases : (class.0 < length g.types.types) ⊎ (length g.types.types ≤ class.0) → HasRoutine (IsMethod class method.header) wide routine
           cases (inr high) =
               let it = b.methods class number method high m in
-              of_unit class method routine it.unit it.there r (λ i e. foreign_by (IsMethod class method.header) method.routine.number i (narrow i) refl (behind_first it.unit i it.other e) (found_low it.unit i e))
+              of_unit class method routine it.unit it.there r (λ i e. foreign_by class number method i (narrow i) m (routine_by method it.unit i it.there e) refl (behind_first it.unit i it.other e))
           cases (inl low) =
               let there : slice_get (methods_of (definition g.types.types class)) number ≡ Some method = ap (λ (d : Option TypeDef). slice_get (methods_of d) number) (sym (same_type class low)) ∙ m in
               let word = some_at g.types.units method.routine.unit (table.owned class number method there) in
               let later : slice_get h.types.units method.routine.unit ≡ Some word.0 =
               ap (λ (us : List (List ℕ)). slice_get us method.routine.unit) b.table_units.1 ∙ get_front g.types.units b.table_units.0 method.routine.unit word.0 word.1 in
-              of_unit class method routine word.0 later r (λ i e. old word.0 word.1 there i e)
+              of_unit class method routine word.0 later r (λ i e. old word.0 word.1 later there i e)
             where
-              old : (word : List ℕ) → slice_get g.types.units method.routine.unit ≡ Some word → slice_get (methods_of (definition g.types.types class)) number ≡ Some method → (i : ℕ) → position (same_bytes word) h.units ≡ Some i
+              old : (word : List ℕ) → slice_get g.types.units method.routine.unit ≡ Some word → slice_get h.types.units method.routine.unit ≡ Some word → slice_get (methods_of (definition g.types.types class)) number ≡ Some method → (i : ℕ) → position (same_bytes word) h.units ≡ Some i
                   → HasRoutine (IsMethod class method.header) wide (routine_of method.routine.number (narrow i))
-              old word there m_old i e = known_by (position (same_bytes word) g.units) refl
+              old word there later m_old i e = known_by (position (same_bytes word) g.units) refl
                 where
                   -- the first is found
                   by_units : (us : List (List ℕ)) → slice_get us 0 ≡ Some name → position (same_bytes name) us ≡ None → ⊥
@@ -193,7 +201,7 @@ module _ (name : List ℕ) (g h : Environment) (s : Scope) (known : AreKnown g s
                       let kept = routine_kept (IsMethod class method.header) (narrow j) method.routine.number has in
                       subst (λ (k : ℕ). HasRoutine (IsMethod class method.header) wide (routine_of method.routine.number (narrow k))) same kept
                   known_by None f =
-                      foreign_by (IsMethod class method.header) method.routine.number i (narrow i) refl (behind_first word i (λ same. none_first same f) e) (found_low word i e)
+                      foreign_by class number method i (narrow i) m (routine_by method word i later e) refl (behind_first word i (λ same. none_first same f) e)
 
   each_kept : (around : List ℕ) (symbols : SymbolList) → EachOf (IsEntry s around) symbols → EachOf (IsEntry wide around) symbols
   each_kept around [] k = tt
@@ -201,7 +209,7 @@ module _ (name : List ℕ) (g h : Environment) (s : Scope) (known : AreKnown g s
 
   pub brought_known : AreKnown h wide
   brought_known = subst (λ (e : Environment). AreKnown e wide) (sym b.whole) (record {
-    has = record { types = has_methods.types; methods = has_methods.methods };
+    has = record { types = has_methods.types; units = has_methods.units; methods = has_methods.methods };
     sound = b.sound;
     nested = nested_kept s wide grows known.sound (open_in g) known.nested;
     few = known.few;

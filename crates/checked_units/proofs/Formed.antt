@@ -16,8 +16,9 @@ use Rattle.typed_tree.specs.declared.units.Item.TheVariants as item
 use Rattle.typed_tree.specs.declared.units.Routine.{Routine}
 use Rattle.typed_tree.specs.declared.units.Unit as typed
 use Rattle.typed_tree.specs.Statements.{Statement}
-use Rattle.well_formed.specs.Fits.{definition, IsValue, IsSome, shape_of}
-use Rattle.well_formed.specs.WellFormed.{scope_of, IsFirst, IsOfUnit, IsHeaderOf, IsItem, IsInitial, HasInitial, IsWellFormed}
+use Rattle.type_fits.specs.Fits.{definition, IsValue, IsSome, shape_of}
+use Rattle.type_fits.specs.Routines.{IsInitial, HasInitial}
+use Rattle.well_formed.specs.WellFormed.{scope_of, IsFirst, IsOfUnit, IsHeaderOf, IsItem}
 use Rattle.type_layout.specs.Layouts.{size_of}
 use Rattle.scopes.specs.declared.entries.Entry.{Entry}
 use Rattle.scopes.specs.declared.entries.Entry.TheVariants as entry
@@ -31,13 +32,11 @@ use Rattle.tp_check_decl.specs.Units.{Finished, Whole, view_routine, view_unit, 
 use Rattle.tp_check_decl.specs.Interfaces.{item_of, items_in, items_by, items_of}
 use Rattle.tp_check_decl.specs.Endings.{all_finished, main_judged, ended}
 use Rattle.wider_scopes.specs.Laws.{StatementsStay}
-use Rattle.known_names.specs.Known.{opening, IsVariableIn, IsEntry, EachOf, EachIn}
-use Rattle.known_names.specs.Growing.{Extends}
-use Rattle.known_names.proofs.Growing.{entry_kept}
-use Rattle.checked_routines.specs.Reading as reading
-use Rattle.checked_routines.specs.Reading.{tree_of, IsOwn, IsRead, IsBottom}
-use Rattle.checked_routines.proofs.Lists.{plain_at}
+use Rattle.checked_parts.specs.Below as reading
+use Rattle.checked_parts.specs.Below.{opening, IsVariableIn, IsEntry, EachOf, EachIn, Extends, others_of, tree_of, IsOwn, IsRead, IsBottom}
+use Rattle.checked_parts.proofs.Below.{entry_kept, plain_at}
 use Rattle.checked_units.specs.Begun.{IsKeptPart}
+use Rattle.checked_units.specs.Laws.{IsFormedIn}
 use Rattle.checked_units.proofs.Finished.{view_back}
 use Rattle.checked_units.proofs.Whole.{IsUnit, alike, types_are, unit_well}
 
@@ -139,7 +138,7 @@ module _ (stay : StatementsStay) (name : List ℕ) (e : Drafted) (t : IsRead e [
   main_is body main k = (k.part, k.made.made)
 
   pub formed : (front : _) (items : List Item) (body : Option CompoundStatement) → (ended name front items body e).holds (view_unit unit) → IsKeptPart body
-      → ((all behind : List Finished) → (all_finished e.scope.types.types e.routines).holds all → IsUnit e all behind unit → All (IsItem unit) items) → IsWellFormed unit
+      → ((all behind : List Finished) → (all_finished e.scope.types.types e.routines).holds all → IsUnit e all behind unit → All (IsItem unit) items) → IsFormedIn e.scope unit
   formed front items None h kept shown =
       let types : unit.types ≡ e.scope.types = ap (λ (w : Whole). w.types) h.made in
       let globals : unit.globals ≡ e.globals = ap (λ (w : Whole). w.globals) h.made in
@@ -150,11 +149,15 @@ module _ (stay : StatementsStay) (name : List ℕ) (e : Drafted) (t : IsRead e [
         routines = ap (λ (w : Whole). w.routines) h.made ∙ (let none : h.part ≡ h.part ++ [] = sym (append-nil h.part) in none);
       } in
       record {
-        named = ap (λ (w : Whole). slice_get w.names 0) h.made ∙ named ∙ ap (λ (n : List ℕ). Some n) (sym (ap (λ (w : Whole). w.name) h.made));
-        globals = globals_shown e t unit types globals;
-        routines = λ number routine at. unit_well stay name e t unit front items None h kept number routine at;
-        items = subst (λ (all : List Item). All (IsItem unit) all) (sym (ap (λ (w : Whole). w.items) h.made)) (shown h.part [] h.holds u);
-        initial = subst (λ (o : Option ℕ). HasInitial unit.routines o) (sym (ap (λ (w : Whole). w.initial) h.made)) tt;
+        formed = record {
+          others = others_of e.scope;
+          named = ap (λ (w : Whole). slice_get w.names 0) h.made ∙ named ∙ ap (λ (n : List ℕ). Some n) (sym (ap (λ (w : Whole). w.name) h.made));
+          globals = globals_shown e t unit types globals;
+          routines = λ number routine at. unit_well stay name e t unit front items None h kept number routine at;
+          items = subst (λ (all : List Item). All (IsItem unit) all) (sym (ap (λ (w : Whole). w.items) h.made)) (shown h.part [] h.holds u);
+          initial = subst (λ (o : Option ℕ). HasInitial unit.routines o) (sym (ap (λ (w : Whole). w.initial) h.made)) tt;
+        };
+        others = refl;
       }
   formed front items (Some body) h kept shown =
       let types : unit.types ≡ e.scope.types = ap (λ (w : Whole). w.types) h.made in
@@ -170,9 +173,13 @@ module _ (stay : StatementsStay) (name : List ℕ) (e : Drafted) (t : IsRead e [
       let last : HasInitial unit.routines (Some (narrow (length h.left))) =
       (found.0, ap (λ (n : ℕ). slice_get unit.routines n) exact ∙ found.1, main_initial name main.0 found.0 (found.2 ∙ main.1)) in
       record {
-        named = ap (λ (w : Whole). slice_get w.names 0) h.made ∙ named ∙ ap (λ (n : List ℕ). Some n) (sym (ap (λ (w : Whole). w.name) h.made));
-        globals = globals_shown e t unit types globals;
-        routines = λ number routine at. unit_well stay name e t unit front items (Some body) h kept number routine at;
-        items = subst (λ (all : List Item). All (IsItem unit) all) (sym (ap (λ (w : Whole). w.items) h.made)) (shown h.left (h.right ∷ []) h.left_holds u);
-        initial = subst (λ (o : Option ℕ). HasInitial unit.routines o) (sym (ap (λ (w : Whole). w.initial) h.made)) last;
+        formed = record {
+          others = others_of e.scope;
+          named = ap (λ (w : Whole). slice_get w.names 0) h.made ∙ named ∙ ap (λ (n : List ℕ). Some n) (sym (ap (λ (w : Whole). w.name) h.made));
+          globals = globals_shown e t unit types globals;
+          routines = λ number routine at. unit_well stay name e t unit front items (Some body) h kept number routine at;
+          items = subst (λ (all : List Item). All (IsItem unit) all) (sym (ap (λ (w : Whole). w.items) h.made)) (shown h.left (h.right ∷ []) h.left_holds u);
+          initial = subst (λ (o : Option ℕ). HasInitial unit.routines o) (sym (ap (λ (w : Whole). w.initial) h.made)) last;
+        };
+        others = refl;
       }

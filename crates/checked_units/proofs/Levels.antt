@@ -1,11 +1,12 @@
--- The variables of a routine and of those round it, by their outer routines.
-use Rattle.std.proofs.Common.{◌≡◌, ℕ, zero, suc, ◌<◌, List, [], ◌∷◌, get_or, Option, Some, None, sym, subst, ◌∙◌, arith}
+-- The routines round one, by their outer routines, and their variables.
+use Rattle.std.proofs.Common.{◌≡◌, ℕ, zero, suc, ◌<◌, List, [], ◌∷◌, get_or, Option, Some, None, refl, sym, subst, ap, ◌∙◌, arith}
 use Rattle.std.specs.Prelude.{slice_get}
 use Rattle.type_layout.specs.declared.definitions.TypeId.{TypeId}
 use Rattle.typed_tree.specs.declared.units.Routine.{Routine}
-use Rattle.well_formed.specs.Scopes.{variables_of, levels_of, levels_from}
+use Rattle.type_fits.specs.Routines.{variables_of}
+use Rattle.well_formed.specs.Scopes.{with_outer, around_from, levels_of, levels_from}
 use Rattle.well_formed.specs.WellFormed.{IsInside}
-use Rattle.known_names.specs.Known.{AreNested, variables_at, levels_in}
+use Rattle.checked_parts.specs.Below.{AreNested, variables_at, levels_in}
 
 -- a routine of the unit with the same variables and the same outer routine
 pub record IsAlike (us : List Routine) (number : ℕ) (one : Routine) : Type 0 where
@@ -45,3 +46,23 @@ module _ (rs us : List Routine) (alike : (number : ℕ) (one : Routine) → slic
       let rest = levels_alike most next around level place ty below nested.1 h in
       subst (λ (o : Option Routine). slice_get (get_or (levels_of (λ (out : Option ℕ). levels_from us most out) o) (suc level) []) place ≡ Some ty) (sym it.is)
       (subst (λ (o : Option ℕ). slice_get (get_or (levels_from us most o) level []) place ≡ Some ty) (sym outer) rest)
+
+  -- the routines round it
+  none_around : (most : ℕ) → around_from us most None ≡ []
+  none_around zero = refl
+  none_around (suc most) = refl
+
+  pub around_alike : (most number : ℕ) (around : List ℕ) → number < most → AreNested rs (number ∷ around) → around_from us most (Some number) ≡ number ∷ around
+  around_alike zero number around few nested = absurd (omega (arith, few))
+  around_alike (suc most) number [] few nested =
+      let it = alike number nested.0.0 nested.0.1 in
+      ap (λ (o : Option Routine). with_outer number (λ (outer : Option ℕ). around_from us most outer) o) it.is
+      ∙ ap (λ (o : Option ℕ). number ∷ around_from us most o) (it.outer ∙ nested.0.2)
+      ∙ ap (λ (rest : List ℕ). number ∷ rest) (none_around most)
+  around_alike (suc most) number (next ∷ around) few nested =
+      let it = alike number nested.0.0 nested.0.1 in
+      let low = first_below number nested.0.0.outer next (inside number nested.0.0 nested.0.1) nested.0.2 in
+      let below : next < most = omega (arith, few, low) in
+      ap (λ (o : Option Routine). with_outer number (λ (outer : Option ℕ). around_from us most outer) o) it.is
+      ∙ ap (λ (o : Option ℕ). number ∷ around_from us most o) (it.outer ∙ nested.0.2)
+      ∙ ap (λ (rest : List ℕ). number ∷ rest) (around_alike most next around below nested.1)

@@ -5,7 +5,10 @@ pub mod Used
 pub mod Begun
 pub mod Formed
 pub mod Predeclared
+pub mod Told
 pub mod Bringing
 pub mod Overlay
 pub mod Uses
 pub mod Sources
+pub mod Below
+pub mod BelowMore

@@ -1,7 +1,6 @@
 -- The unit OVERLAY comes into a scope.
-use Rattle.std.proofs.Common.{◌≡◌, ℕ, zero, suc, ◌<◌, ◌≤◌, pos, negsuc, Bool, true, false, cond, All, List, [], ◌∷◌, ◌++◌, length, Option, Some, refl, sym, subst, ap, ◌∙◌, arith, append-nil}
+use Rattle.std.proofs.Common.{◌≡◌, ℕ, zero, suc, ◌≤◌, pos, negsuc, Bool, true, false, cond, All, List, [], ◌∷◌, ◌++◌, length, Option, Some, refl, sym, subst, ap, ◌∙◌, arith, append-nil}
 use Rattle.std.specs.Prelude.{ℤ, slice_get, codes}
-use Rattle.std.proofs.lemmas.Option.{slice_get_within}
 use Rattle.std.proofs.lemmas.List.Elements.{All-nil, All-cons}
 use Rattle.type_layout.specs.declared.definitions.TypeId.{TypeId}
 use Rattle.type_layout.specs.declared.definitions.Host.TheVariants as host
@@ -12,9 +11,8 @@ use Rattle.type_layout.specs.declared.definitions.TypeDef.TheVariants as type
 use Rattle.type_layout.specs.Table.{place_of, with_unit}
 use Rattle.typed_tree.specs.declared.expressions.Value.TheVariants as value
 use Rattle.typed_tree.specs.declared.units.Item.{Item}
-use Rattle.typed_tree.specs.declared.units.Routine.{Routine}
-use Rattle.well_formed.specs.Fits.{definition, IsSome, IsValue}
-use Rattle.well_formed.specs.Scopes.{Scope, IsRoutineAt, IsGlobal}
+use Rattle.type_fits.specs.Fits.{definition, IsSome, IsValue}
+use Rattle.well_formed.specs.Scopes.{Scope}
 use Rattle.scopes.specs.declared.entries.Entry.{Entry}
 use Rattle.scopes.specs.declared.entries.Entry.TheVariants as entry
 use Rattle.scopes.specs.Symbols.{SymbolList, has}
@@ -24,15 +22,13 @@ use Rattle.unit_interface.specs.Merge.{entry_of, name_of, with_new, with_items}
 use Rattle.unit_interface.specs.Resolve.{overlay, procedure, parameter, overlay_items, with_overlay}
 use Rattle.typed_nodes.specs.Tables.{IsInTable, IsHeaderIn, IsSound}
 use Rattle.typed_nodes.proofs.Ordinals.{at_begin}
-use Rattle.typed_calls.specs.Laws.{IsFree}
-use Rattle.well_formed.specs.Typed.{IsRoutineValue}
 use Rattle.method_rules.specs.Slots.{methods_of}
-use Rattle.known_names.specs.Known.{IsAtDepth, IsEntry, EachOf, AreKnown}
 use Rattle.constant_values.specs.Whole.{IsWholeOrdinal}
-use Rattle.declared_values.specs.Values.{IsConstantIn}
-use Rattle.checked_routines.specs.Reading.{IsTabled}
+use Rattle.checked_parts.specs.Below.{IsEntry, EachOf, AreKnown, IsConstantIn, IsTabled}
+use Rattle.checked_parts.proofs.Below.{unit_among, snoc_last}
 use Rattle.checked_parts.proofs.Tables.{placed}
 use Rattle.checked_units.specs.Bringing.{with_table, Brings}
+use Rattle.checked_units.proofs.Told.{IsShown, named_at, names_told, entries_told}
 
 module _ (P : Entry → Type 0) where
   new_has : (symbols : SymbolList) (word : List ℕ) (one : Entry) → EachOf P symbols → P one → EachOf P (with_new symbols word one)
@@ -64,9 +60,6 @@ module _ (name : List ℕ) (g : Environment) (s : Scope) (known : AreKnown g s) 
   abbrev place : ℕ
   place = place_of g.units overlay
 
-  within : place < length h.units
-  within = slice_get_within h.units place overlay (placed g.units overlay).there
-
   behind_first : 1 ≤ place
   behind_first = by place (placed g.units overlay).there
     where
@@ -91,44 +84,27 @@ module _ (name : List ℕ) (g : Environment) (s : Scope) (known : AreKnown g s) 
   in_table : (k : ℕ) (one : TypeDef) → slice_get (type_list ++ sound.begins.0) k ≡ Some one → IsInTable g.types.types (type_id k)
   in_table k one e = subst (λ (d : Option TypeDef). IsSome d) (sym (there k one e)) tt
 
-  global : (n number : ℕ) (ty : TypeId) → 1 ≤ n → n < length h.units → IsGlobal wide n number ty
-  global zero number ty first low = absurd (omega (arith, first))
-  global (suc n) number ty first low = low
-
-  routine : (Asked : Routine → Type 0) (n number : ℕ) → 1 ≤ n → n < length h.units → IsRoutineAt Asked wide n number
-  routine Asked zero number first low = absurd (omega (arith, first))
-  routine Asked (suc n) number first low = low
-
-  depth : (n number level : ℕ) → 1 ≤ n → IsAtDepth wide n number level
-  depth zero number level first = absurd (omega (arith, first))
-  depth (suc n) number level first = tt
-
   integer : definition g.types.types (type_id 2) ≡ Some (whole host.Integer)
   integer = there 2 (whole host.Integer) refl
 
-  number_there : (n : ℤ) → IsValue g.types.types (value.Number n) (Some (whole host.Integer)) → IsEntry wide [] (entry.Const (type_id 2) (value.Number n))
+  number_there : (n : ℤ) → IsValue g.types.types (value.Number n) (Some (whole host.Integer)) → IsShown wide (entry.Const (type_id 2) (value.Number n))
   number_there n e = subst (λ (d : Option TypeDef). IsValue g.types.types (value.Number n) d) (sym integer) e
 
   header_there : (params : List Param) → All (λ (param : Param). IsInTable g.types.types param.ty) params → IsHeaderIn g.types.types (procedure params)
   header_there params h = record { params = h; result = tt }
 
-  code_there : (number : ℕ) (params : List Param) → All (λ (param : Param). IsInTable g.types.types param.ty) params → IsEntry wide [] (entry.Code (record { unit = place; number = number }) 0 (procedure params) true)
-  code_there number params h = (
-    routine (IsFree (procedure params)) place number behind_first within,
-    header_there params h,
-    λ far level. routine (IsRoutineValue (procedure params)) place number behind_first within,
-    depth place number 0 behind_first,
-  )
+  code_there : (number : ℕ) (params : List Param) → All (λ (param : Param). IsInTable g.types.types param.ty) params → IsShown wide (entry.Code (record { unit = place; number = number }) 0 (procedure params) true)
+  code_there number params k = (header_there params k, behind_first, named_at wide place overlay behind_first (unit_among h place overlay (placed g.units overlay).there))
 
   of_param : (k : ℕ) (word : List ℕ) → IsInTable g.types.types (type_id k) → All (λ (param : Param). IsInTable g.types.types param.ty) (parameter word k ∷ [])
   of_param k word h = All-cons (λ (param : Param). IsInTable g.types.types param.ty) (parameter word k) [] h (All-nil (λ (param : Param). IsInTable g.types.types param.ty))
 
-  entries_there : EachItem (IsEntry wide []) [] place overlay_items
-  entries_there =
+  entries_shown : EachItem (IsShown wide) [] place overlay_items
+  entries_shown =
       let code_2 = code_there 2 [] (All-nil (λ (param : Param). IsInTable g.types.types param.ty)) in
       let code_1 = code_there 1 (parameter (codes "N") 4 ∷ []) (of_param 4 (codes "N") (in_table 4 (whole host.LongInt) refl)) in
       let code_0 = code_there 0 (parameter (codes "S") 7 ∷ []) (of_param 7 (codes "S") (in_table 7 (type.Str 255) refl)) in
-      (number_there (pos 0) refl, (number_there (negsuc 1) refl, ((in_table 2 (whole host.Integer) refl, global place 0 (type_id 2) behind_first within), (code_0, (code_1, (code_2, tt))))))
+      (number_there (pos 0) refl, (number_there (negsuc 1) refl, ((in_table 2 (whole host.Integer) refl, refl, behind_first), (code_0, (code_1, (code_2, tt))))))
 
   constant_there : (n : ℤ) → IsValue g.types.types (value.Number n) (Some (whole host.Integer)) → IsConstantIn g.types.types (entry.Const (type_id 2) (value.Number n))
   constant_there n e = record {
@@ -139,9 +115,15 @@ module _ (name : List ℕ) (g : Environment) (s : Scope) (known : AreKnown g s) 
   values_there : EachItem (IsConstantIn g.types.types) [] place overlay_items
   values_there = (constant_there (pos 0) refl, (constant_there (negsuc 1) refl, (tt, (tt, (tt, (tt, tt))))))
 
+  abbrev names : SymbolList
+  names = with_items [] place [] overlay_items
+
+  entries_there : EachOf (IsEntry wide []) names
+  entries_there = entries_told wide names (items_have (IsShown wide) [] place [] overlay_items tt entries_shown) (names_told h (length g.used) names (snoc_last g.used names))
+
   pub overlay_brings : Brings name g (with_overlay g) s
   overlay_brings = record {
-    names = with_items [] place [] overlay_items;
+    names = names;
     whole = refl;
     types = ([], sym (append-nil g.types.types));
     units = ((placed g.units overlay).more, (placed g.units overlay).grows);
@@ -149,7 +131,7 @@ module _ (name : List ℕ) (g : Environment) (s : Scope) (known : AreKnown g s) 
     methods = λ class place_in method high m. absurd (beyond g.types.types class.0 place_in method high m);
     sound = sound;
     table = table;
-    entries = items_have (IsEntry wide []) [] place [] overlay_items tt entries_there;
+    entries = entries_there;
     values = items_have (IsConstantIn g.types.types) [] place [] overlay_items tt values_there;
   }
     where

@@ -1,6 +1,7 @@
 -- The scope of a source that uses no unit: what is predeclared is there.
-use Rattle.std.proofs.Common.{◌≡◌, ℕ, zero, suc, ◌+◌, ◌<◌, ◌≤◌, pos, Bool, true, false, not, ◌&&◌, cond, List, [], ◌∷◌, ◌++◌, length, get_or, Option, Some, None, refl, sym, subst, ap, ◌∙◌, arith, rules}
+use Rattle.std.proofs.Common.{◌≡◌, ℕ, zero, suc, ◌+◌, ◌<◌, ◌≤◌, pos, Bool, true, false, not, ◌&&◌, cond, List, [], ◌∷◌, ◌++◌, length, map, get_or, Option, Some, None, refl, sym, subst, ap, ◌∙◌, arith, rules}
 use Rattle.std.specs.Prelude.{slice_get, codes}
+use Rattle.std.specs.List.{IsDistinct}
 use Rattle.std.proofs.lemmas.List.Elements.{All-nil}
 use Rattle.type_layout.specs.declared.definitions.TypeId.{TypeId}
 use Rattle.type_layout.specs.declared.definitions.Host.TheVariants as host
@@ -11,8 +12,8 @@ use Rattle.type_layout.specs.declared.layout.Layout.{Layout}
 use Rattle.type_layout.specs.Layouts.{layouts_of}
 use Rattle.type_layout.specs.Table.{AllDefined}
 use Rattle.type_layout.proofs.Given.{length-layouts_of}
-use Rattle.type_layout.specs.Words.{is_name}
-use Rattle.well_formed.specs.Fits.{definition}
+use Rattle.type_layout.specs.Words.{is_name, same_bytes}
+use Rattle.type_fits.specs.Fits.{definition, parent_of}
 use Rattle.well_formed.specs.Scopes.{Scope}
 use Rattle.scopes.specs.declared.entries.Entry.{Entry}
 use Rattle.scopes.specs.declared.entries.Entry.TheVariants as entry
@@ -20,12 +21,13 @@ use Rattle.scopes.specs.Symbols.{SymbolList, has}
 use Rattle.scopes.specs.Members as members
 use Rattle.scopes.specs.Members.{own_fields, fields_within}
 use Rattle.scopes.specs.Predeclared.{type_id, type_list, with_known, with_types, with_standard, number_entry, with_constants, type_names, standard, predeclared, first}
-use Rattle.method_rules.specs.Slots.{methods_of}
+use Rattle.object_vmt.specs.Slots.{slots_of}
+use Rattle.method_rules.specs.Slots.{methods_of, methods_within, methods_in}
+use Rattle.virtual_slots.specs.Laws.{IsNumbered}
 use Rattle.typed_nodes.specs.Tables.{IsInTable, NamesWithin, IsSound}
-use Rattle.known_names.specs.Known.{IsEntry, EachOf}
-use Rattle.declared_values.specs.Values.{IsConstantIn}
+use Rattle.checked_parts.proofs.Below.{unit_told_from}
 use Rattle.tp_check_decl.specs.Programs.{empty_draft}
-use Rattle.checked_routines.specs.Reading.{scope_of}
+use Rattle.checked_parts.specs.Below.{IsEntry, EachOf, IsConstantIn, scope_of}
 use Rattle.closed_scopes.proofs.Beginning.{first_complete}
 use Rattle.checked_units.specs.Begun.{IsBegun}
 
@@ -168,6 +170,31 @@ all_small (suc (suc (suc (suc (suc (suc (suc (suc (suc zero))))))))) d h = let s
 all_small (suc (suc (suc (suc (suc (suc (suc (suc (suc (suc zero)))))))))) d h = let size : (get_or (layouts_of type_list) 10 d).size ≡ 1 = refl in omega (arith, size)
 all_small (suc (suc (suc (suc (suc (suc (suc (suc (suc (suc (suc k))))))))))) d h = absurd (omega (arith, h))
 
+-- no type has methods, and no line
+simple_none : (ty : TypeId) → methods_of (definition type_list ty) ≡ []
+simple_none ty = by (definition type_list ty) refl
+  where
+    by : (d : Option TypeDef) → definition type_list ty ≡ d → methods_of (definition type_list ty) ≡ []
+    by None is = ap (λ (x : Option TypeDef). methods_of x) is
+    by (Some one) is = ap (λ (x : Option TypeDef). methods_of x) is ∙ simple_methods one (simple_at type_list ty.0 one all_simple is)
+
+line_none : (room : ℕ) (ty : Option TypeId) → methods_within room type_list ty ≡ []
+line_none zero ty = refl
+line_none (suc room) None = refl
+line_none (suc room) (Some ty) =
+    ap (λ (front : List Method). front ++ methods_of (definition type_list ty)) (line_none room (parent_of (definition type_list ty))) ∙ simple_none ty
+
+none_distinct : IsDistinct same_bytes []
+unfolding IsDistinct
+none_distinct = tt
+
+first_numbered : IsNumbered type_list
+first_numbered = record {
+  methods = λ ty. (let none = ap (λ (all : List Method). length all) (simple_none ty) in omega (arith, none));
+  once = λ ty. subst (λ (all : List Method). IsDistinct same_bytes (map (λ (method : Method). method.name) all)) (sym (simple_none ty)) none_distinct;
+  slots = λ class. (let none : length (slots_of (methods_in type_list class)) ≡ 0 = ap (λ (all : List Method). length (slots_of all)) (line_none (length type_list) (Some class)) in omega (arith, none));
+}
+
 first_sound : IsSound type_list
 first_sound = record {
   begins = ([], refl);
@@ -176,6 +203,7 @@ first_sound = record {
   names = λ ty one e. simple_names type_list one (simple_at type_list ty.0 one all_simple e);
   room = omega arith;
   few = λ ty. (let none = simple_within 11 ty in omega (arith, none));
+  numbered = first_numbered;
 }
 
 type_there : (k : ℕ) → k < 11 → IsInTable type_list (type_id k)
@@ -197,7 +225,7 @@ first_begun name =
     let s : Scope = scope_of (empty_draft (first name)) [] in
     record {
       known = record {
-        has = record { types = refl; methods = λ class number method routine m r. absurd (no_method class number method m) };
+        has = record { types = refl; units = unit_told_from (first name); methods = λ class number method routine m r. absurd (no_method class number method m) };
         sound = first_sound;
         nested = tt;
         few = omega arith;

@@ -12,7 +12,7 @@ use Rattle.source_tree.specs.declared.source.Tree.TheVariants as t
 use Rattle.typed_tree.specs.declared.units.Global.{Global}
 use Rattle.typed_tree.specs.declared.units.Item.{Item}
 use Rattle.typed_tree.specs.declared.units.Unit as typed
-use Rattle.well_formed.specs.WellFormed.{IsItem, IsWellFormed}
+use Rattle.well_formed.specs.WellFormed.{IsItem}
 use Rattle.scopes.specs.Environment.{Environment}
 use Rattle.unit_interface.specs.declared.interfaces.Interface.{Interface}
 use Rattle.unit_interface.specs.Resolve.{resolved}
@@ -24,16 +24,13 @@ use Rattle.tp_check_decl.specs.Programs.{program_judged}
 use Rattle.tp_check_decl.specs.Interfaces.{items_of, interface_judged, unit_judged}
 use Rattle.wider_scopes.specs.Laws.{StatementsStay}
 use Rattle.sound_tables.specs.Laws.{IsFit}
-use Rattle.checked_routines.specs.Reading.{scope_of, IsRead}
-use Rattle.checked_routines.specs.Rooms.{HasRoom}
-use Rattle.checked_routines.specs.Laws.{PartsKeep}
+use Rattle.checked_parts.specs.Below.{scope_of, IsRead, HasRoom, PartsKeep}
 use Rattle.checked_parts.specs.Laws.{PartLaw}
 use Rattle.constant_values.specs.Laws.{StayConstants}
-use Rattle.checked_routines.proofs.Steps.{extends_on}
-use Rattle.checked_routines.proofs.Grown.{room_before, all_grow}
+use Rattle.checked_parts.proofs.Below.{extends_on, room_before, all_grow}
 use Rattle.tp_check_decl.specs.Programs.{unit_site}
 use Rattle.checked_units.specs.Begun.{IsBegun, UsesKeep, IsKeptPart, IsBlock, IsInterface, IsRoomy}
-use Rattle.checked_units.specs.Laws.{SourceLaw, BareLaw}
+use Rattle.checked_units.specs.Laws.{IsFormedIn, SourceLaw, BareLaw}
 use Rattle.checked_units.proofs.Uses.{bare_begun, bare_keep}
 use Rattle.checked_units.proofs.Begun.{block_left, interface_left, program_left, uses_left}
 use Rattle.checked_units.proofs.Finished.{count_all}
@@ -91,7 +88,7 @@ module _ (name : List ℕ) (g : Environment) (unit : typed.Unit) (room : IsRoomy
       room_types d (knowing d late) more.0 more.1 refl refl (middle_room says have own uses outer interface all body h)
 
 module _ (stay : StatementsStay) (name : List ℕ) (g : Environment) (keeps : PartsKeep name) (begun : IsBegun name g) (unit : typed.Unit) (room : IsRoomy unit) where
-  program_formed : (says : Directives) (uses : List Identifier) (all : Works) (body : CompoundStatement) → IsBlock all → IsKeptPart (Some body) → (program_judged name says g uses all body).holds (view_unit unit) → IsWellFormed unit
+  program_formed : (says : Directives) (uses : List Identifier) (all : Works) (body : CompoundStatement) → IsBlock all → IsKeptPart (Some body) → (h : (program_judged name says g uses all body).holds (view_unit unit)) → IsFormedIn h.made.made.part.scope unit
   program_formed says uses all body block kept h =
       let front = h.made in
       let declared = front.made in
@@ -101,7 +98,7 @@ module _ (stay : StatementsStay) (name : List ℕ) (g : Environment) (keeps : Pa
 
   unit_formed : (says : Directives) (have : List Interface) (own : Identifier) (uses : List Identifier) (outer : ℕ) (interface : List InterfaceDeclaration) (all : Works) (body : Option CompoundStatement)
       → ((d : Drafted) → (interface_judged name g interface).holds d → IsRead d [] → slice_get d.scope.units 0 ≡ Some name → UsesKeep have d (drop outer uses)) → IsInterface interface → IsBlock all → IsKeptPart body
-      → (unit_judged name says g have own uses outer interface all body).holds (view_unit unit) → IsWellFormed unit
+      → (h : (unit_judged name says g have own uses outer interface all body).holds (view_unit unit)) → IsFormedIn h.made.made.made.part.draft.scope unit
   unit_formed says have own uses outer interface all body brings inside block kept h =
       let front = h.made in
       let d : Drafted = front.part in

@@ -15,7 +15,7 @@ use Rattle.routines.specs.Drafts.{Numbered, Drafted}
 use Rattle.tp_check_decl.specs.Interfaces.{all_used}
 use Rattle.sound_tables.specs.Laws.{IsFit}
 use Rattle.sound_tables.proofs.Fits.{fit_front}
-use Rattle.checked_routines.specs.Rooms.{HasRoom}
+use Rattle.checked_parts.specs.Below.{HasRoom}
 
 -- types at the end
 abbrev pub HasMore : List TypeDef → List TypeDef → Type 0

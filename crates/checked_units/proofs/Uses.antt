@@ -11,7 +11,7 @@ use Rattle.source_tree.specs.declared.source.Tree.TheVariants as t
 use Rattle.routines.specs.Drafts.{Drafted, knowing}
 use Rattle.tp_check_decl.specs.Interfaces.{further_used}
 use Rattle.tp_check_decl.specs.Programs.{empty_draft}
-use Rattle.checked_routines.specs.Reading.{scope_of, IsRead}
+use Rattle.checked_parts.specs.Below.{scope_of, IsRead}
 use Rattle.constant_values.specs.Laws.{StayConstants}
 use Rattle.checked_units.specs.Begun.{IsBegun, IsJoined, EachUse, further_uses, UsesKeep, FurtherKeep}
 use Rattle.checked_units.specs.Laws.{AreOverlay}

@@ -17,8 +17,9 @@ use Rattle.typed_tree.specs.declared.units.Item.{Item}
 use Rattle.typed_tree.specs.declared.units.Routine.{Routine}
 use Rattle.typed_tree.specs.declared.units.Unit as typed
 use Rattle.typed_tree.specs.Statements.{Statement, view_stmt}
-use Rattle.well_formed.specs.Fits.{definition, IsObject}
-use Rattle.well_formed.specs.Scopes.{Scope, HasType, HasResult, variables_of}
+use Rattle.type_fits.specs.Fits.{definition, IsObject}
+use Rattle.type_fits.specs.Routines.{variables_of}
+use Rattle.well_formed.specs.Scopes.{IsOneOf, Others, Scope, HasType, HasResult}
 use Rattle.well_formed.specs.WellFormed.{IsStatement, scope_of, scope_in, IsInside, IsOwner, IsRoutine}
 use Rattle.routines.specs.Drafts.{Done, Numbered, Drafted}
 use Rattle.routines.specs.Insides.{statements_of}
@@ -29,18 +30,12 @@ use Rattle.wider_scopes.specs.Wider.{IsSame, Widens}
 use Rattle.wider_scopes.specs.Laws.{StatementsStay}
 use Rattle.checked_statements.specs.Trees.{depth_in}
 use Rattle.checked_statements.proofs.Checked.{stated_well}
-use Rattle.known_names.specs.Known.{open_in, first_in, AreNested, levels_in, scope_over}
-use Rattle.known_names.specs.Growing.{Extends}
-use Rattle.known_names.proofs.Growing.{nested_kept, levels_kept}
-use Rattle.known_names.proofs.Agreeing.{agrees_within}
-use Rattle.checked_routines.specs.Reading as reading
-use Rattle.checked_routines.specs.Reading.{tree_of, locals_of, IsBody, IsRead}
-use Rattle.checked_routines.specs.Trees.{IsKept}
-use Rattle.checked_routines.proofs.Lists.{plain_trees}
-use Rattle.checked_routines.proofs.Steps.{snoc_at}
+use Rattle.checked_parts.specs.Below as reading
+use Rattle.checked_parts.specs.Below.{open_in, first_in, AreNested, levels_in, scope_over, Extends, others_of, tree_of, locals_of, IsBody, IsRead, IsKept}
+use Rattle.checked_parts.proofs.Below.{nested_kept, levels_kept, agrees_within, plain_trees, among_itself, snoc_at}
 use Rattle.checked_units.specs.Begun.{IsKeptPart}
 use Rattle.checked_units.proofs.Finished.{finished_at, slot_at, viewed_at, view_back}
-use Rattle.checked_units.proofs.Levels.{IsAlike, levels_alike}
+use Rattle.checked_units.proofs.Levels.{IsAlike, levels_alike, around_alike}
 
 -- a tree of a draft stands for a routine of it
 tree_back : (routines : List Numbered) (number : ℕ) (tree : Routine) → slice_get (plain_trees routines) number ≡ Some tree → (slot : Numbered) × (slice_get routines number ≡ Some slot) × (tree_of slot ≡ tree)
@@ -65,6 +60,10 @@ pub record IsUnit (d : Drafted) (all behind : List Finished) (unit : typed.Unit)
 module _ (stay : StatementsStay) (d : Drafted) (r : IsRead d []) (all behind : List Finished) (unit : typed.Unit) (finish : (all_finished d.scope.types.types d.routines).holds all) (u : IsUnit d all behind unit) where
   abbrev draft : Scope
   draft = reading.scope_of d []
+
+  -- what is supposed of other units
+  abbrev others : Others
+  others = others_of d.scope
 
   -- each routine of the draft is one of the unit
   pub unit_at : (number : ℕ) (slot : Numbered) → slice_get d.routines number ≡ Some slot
@@ -101,11 +100,11 @@ module _ (stay : StatementsStay) (d : Drafted) (r : IsRead d []) (all behind : L
 
   -- the scope of a routine of the unit has all that the draft's has
   widens : (number : ℕ) (around : List ℕ) (then : Scope) → Extends then draft → IsSound then.types → AreNested then.routines (number ∷ around) → AreNested draft.routines (number ∷ around)
-      → Widens (scope_over then (number ∷ around)) (scope_in unit number)
+      → Widens (scope_over then (number ∷ around)) (scope_in others unit number)
   widens number around then e sound nested_then nested = record {
     defined = sound.defined;
     types = (e.types.0, sym types_are ∙ e.types.1);
-    units = (let units = e.units in let same : length unit.names ≡ draft.units = ap (λ names. length names) u.names in omega (arith, units, same));
+    others = e.others;
     globals = λ n ty g. ap (λ (gs : List Global). slice_get (map (λ (global : Global). global.ty) gs) n) u.globals ∙ e.globals n ty g;
     routines = λ n one is. (
         let first = e.routines n one is in
@@ -119,6 +118,7 @@ module _ (stay : StatementsStay) (d : Drafted) (r : IsRead d []) (all behind : L
             far = first.2.same.far ∙ second.2.far;
           },
         ));
+    around = λ n h. subst (λ (ns : List ℕ). IsOneOf n ns) (sym (around_alike draft.routines unit.routines (λ k one is. (alike k one is).0) inside (suc number) number around (let low : number < suc number = omega arith in low) nested)) h;
     levels = λ level place ty v. (
         let here = levels_kept then draft e sound (number ∷ around) level place ty nested_then v in
         let low : number < suc number = omega arith in
@@ -127,7 +127,7 @@ module _ (stay : StatementsStay) (d : Drafted) (r : IsRead d []) (all behind : L
   }
 
   -- the routine of a number, of the draft
-  routine_well : (number : ℕ) (routine : Routine) → slice_get unit.routines number ≡ Some routine → slice_get all number ≡ Some (view_routine routine) → IsRoutine unit number routine
+  routine_well : (number : ℕ) (routine : Routine) → slice_get unit.routines number ≡ Some routine → slice_get all number ≡ Some (view_routine routine) → IsRoutine others unit number routine
   routine_well number routine e at =
       let f = finished_at d.scope.types.types d.routines all number (view_routine routine) finish at in
       let a = r.announced number f.slot f.is in
@@ -145,7 +145,7 @@ module _ (stay : StatementsStay) (d : Drafted) (r : IsRead d []) (all behind : L
         owner = subst (λ (o : Option TypeId). IsOwner (scope_of unit) o) (sym owner) (owner_kept f.slot.first.owner a.owner);
         outer = subst (λ (o : Option ℕ). IsInside number o) (sym outer) a.outer;
         locals = subst (λ (ls : List TypeId). All (HasType (scope_of unit)) ls) (sym locals) (all_there f.done.locals (λ place ty k. subst (λ (ts : List TypeDef). IsInTable ts ty) types_are (b.types place ty k)));
-        body = subst (λ (st : Statement). IsStatement (scope_in unit number) st) (sym body) (body_well number f.done b.body);
+        body = subst (λ (st : Statement). IsStatement (scope_in others unit number) st) (sym body) (body_well number f.done b.body);
       }
     where
       owner_kept : (o : Option TypeId) → IsOwner draft o → IsOwner (scope_of unit) o
@@ -155,16 +155,16 @@ module _ (stay : StatementsStay) (d : Drafted) (r : IsRead d []) (all behind : L
       all_there : (types : List TypeId) → ((place : ℕ) (ty : TypeId) → slice_get types place ≡ Some ty → HasType (scope_of unit) ty) → All (HasType (scope_of unit)) types
       all_there types h = λ k d low. h k (get_or types k d) (slice_get-get_or types k d low)
 
-      body_well : (n : ℕ) (done : Done) → IsBody draft n done → IsStatement (scope_in unit n) done.body
+      body_well : (n : ℕ) (done : Done) → IsBody draft n done → IsStatement (scope_in others unit n) done.body
       body_well n done b = by b.around b.innermost b.well b.nested
         where
-          by : (around : List ℕ) → first_in around ≡ Some n → IsStatement (scope_over b.then around) done.body → AreNested b.then.routines around → IsStatement (scope_in unit n) done.body
+          by : (around : List ℕ) → first_in around ≡ Some n → IsStatement (scope_over b.then around) done.body → AreNested b.then.routines around → IsStatement (scope_in others unit n) done.body
           by [] is well nested = let bad : ⊥ = cc in absurd bad
           by (first ∷ around) is well nested =
               let same : first ≡ n = cc in
-              let it : IsStatement (scope_in unit first) done.body =
-              stay (scope_over b.then (first ∷ around)) (scope_in unit first) (widens first around b.then b.since b.sound nested (nested_kept b.then draft b.since b.sound (first ∷ around) nested)) done.body well in
-              subst (λ (m : ℕ). IsStatement (scope_in unit m) done.body) same it
+              let it : IsStatement (scope_in others unit first) done.body =
+              stay (scope_over b.then (first ∷ around)) (scope_in others unit first) (widens first around b.then b.since b.sound nested (nested_kept b.then draft b.since b.sound (first ∷ around) nested)) done.body well in
+              subst (λ (m : ℕ). IsStatement (scope_in others unit m) done.body) same it
 
   -- ---- the main part
 
@@ -174,27 +174,32 @@ module _ (stay : StatementsStay) (d : Drafted) (r : IsRead d []) (all behind : L
   nothing_in (suc level) zero ty e = let bad : ⊥ = cc in bad
   nothing_in (suc level) (suc place) ty e = let bad : ⊥ = cc in bad
 
-  widens_main : (number : ℕ) → Widens (scope_over draft []) (scope_in unit number)
+  no_one : (n place : ℕ) → slice_get [] place ≡ Some n → ⊥
+  no_one n zero e = let bad : ⊥ = cc in bad
+  no_one n (suc place) e = let bad : ⊥ = cc in bad
+
+  widens_main : (number : ℕ) → Widens (scope_over draft []) (scope_in others unit number)
   widens_main number = record {
     defined = r.known.sound.defined;
     types = ([], sym types_are ∙ sym (append-nil draft.types));
-    units = (let same : length unit.names ≡ draft.units = ap (λ names. length names) u.names in omega (arith, same));
+    others = among_itself others;
     globals = λ n ty g. ap (λ (gs : List Global). slice_get (map (λ (global : Global). global.ty) gs) n) u.globals ∙ g;
     routines = λ n one is. (alike n one is).1;
+    around = λ n h. absurd (no_one n h.0 h.1);
     levels = λ level place ty v. absurd (nothing_in level place ty v);
     withs = refl;
   }
 
-  main_body : (body : CompoundStatement) (kept : IsKept body) (typed_body : Statement) → (statements_of d.scope body).holds typed_body → (number : ℕ) → IsStatement (scope_in unit number) typed_body
+  main_body : (body : CompoundStatement) (kept : IsKept body) (typed_body : Statement) → (statements_of d.scope body).holds typed_body → (number : ℕ) → IsStatement (scope_in others unit number) typed_body
   main_body body kept typed_body h number =
       let none : open_in d.scope ≡ [] = r.around in
       let agrees = agrees_within d.scope draft r.known in
       let room : depth_in (view_statements body.statements.items) + 0 ≤ 2147483648 = (let k = kept.depth in omega (arith, k)) in
       let well : IsStatement (scope_over draft (open_in d.scope)) typed_body =
       stated_well (compound (view_statements body.statements.items)) d.scope (scope_over draft (open_in d.scope)) agrees typed_body kept.literals room h in
-      stay (scope_over draft []) (scope_in unit number) (widens_main number) typed_body (subst (λ (ns : List ℕ). IsStatement (scope_over draft ns) typed_body) none well)
+      stay (scope_over draft []) (scope_in others unit number) (widens_main number) typed_body (subst (λ (ns : List ℕ). IsStatement (scope_over draft ns) typed_body) none well)
 
-  main_well : (name : List ℕ) (typed_body : Statement) (number : ℕ) (routine : Routine) → main_part name typed_body ≡ view_routine routine → IsStatement (scope_in unit number) typed_body → IsRoutine unit number routine
+  main_well : (name : List ℕ) (typed_body : Statement) (number : ℕ) (routine : Routine) → main_part name typed_body ≡ view_routine routine → IsStatement (scope_in others unit number) typed_body → IsRoutine others unit number routine
   main_well name typed_body number routine is well =
       let header : routine.header ≡ (main_part name typed_body).header = sym (ap (λ (x : Finished). x.header) is) in
       let owner : None ≡ routine.owner = ap (λ (x : Finished). x.owner) is in
@@ -208,32 +213,35 @@ module _ (stay : StatementsStay) (d : Drafted) (r : IsRead d []) (all behind : L
         owner = subst (λ (o : Option TypeId). IsOwner (scope_of unit) o) owner tt;
         outer = subst (λ (o : Option ℕ). IsInside number o) outer tt;
         locals = subst (λ (ls : List TypeId). All (HasType (scope_of unit)) ls) locals (All-nil (HasType (scope_of unit)));
-        body = subst (λ (st : Statement). IsStatement (scope_in unit number) st) body well;
+        body = subst (λ (st : Statement). IsStatement (scope_in others unit number) st) body well;
       }
 
 -- ---- units
 
 module _ (stay : StatementsStay) (name : List ℕ) (d : Drafted) (r : IsRead d []) (unit : typed.Unit) where
-  bare_unit : (all : List Finished) (number : ℕ) (routine : Routine) → (all_finished d.scope.types.types d.routines).holds all → IsUnit d all [] unit → slice_get unit.routines number ≡ Some routine → IsRoutine unit number routine
+  abbrev told : Others
+  told = others_of d.scope
+
+  bare_unit : (all : List Finished) (number : ℕ) (routine : Routine) → (all_finished d.scope.types.types d.routines).holds all → IsUnit d all [] unit → slice_get unit.routines number ≡ Some routine → IsRoutine told unit number routine
   bare_unit all number routine finish u e =
       let there : slice_get all number ≡ Some (view_routine routine) =
       ap (λ (xs : List Finished). slice_get xs number) (sym (u.routines ∙ append-nil all)) ∙ viewed_at unit.routines number routine e in
       routine_well stay d r all [] unit finish u number routine e there
 
   main_unit : (all : List Finished) (body : CompoundStatement) (main : Finished) (number : ℕ) (routine : Routine) → (all_finished d.scope.types.types d.routines).holds all → IsKept body → (main_judged name d.scope body).holds main
-      → IsUnit d all (main ∷ []) unit → slice_get unit.routines number ≡ Some routine → IsRoutine unit number routine
+      → IsUnit d all (main ∷ []) unit → slice_get unit.routines number ≡ Some routine → IsRoutine told unit number routine
   unfolding main_judged
   main_unit all body main number routine finish kept m u e =
       by (snoc_at all main number (view_routine routine) (ap (λ (xs : List Finished). slice_get xs number) (sym u.routines) ∙ viewed_at unit.routines number routine e))
     where
-      by : (slice_get all number ≡ Some (view_routine routine)) ⊎ ((number ≡ length all) × (main ≡ view_routine routine)) → IsRoutine unit number routine
+      by : (slice_get all number ≡ Some (view_routine routine)) ⊎ ((number ≡ length all) × (main ≡ view_routine routine)) → IsRoutine told unit number routine
       by (inl f) = routine_well stay d r all (main ∷ []) unit finish u number routine e f
       by (inr f) =
           let last = m.made in
           main_well stay d r all (main ∷ []) unit finish u name m.part number routine (sym last.made ∙ f.1) (main_body stay d r all (main ∷ []) unit finish u body kept m.part m.holds number)
 
   pub unit_well : (front : _) (items : List Item) (body : Option CompoundStatement) → (ended name front items body d).holds (view_unit unit) → IsKeptPart body → (number : ℕ) (routine : Routine) → slice_get unit.routines number ≡ Some routine
-      → IsRoutine unit number routine
+      → IsRoutine told unit number routine
   unit_well front items None h kept number routine e =
       let u : IsUnit d h.part [] unit = record {
         names = ap (λ (w : Whole). w.names) h.made;

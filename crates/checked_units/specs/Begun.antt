@@ -14,13 +14,7 @@ use Rattle.routines.specs.Drafts.{Drafted, knowing}
 use Rattle.tp_check_decl.specs.Interfaces.{interface_judged, further_used}
 use Rattle.tp_check_decl.specs.Programs.{empty_draft}
 use Rattle.sound_tables.specs.Laws.{IsFit}
-use Rattle.declared_values.specs.Literals.{HasLiterals}
-use Rattle.declared_values.specs.Values.{HasValues}
-use Rattle.known_names.specs.Known.{AreKnown}
-use Rattle.known_names.specs.Growing.{Extends}
-use Rattle.checked_routines.specs.Reading.{scope_of, IsTabled, IsRead}
-use Rattle.checked_routines.specs.Rooms.{HasRoom}
-use Rattle.checked_routines.specs.Trees.{IsKept, HaveBodies, variables_of, variables_in}
+use Rattle.checked_parts.specs.Below.{HasLiterals, HasValues, AreKnown, Extends, scope_of, IsTabled, IsRead, HasRoom, IsKept, HaveBodies, variables_of, variables_in}
 
 -- The scope of a source before its first block: the predeclared names and those of used units are there, and no block is open; the
 -- first unit that is named is the source itself.
@@ -90,8 +84,9 @@ IsSource (t.Unit here own uses outer interface all body) = IsInterface interface
 
 -- ---- units
 
--- 32 bits hold the numbers of its routines and variables, and its types are fit
+-- 32 bits hold the numbers of its routines and variables, and of the units that it names, and its types are fit
 pub record IsRoomy (unit : typed.Unit) : Type 0 where
+  pub names : length unit.names < 2 ^ 32
   pub routines : length unit.routines < 2 ^ 32
   pub globals : length unit.globals < 2 ^ 32
   pub types : IsFit unit.types.types

@@ -4,19 +4,17 @@ use Rattle.type_layout.specs.declared.definitions.TypeId.{TypeId}
 use Rattle.type_layout.specs.declared.definitions.Method.{Method}
 use Rattle.type_layout.specs.declared.definitions.TypeDef.{TypeDef}
 use Rattle.type_layout.specs.Table.{Table}
-use Rattle.well_formed.specs.Fits.{definition}
+use Rattle.type_fits.specs.Fits.{definition}
 use Rattle.well_formed.specs.Scopes.{Scope}
 use Rattle.scopes.specs.Symbols.{SymbolList}
 use Rattle.scopes.specs.Environment.{Environment, with_used}
 use Rattle.method_rules.specs.Slots.{methods_of}
 use Rattle.typed_nodes.specs.Tables.{IsSound}
-use Rattle.declared_values.specs.Values.{IsConstantIn}
-use Rattle.known_names.specs.Known.{IsEntry, EachOf}
-use Rattle.checked_routines.specs.Reading.{IsTabled}
+use Rattle.checked_parts.specs.Below.{IsConstantIn, IsEntry, EachOf, others_of, IsTabled}
 
--- the trees of a scope with other types and units
+-- the trees of a scope with other types, and what a scope tells of other units
 abbrev pub with_table : Scope → Environment → Scope
-with_table s h = record s { types = h.types.types; units = length h.units }
+with_table s h = record s { types = h.types.types; others = others_of h }
 
 -- a method of a unit of the table that isn't the one that is read
 pub record IsForeign (name : List ℕ) (table : Table) (method : Method) : Type 0 where

@@ -3,6 +3,7 @@ use Rattle.std.specs.Prelude.{◌≡◌, ℕ, true, List, [], ◌∷◌, Some, s
 use Rattle.syntax_tree.specs.declared.identifier.Identifier.{Identifier}
 use Rattle.source_directives.specs.declared.collected.Directives.{Directives}
 use Rattle.source_tree.specs.declared.source.Tree.{Tree}
+use Rattle.source_tree.specs.declared.source.Tree.TheVariants as t
 use Rattle.typed_tree.specs.declared.units.Unit as typed
 use Rattle.well_formed.specs.WellFormed.{IsWellFormed}
 use Rattle.scopes.specs.Predeclared.{first}
@@ -10,18 +11,28 @@ use Rattle.scopes.specs.Environment.{Environment}
 use Rattle.unit_interface.specs.declared.interfaces.Interface.{Interface}
 use Rattle.unit_interface.specs.Resolve.{overlay, is_overlay, resolved}
 use Rattle.routines.specs.Drafts.{Drafted, knowing}
-use Rattle.tp_check_decl.specs.Units.{view_unit}
+use Rattle.tp_check_decl.specs.Units.{Whole, view_unit}
 use Rattle.tp_check_decl.specs.Programs.{empty_draft}
 use Rattle.tp_check_decl.specs.Checked.{IsTypedAs}
-use Rattle.checked_routines.specs.Reading.{scope_of, IsRead}
+use Rattle.checked_parts.specs.Below.{others_of, scope_of, IsRead}
 use Rattle.checked_units.specs.Begun.{IsBegun, IsJoined, EachUse, further_uses, FurtherKeep, IsSource, IsRoomy}
 use Rattle.checked_units.specs.Bringing.{Brings}
 
--- Over a scope whose names are there, each source that is typed is a well-formed unit, where the units that its implementation part
--- uses keep what is known behind its interface part.
+-- a unit that is well formed where other units have what a scope tells of them
+pub record IsFormedIn (h : Environment) (unit : typed.Unit) : Type 0 where
+  pub formed : IsWellFormed unit
+  pub others : formed.others ≡ others_of h
+
+-- the scope at the end of a source, by how the source is typed
+abbrev pub end_scope : (name : List ℕ) (says : Directives) (g : Environment) (have : List Interface) (tree : Tree) (unit : Whole) → IsTypedAs name says g have tree unit → Environment
+end_scope name says g have (t.Program heading uses all body) unit h = h.made.made.part.scope
+end_scope name says g have (t.Unit here own uses outer interface all body) unit h = h.made.made.made.part.draft.scope
+
+-- Over a scope whose names are there, each source that is typed is a unit that is well formed where other units have what the scope at the
+-- source's end tells of them, if the units that its implementation part uses keep what is known behind its interface part.
 abbrev pub SourceLaw : Type 0
 SourceLaw = (name : List ℕ) (says : Directives) (g : Environment) (have : List Interface) (tree : Tree) (unit : typed.Unit) → FurtherKeep name g have tree → IsBegun name g
-    → IsSource tree → IsRoomy unit → IsTypedAs name says g have tree (view_unit unit) → IsWellFormed unit
+    → IsSource tree → IsRoomy unit → (typed : IsTypedAs name says g have tree (view_unit unit)) → IsFormedIn (end_scope name says g have tree (view_unit unit) typed) unit
 
 abbrev pub AreOverlay : List (List ℕ) → Type 0
 AreOverlay [] = Unit {0}
@@ -30,7 +41,8 @@ AreOverlay (one ∷ rest) = (is_overlay one ≡ true) × AreOverlay rest
 -- Where no unit is used but OVERLAY, nothing is asked of the scope. (The file of no source has that name.)
 abbrev pub BareLaw : Type 0
 BareLaw = (name : List ℕ) (says : Directives) (have : List Interface) (uses : List (List ℕ)) (tree : Tree) (unit : typed.Unit) → (name ≡ overlay → ⊥) → AreOverlay uses
-    → EachUse (λ (one : Identifier). is_overlay one.name ≡ true) (further_uses tree) → IsSource tree → IsRoomy unit → IsTypedAs name says (resolved have name uses) have tree (view_unit unit) → IsWellFormed unit
+    → EachUse (λ (one : Identifier). is_overlay one.name ≡ true) (further_uses tree) → IsSource tree → IsRoomy unit → (typed : IsTypedAs name says (resolved have name uses) have tree (view_unit unit))
+    → IsFormedIn (end_scope name says (resolved have name uses) have tree (view_unit unit) typed) unit
 
 -- What a used unit brings, if it is there, keeps what is known: where a source begins, and behind its interface part.
 pub record UsesLaws (name : List ℕ) : Type 0 where

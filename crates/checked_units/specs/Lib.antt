@@ -1,3 +1,5 @@
 pub mod Begun
 pub mod Bringing
 pub mod Laws
+pub mod Below
+pub mod BelowMore

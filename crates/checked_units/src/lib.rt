@@ -3,4 +3,5 @@
 
 mod laws;
 
+pub use checked_parts::part_keeping_law;
 pub use laws::checked_unit_laws;

@@ -19,7 +19,7 @@ use Rattle.scopes.specs.declared.entries.BlockKind.TheVariants.{Routine}
 use Rattle.scopes.specs.Members.{narrow}
 use Rattle.scopes.specs.Environment.{Environment, Meaning, named, find, block_count, with_block}
 use Rattle.unit_interface.specs.Exports.{in_option, in_params, in_header}
-use Rattle.well_formed.specs.Fits.{definition}
+use Rattle.type_fits.specs.Fits.{definition}
 use Rattle.typing_rules.specs.Judgements.{Judgement}
 use Rattle.headers.specs.Headers.{procedure_header, function_header, method_header}
 use Rattle.type_parts.specs.Objects.{name_of as method_name, header_place}

@@ -8,7 +8,7 @@ use Rattle.type_layout.specs.declared.texts.Place.{Place}
 use Rattle.type_layout.specs.Layouts.{bounds_at}
 use Rattle.type_layout.specs.Storage.{holds}
 use Rattle.values.specs.Sets.{with_range}
-use Rattle.well_formed.specs.Fits.{definition}
+use Rattle.type_fits.specs.Fits.{definition}
 use Rattle.typing_rules.specs.declared.faults.Rule.TheVariants as rules
 use Rattle.typing_rules.specs.declared.sorts.Sort.{Sort}
 use Rattle.typing_rules.specs.Faults.{broken}

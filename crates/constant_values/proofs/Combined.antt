@@ -1,12 +1,18 @@
 -- Operators on constants give constants.
-use Rattle.std.proofs.Common.{◌≡◌, ◌⊎◌, inl, inr, ℕ, Bool, true, false, cond, List, ◌++◌, length-take, Option, Some, None, refl, sym, subst, ◌∙◌, arith}
+use Rattle.std.proofs.Common.{◌≡◌, ◌⊎◌, inl, inr, ℕ, ◌<◌, Bool, true, false, cond, List, [], ◌∷◌, ◌++◌, length-take, Option, Some, None, refl, sym, subst, ◌∙◌, arith}
 use Rattle.std.proofs.Math.IntN.{ℤ, pos, negsuc, ◌+ℤ◌, ◌-ℤ◌, ◌*ℤ◌}
-use Rattle.std.specs.Prelude.{◌^◌, bit_and, bit_or, bit_xor}
+use Rattle.std.specs.Prelude.{◌^◌, bit_and, bit_or, bit_xor, unsigned_abs}
 use Rattle.std.specs.Int.RustNames.{int_div}
 use Rattle.std.specs.Ordering.{int_eq}
 use Rattle.std.proofs.lemmas.Int.{ints}
+use Rattle.std.proofs.lemmas.List.Elements.{All-nil, All-cons, All-append, All-take}
+use Rattle.type_layout.specs.declared.definitions.Host.TheVariants as host
 use Rattle.type_layout.specs.declared.definitions.TypeDef.{TypeDef}
+use Rattle.type_layout.specs.declared.definitions.TypeDef.TheVariants as type
 use Rattle.type_layout.specs.declared.texts.Place.{Place}
+use Rattle.type_layout.specs.Storage.{holds}
+use Rattle.typed_tree.specs.declared.expressions.Value.{Value}
+use Rattle.typed_tree.specs.declared.expressions.Value.TheVariants as value
 use Rattle.typed_tree.specs.declared.expressions.UnaryOp.{UnaryOp}
 use Rattle.typed_tree.specs.declared.expressions.BinaryOp.{BinaryOp}
 use Rattle.typed_tree.specs.declared.expressions.BinaryOp.TheVariants as op
@@ -14,7 +20,7 @@ use Rattle.values.specs.declared.ordinals.IntegerType.TheVariants.{LongInt}
 use Rattle.values.specs.Ordinals.{kept, quotient, remainder, shift_count, right_shift}
 use Rattle.values.specs.Bits.{stored, conjunction, disjunction, exclusive_disjunction, complement}
 use Rattle.values.specs.Strings.{joined}
-use Rattle.well_formed.specs.Fits.{definition}
+use Rattle.type_fits.specs.Fits.{definition, IsValue}
 use Rattle.typing_rules.specs.declared.faults.Rule.TheVariants as rules
 use Rattle.typing_rules.specs.declared.plans.Operation.{Operation}
 use Rattle.typing_rules.specs.declared.plans.Operation.TheVariants as operation
@@ -31,7 +37,8 @@ use Rattle.constant_expressions.specs.declared.constants.Constant.{Constant}
 use Rattle.constant_expressions.specs.Values as values
 use Rattle.constant_expressions.specs.Values.{number_of, bytes_of, taken, computed, compares, base_in, of_sort, numbered, combined_values, combined, signed, turned, negated}
 use Rattle.typed_nodes.specs.Tables.{IsSound}
-use Rattle.constant_values.proofs.Numbers.{IsLong, kept_long, shifted_long, sign_long, IsGood, same_good, number_good, truth_good, text_good, value_long}
+use Rattle.typed_nodes.proofs.Ordinals.{within}
+use Rattle.constant_values.proofs.Numbers.{IsLong, AreBytes, kept_long, shifted_long, sign_long, IsGood, same_good, number_good, truth_good, text_good, value_long}
 use Rattle.constant_values.proofs.Sets.{sets_good}
 
 -- what follows of each of two judgements follows of that which is chosen
@@ -199,15 +206,36 @@ module _ (types : List TypeDef) (sound : IsSound types) (place : Place) where
 
   -- ---- all operands
 
-  joined_good : (a b : List ℕ) → IsGood types (values.text (joined a b))
-  joined_good a b =
+  joined_good : (a b : List ℕ) → AreBytes a → AreBytes b → IsGood types (values.text (joined a b))
+  joined_good a b first second =
       let most = length-take 255 (a ++ b) in
-      text_good types sound (joined a b) (omega (arith, most))
+      text_good types sound (joined a b) (omega (arith, most)) (All-take (λ (byte : ℕ). byte < 256) 255 (a ++ b) (All-append (λ (byte : ℕ). byte < 256) a b first second))
 
-  by_text : (one : BinaryOp) (s t : Sort) (a b c : Constant) (q : Bool) → is_text s ≡ q → base_in s ≡ None → Asks (operation_of one) s t
+  -- a Char is a byte, and a string is of bytes
+  character_bytes : (n : ℤ) (b : Bool) → holds host.Char n n ≡ b → AreBytes (cond b (unsigned_abs n ∷ []) [])
+  character_bytes n true e =
+      let r = within host.Char n e in
+      let low = r.0 in
+      let high = r.1 in
+      All-cons (λ (byte : ℕ). byte < 256) (unsigned_abs n) [] (omega (arith, ints, low, high)) (All-nil (λ (byte : ℕ). byte < 256))
+  character_bytes n false e = All-nil (λ (byte : ℕ). byte < 256)
+
+  text_bytes : (bytes : List ℕ) (one : Option TypeDef) → IsValue types (value.Chars bytes) one → AreBytes bytes
+  text_bytes bytes (Some (type.Str max)) h = h.1
+  text_bytes bytes one h = absurd h
+
+  value_bytes : (v : Value) (one : Option TypeDef) → IsValue types v one → AreBytes (bytes_of v)
+  value_bytes (value.Number n) one h = character_bytes n (holds host.Char n n) refl
+  value_bytes (value.Chars bytes) one h = text_bytes bytes one h
+  value_bytes v one h = All-nil (λ (byte : ℕ). byte < 256)
+
+  by_text : (one : BinaryOp) (s t : Sort) (a b c : Constant) → IsGood types a → IsGood types b → (q : Bool) → is_text s ≡ q → base_in s ≡ None → Asks (operation_of one) s t
       → cond q (c ≡ values.text (joined (bytes_of a.value) (bytes_of b.value))) ((numbered place s (computed one (taken s (number_of a.value)) (taken s (number_of b.value)))).holds c) → IsGood types c
-  by_text one s t a b c true is base h e = same_good types c (values.text (joined (bytes_of a.value) (bytes_of b.value))) e (joined_good (bytes_of a.value) (bytes_of b.value))
-  by_text one s t a b c false is base h e = numbers_good one s t (number_of a.value) (number_of b.value) c is base h e
+  by_text one s t a b c ga gb true is base h e =
+      let first = value_bytes a.value (definition types a.ty) ga.value in
+      let second = value_bytes b.value (definition types b.ty) gb.value in
+      same_good types c (values.text (joined (bytes_of a.value) (bytes_of b.value))) e (joined_good (bytes_of a.value) (bytes_of b.value) first second)
+  by_text one s t a b c ga gb false is base h e = numbers_good one s t (number_of a.value) (number_of b.value) c is base h e
 
   module _ (a b c : Constant) (ga : IsGood types a) (gb : IsGood types b) where
     by_base : (one : BinaryOp) (s t : Sort) → sort_of_constant types a.ty a.value ≡ s → sort_of_constant types b.ty b.value ≡ t → (base : Option SetBase) → base_in s ≡ base
@@ -218,7 +246,7 @@ module _ (types : List TypeDef) (sound : IsSound types) (place : Place) where
         let both : AreSets (sort_of_constant types a.ty a.value) (sort_of_constant types b.ty b.value) =
         subst (λ (y : Sort). AreSets (sort_of_constant types a.ty a.value) y) (sym right) (subst (λ (x : Sort). AreSets x t) (sym (left ∙ set)) sets) in
         same_good types c (values.sets_combined one base a b) e (sets_good types sound one base a b ga gb (left ∙ set) both)
-    by_base one s t left right None is h e = by_text one s t a b c (is_text s) refl is h e
+    by_base one s t left right None is h e = by_text one s t a b c ga gb (is_text s) refl is h e
 
     pub combined_good : (one : BinaryOp) → (combined types place one a b).holds c → IsGood types c
     unfolding combined

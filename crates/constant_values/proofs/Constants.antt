@@ -1,5 +1,5 @@
 -- Constant expressions give constants.
-use Rattle.std.proofs.Common.{◌≡◌, ℕ, ◌<◌, List, [], ◌∷◌, ◌++◌, Option, Some, None, refl, sym, subst, ap, arith}
+use Rattle.std.proofs.Common.{◌≡◌, ℕ, ◌<◌, List, [], ◌∷◌, ◌++◌, Option, Some, None, refl, sym, subst, ap}
 use Rattle.std.proofs.Math.IntN.{ℤ}
 use Rattle.std.specs.Prelude.{bit_xor}
 use Rattle.std.proofs.lemmas.List.Elements.{All-head}
@@ -15,7 +15,7 @@ use Rattle.left_out_names.specs.Names.{feature_of}
 use Rattle.syntax_tree.specs.declared.expression.PlacedSign.{PlacedSign}
 use Rattle.typed_tree.specs.declared.expressions.Value.{Value}
 use Rattle.typed_tree.specs.declared.expressions.Value.TheVariants as value
-use Rattle.well_formed.specs.Fits.{definition, IsValue}
+use Rattle.type_fits.specs.Fits.{definition, IsValue}
 use Rattle.scopes.specs.declared.entries.Entry.{Entry}
 use Rattle.scopes.specs.declared.entries.Entry.TheVariants as entry
 use Rattle.scopes.specs.Environment.{Environment, Meaning, named, member, find}
@@ -90,14 +90,14 @@ module _ (types : List TypeDef) (sound : IsSound types) where
   -- ---- literals
 
   text_literal : (bytes : List ℕ) → IsText bytes → IsGood types (of_text bytes)
-  text_literal [] h = text_good types sound [] (omega arith)
+  text_literal [] h = text_good types sound [] h.short h.each
   text_literal (byte ∷ []) h = character_good types sound byte (All-head (λ (b : ℕ). b < 256) byte [] h.each)
-  text_literal (byte ∷ other ∷ rest) h = text_good types sound (byte ∷ other ∷ rest) h.short
+  text_literal (byte ∷ other ∷ rest) h = text_good types sound (byte ∷ other ∷ rest) h.short h.each
 
   control_literal : (letter : List ℕ) → IsLetter letter → IsGood types (of_control letter)
-  control_literal [] h = text_good types sound [] (omega arith)
+  control_literal [] h = text_good types sound [] h.short h.each
   control_literal (letter ∷ []) h = character_good types sound (bit_xor letter 64) h
-  control_literal (letter ∷ other ∷ rest) h = text_good types sound (letter ∷ other ∷ rest) h
+  control_literal (letter ∷ other ∷ rest) h = text_good types sound (letter ∷ other ∷ rest) h.short h.each
 
   -- ---- names
 

@@ -24,7 +24,7 @@ use Rattle.values.specs.Ordinals.{kept}
 use Rattle.values.specs.Bits.{stored, conjunction, hi, lo, swapped, absolute}
 use Rattle.values.specs.Strings.{upper}
 use Rattle.values.proofs.OrdinalLemmas.{storage_laws}
-use Rattle.well_formed.specs.Fits.{definition, IsValue}
+use Rattle.type_fits.specs.Fits.{definition, IsValue}
 use Rattle.scopes.specs.declared.entries.Entry.{Entry}
 use Rattle.scopes.specs.declared.entries.Entry.TheVariants as entry
 use Rattle.scopes.specs.Environment.{Environment, Meaning, named, member, find}

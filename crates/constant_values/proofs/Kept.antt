@@ -6,7 +6,7 @@ use Rattle.type_layout.specs.declared.definitions.TypeDef.{TypeDef}
 use Rattle.type_layout.specs.declared.definitions.TypeDef.TheVariants as type
 use Rattle.typed_tree.specs.declared.expressions.Value.{Value}
 use Rattle.typed_tree.specs.declared.expressions.Value.TheVariants as value
-use Rattle.well_formed.specs.Fits.{definition, IsSome, IsValue}
+use Rattle.type_fits.specs.Fits.{definition, IsSome, IsValue}
 use Rattle.typing_rules.specs.declared.sorts.SetBase.{SetBase}
 use Rattle.typing_rules.specs.declared.sorts.SetBase.TheVariants as over
 use Rattle.typing_rules.specs.Sorts.{is_enumeration}

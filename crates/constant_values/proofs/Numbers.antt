@@ -1,5 +1,5 @@
 -- Numbers, truths, characters and texts are constants.
-use Rattle.std.proofs.Common.{◌≡◌, ℕ, ◌<◌, ◌≤◌, ◌^◌, Bool, true, false, cond, List, [], length, Option, Some, refl, sym, subst, arith}
+use Rattle.std.proofs.Common.{◌≡◌, ℕ, ◌<◌, ◌≤◌, ◌^◌, Bool, true, false, cond, All, List, [], length, Option, Some, refl, sym, subst, arith}
 use Rattle.std.proofs.Math.IntN.{ℤ, pos, negsuc, neg_ℤ}
 use Rattle.std.specs.Prelude.{◌≤ℤ◌}
 use Rattle.std.specs.Ordering.{int_eq}
@@ -22,7 +22,7 @@ use Rattle.values.specs.declared.ordinals.IntegerType.{IntegerType}
 use Rattle.values.specs.declared.ordinals.IntegerType.TheVariants as integer
 use Rattle.values.specs.Ordinals.{IsValueOf, kept, shift_count, right_shift}
 use Rattle.values.proofs.OrdinalLemmas.{storage_laws}
-use Rattle.well_formed.specs.Fits.{definition, stored_as, IsValue}
+use Rattle.type_fits.specs.Fits.{definition, stored_as, IsValue}
 use Rattle.well_formed.specs.Scopes.{Scope}
 use Rattle.typing_rules.specs.Sorts.{char, boolean, word, long_int}
 use Rattle.typing_rules.specs.Sorts as sorts
@@ -89,6 +89,9 @@ byte_held n h = holding host.Byte (pos n) (omega (arith, ints)) (omega (arith, i
 
 -- ---- constants
 
+abbrev pub AreBytes : List ℕ → Type 0
+AreBytes bytes = All (λ (byte : ℕ). byte < 256) bytes
+
 -- of what a constant is
 abbrev pub IsGood : List TypeDef → Constant → Type 0
 IsGood types c = IsConstantOf types c.ty c.value
@@ -98,7 +101,15 @@ same_good types c d e h = subst (λ (x : Constant). IsGood types x) (sym e) h
 
 -- a scope that has types alone
 abbrev pub bare : List TypeDef → Scope
-bare types = record { types = types; units = 0; globals = []; routines = []; levels = []; withs = [] }
+bare types = record {
+  types = types;
+  others = record { units = []; globals = []; routines = [] };
+  globals = [];
+  routines = [];
+  around = [];
+  levels = [];
+  withs = [];
+}
 
 abbrev IsOther : Host → Type 0
 IsOther host.Enumeration = ⊥
@@ -139,8 +150,8 @@ module _ (types : List TypeDef) (sound : IsSound types) where
     whole = own_by types char (definition types char) host.Char (stored_char types sound) tt;
   }
 
-  pub text_good : (bytes : List ℕ) → length bytes ≤ 255 → IsGood types (values.text bytes)
-  text_good bytes h = record { value = subst (λ (d : Option TypeDef). IsValue types (value.Chars bytes) d) (sym (text_type types sound)) h; whole = tt }
+  pub text_good : (bytes : List ℕ) → length bytes ≤ 255 → AreBytes bytes → IsGood types (values.text bytes)
+  text_good bytes h each = record { value = subst (λ (d : Option TypeDef). IsValue types (value.Chars bytes) d) (sym (text_type types sound)) (h, each); whole = tt }
 
   -- the type of a size
   pub word_good : (n : ℕ) → n ≤ 65535 → IsConstantOf types word (value.Number (pos n))

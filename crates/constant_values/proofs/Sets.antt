@@ -20,7 +20,7 @@ use Rattle.typed_tree.specs.declared.expressions.BinaryOp.{BinaryOp}
 use Rattle.typed_tree.specs.declared.expressions.BinaryOp.TheVariants as op
 use Rattle.values.specs.Sets.{contains, union, difference, intersection, ordinals_between}
 use Rattle.values.proofs.SetLemmas.{element_laws}
-use Rattle.well_formed.specs.Fits.{definition, stored_as, IsValue, AreElements}
+use Rattle.type_fits.specs.Fits.{definition, stored_as, IsValue, AreElements}
 use Rattle.scopes.specs.Predeclared.{type_id}
 use Rattle.typing_rules.specs.declared.sorts.SetBase.{SetBase}
 use Rattle.typing_rules.specs.declared.sorts.SetBase.TheVariants as over

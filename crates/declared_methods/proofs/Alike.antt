@@ -17,7 +17,7 @@ use Rattle.type_layout.specs.Table.{Table}
 use Rattle.typed_tree.specs.declared.units.Program.{Program}
 use Rattle.object_vmt.specs.Members.{Members, no_members, members_by}
 use Rattle.object_vmt.specs.Rules.{kind_number, same_flag, same_param, same_params, same_result, same_header}
-use Rattle.well_formed.specs.Fits.{shape_of, AreSameHeaders}
+use Rattle.type_fits.specs.Fits.{shape_of, AreSameHeaders}
 use Rattle.meaning.specs.Programs.{Sort, definition, class_key, beside}
 use Rattle.declared_types.specs.Declared.{DeclaredMethod, declared, declared_header, declared_method, AreAlike}
 use Rattle.declared_types.specs.Agreement.{IsKnown, AreAgreed}

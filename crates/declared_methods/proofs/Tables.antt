@@ -16,7 +16,7 @@ use Rattle.object_vmt.specs.Members.{Members, no_members, inherited, members_by,
 use Rattle.object_vmt.specs.Slots.{slots_of, method_at}
 use Rattle.object_vmt.specs.Rules.{same_header, first_virtual}
 use Rattle.object_vmt.specs.Dispatch.{AnswersAlike}
-use Rattle.well_formed.specs.Fits.{ancestor, parent_of, Descends}
+use Rattle.type_fits.specs.Fits.{ancestor, parent_of, Descends}
 use Rattle.declared_types.proofs.Whole.{parent_below}
 use Rattle.declared_types.proofs.Lines.{has_parent}
 use Rattle.declared_methods.proofs.Lists.{slot_kept, slot_virtual, first_stays, StandsIn, nearest_stands, nearest_either}

@@ -8,7 +8,7 @@ use Rattle.type_layout.specs.declared.definitions.Method.{Method}
 use Rattle.type_layout.specs.Table.{Table}
 use Rattle.typed_tree.specs.declared.units.Program.{Program}
 use Rattle.object_vmt.specs.Dispatch.{AnswersAlike}
-use Rattle.well_formed.specs.Fits.{Descends}
+use Rattle.type_fits.specs.Fits.{Descends}
 use Rattle.meaning.specs.Trees.{Key}
 use Rattle.meaning.specs.Programs.{Sort, class_key, beside, method_key}
 use Rattle.declared_types.specs.Declared.{DeclaredHeader, DeclaredMethod, declared_header}

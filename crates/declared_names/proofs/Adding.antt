@@ -8,7 +8,7 @@ use Rattle.type_layout.specs.declared.definitions.TypeDef.TheVariants as type
 use Rattle.type_layout.specs.declared.texts.Place.{Place}
 use Rattle.type_layout.specs.Table.{Table}
 use Rattle.typed_tree.specs.declared.expressions.Value.TheVariants as value
-use Rattle.well_formed.specs.Fits.{definition, IsSome, IsValue}
+use Rattle.type_fits.specs.Fits.{definition, IsSome, IsValue}
 use Rattle.scopes.specs.declared.entries.Entry.{Entry}
 use Rattle.scopes.specs.declared.entries.Entry.TheVariants as entry
 use Rattle.scopes.specs.Symbols.{SymbolList}

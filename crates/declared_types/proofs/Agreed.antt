@@ -10,7 +10,7 @@ use Rattle.type_layout.specs.declared.definitions.TypeDef.{TypeDef}
 use Rattle.type_layout.specs.declared.definitions.TypeDef.TheVariants as type
 use Rattle.type_layout.specs.Table.{Table, AllDefined}
 use Rattle.typed_tree.specs.declared.units.Program.{Program}
-use Rattle.well_formed.specs.Fits.{fields_by}
+use Rattle.type_fits.specs.Fits.{fields_by}
 use Rattle.meaning.specs.Trees.{Key}
 use Rattle.meaning.specs.Shapes.{Part, FieldPart, ClassPart, has_class_part, field_parts, class_parts, object_parts, parts_by, parts_at}
 use Rattle.meaning.specs.Programs.{Sort, definition, class_key, beside}

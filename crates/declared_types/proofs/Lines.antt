@@ -12,7 +12,7 @@ use Rattle.type_layout.specs.declared.definitions.TypeDef.{TypeDef}
 use Rattle.type_layout.specs.declared.definitions.TypeDef.TheVariants as type
 use Rattle.type_layout.specs.Table.{Table, IsWellFormed, IsObject, AllDefined}
 use Rattle.typed_tree.specs.declared.units.Program.{Program}
-use Rattle.well_formed.specs.Fits.{ancestor, parent_of, field_type}
+use Rattle.type_fits.specs.Fits.{ancestor, parent_of, field_type}
 use Rattle.meaning.specs.Trees.{Key}
 use Rattle.meaning.specs.Shapes.{Part, has_class_part, field_parts, class_parts, parts_at}
 use Rattle.meaning.specs.Programs.{Sort, definition, class_by, class_key, beside}

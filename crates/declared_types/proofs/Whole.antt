@@ -14,7 +14,7 @@ use Rattle.type_layout.specs.Table.{Table, IsOrdinal, IsObject, IsAncestor, AllD
 use Rattle.type_layout.proofs.Given.{length-given_by, get_or-given_by-middle, get_or-given_by-front}
 use Rattle.type_layout.proofs.Local.{slice_get-append, within_if_object}
 use Rattle.type_layout.proofs.Measured.{Round, round}
-use Rattle.well_formed.specs.Fits.{types_in, fields_by, field_types_of}
+use Rattle.type_fits.specs.Fits.{types_in, fields_by, field_types_of}
 use Rattle.meaning.specs.Trees.{Key}
 use Rattle.meaning.specs.Shapes.{Part, FieldPart, ClassPart, has_class_part, field_parts, class_parts, object_parts, parts_in, parts_by, parts_of, parts_at}
 use Rattle.declared_types.specs.Declared.{declared}

@@ -6,7 +6,7 @@ use Rattle.type_layout.specs.declared.definitions.TypeDef.TheVariants as type
 use Rattle.type_layout.specs.Table.{Table, IsWellFormed}
 use Rattle.typed_tree.specs.declared.units.Unit.{Unit as TypedUnit}
 use Rattle.typed_tree.specs.declared.units.Program.{Program}
-use Rattle.well_formed.specs.Fits.{ancestor}
+use Rattle.type_fits.specs.Fits.{ancestor}
 use Rattle.meaning.specs.Trees.{Key}
 use Rattle.meaning.specs.Programs.{Sort, definition, class_key, unit_named}
 use Rattle.declared_types.specs.Declared.{declared, AreAlike}

@@ -3,7 +3,7 @@ use Rattle.std.specs.Prelude.{◌≡◌, ℕ, List, ◌++◌, Some}
 use Rattle.type_layout.specs.declared.definitions.TypeId.{TypeId}
 use Rattle.type_layout.specs.Table.{IsObject}
 use Rattle.typed_tree.specs.declared.units.Program.{Program}
-use Rattle.well_formed.specs.Fits.{field_type}
+use Rattle.type_fits.specs.Fits.{field_type}
 use Rattle.meaning.specs.Shapes.{parts_at}
 use Rattle.meaning.specs.Programs.{Sort, definition, class_key, beside}
 use Rattle.declared_types.specs.Agreement.{IsKnown, IsOfLine}

@@ -9,7 +9,7 @@ use Rattle.source_tree.specs.declared.declaration.VariableDeclaration.{VariableD
 use Rattle.source_tree.specs.declared.declaration.DeclarationPart.{DeclarationPart}
 use Rattle.source_tree.specs.declared.declaration.DeclarationPart.TheVariants as part_of
 use Rattle.expression_tree.specs.Trees.{Tree, view_simple}
-use Rattle.well_formed.specs.Fits.{definition}
+use Rattle.type_fits.specs.Fits.{definition}
 use Rattle.scopes.specs.declared.entries.Entry.TheVariants as entry
 use Rattle.scopes.specs.Environment.{Environment}
 use Rattle.type_denoters.specs.Trees.{Denoter, view_denoter}

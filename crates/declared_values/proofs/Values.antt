@@ -6,7 +6,7 @@ use Rattle.type_layout.specs.declared.definitions.TypeDef.{TypeDef}
 use Rattle.type_layout.specs.declared.definitions.TypeDef.TheVariants as type
 use Rattle.type_layout.specs.Table.{Table}
 use Rattle.typed_tree.specs.declared.expressions.Value.TheVariants as value
-use Rattle.well_formed.specs.Fits.{definition}
+use Rattle.type_fits.specs.Fits.{definition}
 use Rattle.scopes.specs.declared.entries.Entry.{Entry}
 use Rattle.scopes.specs.declared.entries.Entry.TheVariants as entry
 use Rattle.scopes.specs.Symbols.{SymbolList}

@@ -13,7 +13,7 @@ use Rattle.type_layout.specs.declared.texts.Place.{Place}
 use Rattle.type_layout.specs.Storage.{storage_of, count_between}
 use Rattle.type_layout.specs.Layouts.{bounds_at}
 use Rattle.type_layout.specs.Table.{AllDefined}
-use Rattle.well_formed.specs.Fits.{definition}
+use Rattle.type_fits.specs.Fits.{definition}
 use Rattle.scopes.specs.Environment.{Environment}
 use Rattle.values.specs.Sets.{contains, has_byte, set_bytes}
 use Rattle.typing_rules.specs.declared.sorts.Sort.{Sort}

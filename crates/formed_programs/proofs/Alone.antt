@@ -17,8 +17,7 @@ use Rattle.unit_interface.specs.Resolve.{is_overlay}
 use Rattle.source_order.specs.Orders.{names_of, all_uses}
 use Rattle.source_interfaces.specs.Scopes.{outer_units}
 use Rattle.front_end.specs.Typed.{sources_at, in_order, IsUnitOf}
-use Rattle.checked_units.specs.Begun.{EachUse, further_uses, IsRoomy}
-use Rattle.checked_units.specs.Laws.{AreOverlay, BareLaw}
+use Rattle.brought_interfaces.specs.Below.{EachUse, further_uses, IsRoomy, AreOverlay, BareLaw}
 use Rattle.formed_programs.specs.Laws.{IsAlone, UnitLaw, ProgramLaw}
 
 abbrev IsOverlay : Identifier → Type 0
@@ -40,7 +39,7 @@ further (t.Unit here own uses outer interface all body) h = each_last outer uses
 
 pub unit_formed : BareLaw → UnitLaw
 unit_formed bare have source unit h alone room =
-    bare source.name source.says have (names_of (outer_units source)) source.tree unit alone.named (each_first (used_in_interface source.tree) (used source.tree) alone.uses) (further source.tree alone.uses) alone.written room h.typed
+    (bare source.name source.says have (names_of (outer_units source)) source.tree unit alone.named (each_first (used_in_interface source.tree) (used source.tree) alone.uses) (further source.tree alone.uses) alone.written room h.typed).formed
 
 -- ---- programs
 

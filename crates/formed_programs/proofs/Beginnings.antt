@@ -11,16 +11,7 @@ use Rattle.unit_interface.specs.declared.interfaces.Interface.{Interface}
 use Rattle.unit_interface.specs.Keyed.{IsKeyed}
 use Rattle.routines.specs.Trees.{view_declarations}
 use Rattle.routines.specs.Drafts.{Drafted}
-use Rattle.tp_check_decl.specs.Units.{Whole, whole, view_unit}
-use Rattle.tp_check_decl.specs.Interfaces.{items_of}
-use Rattle.tp_check_decl.specs.Shown.{outlined}
-use Rattle.tp_check_decl.specs.Checked.{IsTypedAs}
-use Rattle.checked_routines.specs.Reading.{scope_of, IsRead}
-use Rattle.checked_routines.specs.Laws.{PartsKeep}
-use Rattle.checked_parts.proofs.Closed.{known_closed}
-use Rattle.checked_units.specs.Begun.{IsBegun, IsSource, IsRoomy}
-use Rattle.checked_units.proofs.Begun.{interface_left}
-use Rattle.checked_units.proofs.Sources.{unit_room}
+use Rattle.brought_interfaces.proofs.Below.{known_closed, interface_left, unit_room}
 use Rattle.closed_scopes.specs.Scopes.{IsCompleteScope}
 use Rattle.interface_laws.specs.Declared.{Declares}
 use Rattle.interface_laws.proofs.AgreementLaws.{interface_grows}
@@ -28,7 +19,7 @@ use Rattle.told_types.specs.Told.{IsClosedTable, IsToldBut}
 use Rattle.told_interfaces.proofs.Declaring.{paired_of, keys_stay}
 use Rattle.fitting_types.specs.Fits.{IsToldScope}
 use Rattle.fitting_types.proofs.Uses.{closed_table}
-use Rattle.shown_constants.specs.Agreed.{AreOwnConstants}
+use Rattle.brought_interfaces.specs.Below.{Whole, whole, view_unit, items_of, outlined, IsTypedAs, scope_of, IsRead, PartsKeep, IsBegun, IsSource, IsRoomy, AreOwnConstants}
 use Rattle.formed_programs.proofs.Faithful.{HasSystem}
 use Rattle.formed_programs.proofs.Constants.{values_shown}
 use Rattle.formed_programs.proofs.Tables.{stay_on}

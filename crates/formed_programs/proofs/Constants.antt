@@ -9,11 +9,7 @@ use Rattle.scopes.specs.declared.searches.OpenBlock.{OpenBlock}
 use Rattle.scopes.specs.Symbols.{SymbolList}
 use Rattle.scopes.specs.Environment.{own_symbols}
 use Rattle.routines.specs.Drafts.{Drafted}
-use Rattle.tp_check_decl.specs.Interfaces.{item_of, items_in, items_by, items_of}
-use Rattle.known_names.specs.Known.{EachOf, EachIn}
-use Rattle.declared_values.specs.Values.{IsConstantIn}
-use Rattle.checked_routines.specs.Reading.{IsBottom, IsRead}
-use Rattle.shown_constants.specs.Agreed.{AreOwnConstants}
+use Rattle.brought_interfaces.specs.Below.{item_of, items_in, items_by, items_of, EachOf, EachIn, IsConstantIn, IsBottom, IsRead, AreOwnConstants}
 
 module _ (types : List TypeDef) where
   entry_shown : (name : List ℕ) (one : Entry) (rest : List Item) → IsConstantIn types one → AreOwnConstants types rest → AreOwnConstants types (item_of name one ++ rest)

@@ -27,9 +27,8 @@ use Rattle.told_types.proofs.Agreed.{known_alike}
 use Rattle.told_types.proofs.Shown.{kept_key}
 use Rattle.fitting_types.specs.Fits.{IsToldScope}
 use Rattle.fitting_types.proofs.Uses.{closed_table}
-use Rattle.shown_constants.specs.Agreed.{twice, IsWhole, AreFixed, IsKnownOf, AreOwnConstants}
-use Rattle.shown_constants.specs.Laws.{ShownConstants}
-use Rattle.shown_constants.proofs.Kept.{new_id_is}
+use Rattle.brought_interfaces.specs.Below.{twice, IsWhole, AreFixed, IsKnownOf, AreOwnConstants, ShownConstants}
+use Rattle.brought_interfaces.proofs.Below.{new_id_is}
 use Rattle.brought_interfaces.specs.Faithful.{IsFaithful}
 
 -- the types of a table stand at their places in another

@@ -21,8 +21,8 @@ use Rattle.routines.specs.Drafts.{Numbered, Drafted, Stage, stage}
 use Rattle.routines.specs.Headings.{announced_by, heading}
 use Rattle.routines.specs.Methods.{method_announced, awaiting, of_method, of_methods, of_type, of_meaning, written_in, of_declaration, of_declarations, of_part}
 use Rattle.routines.specs.Blocks.{part_judged}
-use Rattle.tp_check_decl.specs.Interfaces.{all_declared, interface_judged}
-use Rattle.tp_check_decl.specs.Programs.{unit_site, empty_draft}
+use Rattle.brought_interfaces.specs.Below.{all_declared, unit_site, empty_draft}
+use Rattle.tp_check_decl.specs.Interfaces.{interface_judged}
 
 abbrev pub IsFar : Numbered → Type 0
 IsFar one = one.first.far ≡ true

@@ -10,7 +10,6 @@ use Rattle.source_tree.specs.declared.source.Tree.{Tree}
 use Rattle.source_tree.specs.declared.source.Tree.TheVariants as t
 use Rattle.source_gathering.specs.declared.sources.Source.{Source}
 use Rattle.typed_tree.specs.declared.units.Unit as typed
-use Rattle.well_formed.specs.WellFormed.{IsWellFormed}
 use Rattle.scopes.specs.Environment.{Environment}
 use Rattle.scopes.specs.Predeclared.{system, type_table, first}
 use Rattle.unit_interface.specs.declared.keys.Key.{Key}
@@ -21,28 +20,14 @@ use Rattle.unit_interface.specs.Resolve.{is_overlay, interface_named, with_overl
 use Rattle.typing_rules.proofs.JudgementLaws.{exact}
 use Rattle.source_order.specs.Orders.{names_of}
 use Rattle.routines.specs.Drafts.{Drafted, knowing}
-use Rattle.tp_check_decl.specs.Units.{Whole, whole, view_unit}
-use Rattle.tp_check_decl.specs.Programs.{empty_draft}
-use Rattle.tp_check_decl.specs.Interfaces.{items_of, unit_front, interface_judged, further_used}
-use Rattle.tp_check_decl.specs.Shown.{outlined, with_nothing_else, Shows}
-use Rattle.tp_check_decl.specs.Checked.{IsTypedAs}
-use Rattle.tp_check_decl.proofs.CheckLaws.{lawful_outlined}
 use Rattle.source_interfaces.specs.Scopes.{outer_units, outer_scope}
 use Rattle.source_interfaces.specs.Interfaces.{IsShownIn, IsDone}
 use Rattle.front_end.specs.Typed.{IsUnitOf}
 use Rattle.sound_tables.specs.Laws.{IsFit}
 use Rattle.sound_tables.proofs.Fits.{fit_front}
 use Rattle.constant_values.specs.Laws.{StayConstants}
-use Rattle.checked_routines.specs.Reading.{scope_of, IsRead}
-use Rattle.checked_routines.specs.Rooms.{HasRoom}
-use Rattle.checked_routines.proofs.Steps.{extends_itself}
-use Rattle.checked_parts.specs.Laws.{PartLaw}
-use Rattle.checked_units.specs.Begun.{IsBegun, IsJoined, UsesKeep, FurtherKeep, IsRoomy}
-use Rattle.checked_units.specs.Laws.{SourceLaw, UsedLaw}
-use Rattle.checked_units.proofs.Overlay.{overlay_brings}
-use Rattle.checked_units.proofs.Used.{uses_more}
-use Rattle.checked_units.proofs.Uses.{overlay_joins}
-use Rattle.shown_constants.specs.Laws.{ShownConstants}
+use Rattle.brought_interfaces.proofs.Below.{lawful_outlined, extends_itself, overlay_brings, uses_more, overlay_joins}
+use Rattle.brought_interfaces.specs.Below.{Whole, whole, view_unit, empty_draft, items_of, unit_front, interface_judged, further_used, outlined, with_nothing_else, Shows, IsTypedAs, scope_of, IsRead, HasRoom, PartLaw, IsBegun, IsJoined, UsesKeep, FurtherKeep, IsRoomy, SourceLaw, UsedLaw, ShownConstants}
 use Rattle.brought_interfaces.specs.Faithful.{IsFaithful}
 use Rattle.brought_interfaces.specs.Laws.{InterfaceLaw, FurtherLaw, OwnLaw}
 use Rattle.interface_laws.proofs.AgreementLaws.{interface_grows}
@@ -58,6 +43,7 @@ use Rattle.told_interfaces.proofs.Inherited.{own_home, comes, homes, each_told, 
 use Rattle.told_interfaces.proofs.Origins.{AreForeignUses, uses_foreign}
 use Rattle.fitting_types.specs.Fits.{IsToldScope, IsToldUse}
 use Rattle.fitting_types.proofs.Uses.{types_told, used_told, first_scope}
+use Rattle.formed_programs.specs.Laws.{AreFormed}
 use Rattle.formed_programs.proofs.Faithful.{Stay, HasSystem, IsOfUnit, faithful}
 use Rattle.formed_programs.proofs.Tables.{not_same, stay_on, use_stays, use_items}
 use Rattle.formed_programs.proofs.Beginnings.{IsBeginning, begins, read_complete}
@@ -334,8 +320,8 @@ module _ (laws : Laws) (sources : List Source) (have : List Interface) (o : AreI
       keeps (t.Unit here own uses outer interface all body) unit j begins = λ d h r named.
           uses_keep d (drop outer uses.items) (middle j.part here own uses outer interface all body begins j.holds d h r named)
 
-    -- so each typed unit of a source is well formed
-    pub each_formed : (place : ℕ) (s : Source) → slice_get sources place ≡ Some s → (unit : typed.Unit) → IsUnitOf have s unit → IsRoomy unit → IsWellFormed unit
+    -- so the typed unit of each source is well formed
+    pub each_formed : AreFormed have sources
     each_formed place s at unit is room =
         let n = named_by (IsShownIn sources have) have s.name o.shown (shown_some have s.name (all place s at)) in
         let k : IsTyped have s = record { unit = unit; is = is; room = room } in

@@ -16,7 +16,7 @@ use Rattle.source_interfaces.specs.Scopes.{outer_units}
 use Rattle.source_interfaces.specs.Interfaces.{IsAcyclic}
 use Rattle.source_interfaces.proofs.Rounds.{placed, in_left, in_right, is_listed, edge_at}
 use Rattle.program_laws.proofs.Sources.{one_source, is_source_at, same_name}
-use Rattle.checked_units.specs.Begun.{IsSource}
+use Rattle.brought_interfaces.specs.Below.{IsSource}
 
 -- ---- predeclared units
 

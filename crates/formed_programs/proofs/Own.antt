@@ -16,13 +16,12 @@ use Rattle.unit_interface.specs.Exports.{in_option, in_params, in_header, in_ite
 use Rattle.unit_interface.specs.Keyed.{IsKeyed}
 use Rattle.unit_interface.proofs.KeyLaws.{count_of}
 use Rattle.routines.specs.Drafts.{Drafted}
-use Rattle.tp_check_decl.specs.Interfaces.{items_of}
 use Rattle.closed_constants.specs.Bounds.{AreBelow}
 use Rattle.told_types.specs.Told.{Stands, AreClosedHomes, IsToldInterface}
 use Rattle.told_types.proofs.Known.{key_there}
 use Rattle.told_types.proofs.Shown.{shown_key}
 use Rattle.fitting_types.specs.Fits.{IsToldScope}
-use Rattle.shown_constants.specs.Agreed.{twice}
+use Rattle.brought_interfaces.specs.Below.{items_of, twice}
 use Rattle.brought_interfaces.specs.Faithful.{IsOwn}
 use Rattle.formed_programs.proofs.Faithful.{Stay, kept_id, types_same}
 use Rattle.formed_programs.proofs.Far.{IsFar}

@@ -9,12 +9,10 @@ use Rattle.typed_tree.specs.declared.units.Unit as typed
 use Rattle.scopes.specs.Environment.{Environment}
 use Rattle.unit_interface.specs.declared.interfaces.Interface.{Interface}
 use Rattle.routines.specs.Trees.{view_declarations}
-use Rattle.tp_check_decl.specs.Units.{view_unit}
-use Rattle.tp_check_decl.specs.Checked.{IsTypedAs}
 use Rattle.sound_tables.specs.Laws.{IsFit}
 use Rattle.sound_tables.proofs.Fits.{fit_front}
-use Rattle.checked_units.specs.Begun.{IsRoomy}
-use Rattle.checked_units.proofs.Sources.{program_room, unit_room}
+use Rattle.brought_interfaces.specs.Below.{view_unit, IsTypedAs, IsRoomy}
+use Rattle.brought_interfaces.proofs.Below.{program_room, unit_room}
 use Rattle.interface_laws.specs.Declared.{Declares}
 use Rattle.interface_laws.proofs.AgreementLaws.{interface_grows, read_grows}
 use Rattle.formed_programs.proofs.Tables.{declares_more}

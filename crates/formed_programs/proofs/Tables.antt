@@ -9,7 +9,7 @@ use Rattle.unit_interface.specs.declared.interfaces.Interface.{Interface}
 use Rattle.unit_interface.specs.Keyed.{IsKeyed}
 use Rattle.unit_interface.specs.Resolve.{is_overlay, interface_named, with_overlay, with_found, with_use}
 use Rattle.type_denoters.specs.Additions.{count_of}
-use Rattle.tp_check_decl.specs.Interfaces.{items_of}
+use Rattle.brought_interfaces.specs.Below.{items_of}
 use Rattle.interface_laws.specs.Declared.{with_declared, Declares}
 use Rattle.told_types.proofs.Arrived.{key_stays}
 use Rattle.formed_programs.proofs.Faithful.{Stay}

@@ -7,18 +7,14 @@ use Rattle.unit_interface.specs.Merge.{with_interface}
 use Rattle.unit_interface.specs.Resolve.{overlay, is_overlay, interface_named, with_overlay, with_found, with_use, with_uses}
 use Rattle.unit_interface.specs.Fitting.{found_fits, use_fits, uses_fit}
 use Rattle.source_order.specs.Orders.{names_of}
-use Rattle.tp_check_decl.specs.Programs.{empty_draft}
 use Rattle.source_interfaces.specs.Scopes.{outer_units, outer_scope}
 use Rattle.closed_scopes.specs.Scopes.{IsCompleteScope, IsClosedInterface, IsClosedUse}
 use Rattle.closed_scopes.proofs.Beginning.{first_complete}
 use Rattle.closed_scopes.proofs.Using.{use_complete}
 use Rattle.sound_tables.specs.Laws.{IsFit}
 use Rattle.constant_values.specs.Laws.{StayConstants}
-use Rattle.checked_routines.specs.Reading.{scope_of}
-use Rattle.checked_units.specs.Begun.{IsBegun}
-use Rattle.checked_units.specs.Laws.{SourceLaw, UsedLaw}
-use Rattle.checked_units.proofs.Overlay.{overlay_brings}
-use Rattle.checked_units.proofs.Uses.{bare_keep}
+use Rattle.brought_interfaces.specs.Below.{empty_draft, scope_of, IsBegun, SourceLaw, UsedLaw}
+use Rattle.brought_interfaces.proofs.Below.{overlay_brings, bare_keep}
 use Rattle.brought_interfaces.specs.Faithful.{IsFaithful}
 use Rattle.brought_interfaces.specs.Laws.{InterfaceLaw}
 use Rattle.formed_programs.specs.Laws.{IsFaithfulUse, AreFaithful, UsingLaw}
@@ -51,4 +47,4 @@ module _ (used : UsedLaw) (brings : InterfaceLaw) (have : List Interface) (name 
 pub using_formed : StayConstants → SourceLaw → UsedLaw → InterfaceLaw → UsingLaw
 using_formed stay law used brings have source unit h s room =
     let begun = uses_begun used brings have source.name s.named s.closed (first source.name) (names_of (outer_units source)) (used source.name).alone (first_complete source.name) s.faithful h.fits in
-    law source.name source.says (outer_scope have source) have source.tree unit (bare_keep stay source.name s.named have (outer_scope have source) source.tree s.further) begun s.written room h.typed
+    (law source.name source.says (outer_scope have source) have source.tree unit (bare_keep stay source.name s.named have (outer_scope have source) source.tree s.further) begun s.written room h.typed).formed

@@ -14,9 +14,9 @@ use Rattle.unit_interface.proofs.CircleLaws.{one_true}
 use Rattle.source_order.specs.Orders.{all_uses}
 use Rattle.source_order.proofs.Reached.{in_order as all_in_order}
 use Rattle.front_end.specs.Typed.{sources_at, IsUnitOf}
-use Rattle.checked_units.specs.Begun.{IsSource, IsRoomy}
+use Rattle.brought_interfaces.specs.Below.{IsSource, IsRoomy}
 use Rattle.program_laws.specs.Closing.{AreInOrder}
-use Rattle.formed_programs.specs.Laws.{WholeLaw}
+use Rattle.formed_programs.specs.Laws.{AreFormed, WholeLaw}
 use Rattle.formed_programs.proofs.Alone.{at_place}
 use Rattle.formed_programs.proofs.Names.{IsWritten, kind_named}
 use Rattle.formed_programs.proofs.Known.{Laws, IsTyped, each_formed}
@@ -48,13 +48,13 @@ module _ (have : List Interface) (sources : List Source) where
 
   -- ---- all units
 
-  module _ (formed : (place : ℕ) (s : Source) → slice_get sources place ≡ Some s → (unit : typed.Unit) → IsUnitOf have s unit → IsRoomy unit → IsWellFormed unit) where
+  module _ (formed : AreFormed have sources) where
     formed_head : (p : ℕ) (places : List ℕ) (found : Option Source) (units : List typed.Unit) → slice_get sources p ≡ found → AllZip (IsUnitOf have) (option_to_list found ++ sources_at sources places) units → All IsRoomy units
         → ((us : List typed.Unit) → Are places us → All IsRoomy us → All IsWellFormed us) → All IsWellFormed units
     formed_head p places None units is zip room more = more units zip room
     formed_head p places (Some s) [] is zip room more = absurd zip
     formed_head p places (Some s) (unit ∷ units) is zip room more =
-        All-cons IsWellFormed unit units (formed p s is unit zip.0 (All-head IsRoomy unit units room)) (more units zip.1 (All-tail IsRoomy unit units room))
+        All-cons IsWellFormed unit units (formed p s is unit zip.0 (All-head IsRoomy unit units room)).formed (more units zip.1 (All-tail IsRoomy unit units room))
 
     all_formed : (places : List ℕ) (units : List typed.Unit) → Are places units → All IsRoomy units → All IsWellFormed units
     all_formed [] [] zip room = All-nil IsWellFormed
@@ -70,4 +70,5 @@ whole_formed laws held name texts sources gathers program is written room =
     unit_at u.have sources places program.units place s u.typed room (all_in_order held name texts sources gathers place (slice_get_within sources place s at)) at in
     let whole = λ (place : ℕ) (s : Source) (at : slice_get sources place ≡ Some s).
     (let w : IsWritten s = record { named = kind_named sources place s (u.kinds place s at); written = at_place (λ (source : Source). IsSource source.tree) sources place s written at } in w) in
-    all_formed u.have sources (each_formed laws sources u.have o u.interfaces.all whole typed_units) places program.units u.typed room
+    let each : AreFormed u.have sources = each_formed laws sources u.have o u.interfaces.all whole typed_units in
+    (all_formed u.have sources each places program.units u.typed room, each)

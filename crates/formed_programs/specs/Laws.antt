@@ -1,5 +1,5 @@
 -- Units of programs are well formed.
-use Rattle.std.specs.Prelude.{◌≡◌, ℕ, true, false, List, [], ◌∷◌, Some}
+use Rattle.std.specs.Prelude.{◌≡◌, ℕ, true, false, List, [], ◌∷◌, Some, slice_get}
 use Rattle.std.specs.List.{All}
 use Rattle.tp_outside.specs.Folder.{Folder}
 use Rattle.tp_lexer.specs.declared.token.Text.{Text}
@@ -16,11 +16,11 @@ use Rattle.scopes.specs.Environment.{Environment}
 use Rattle.unit_interface.specs.Merge.{with_interface}
 use Rattle.unit_interface.specs.Resolve.{overlay, is_overlay, interface_named, with_use}
 use Rattle.source_order.specs.Orders.{names_of}
-use Rattle.source_interfaces.specs.Scopes.{outer_units}
+use Rattle.source_interfaces.specs.Scopes.{outer_units, outer_scope}
 use Rattle.closed_scopes.specs.Scopes.{IsClosedUse}
 use Rattle.sound_tables.specs.Laws.{IsFit}
 use Rattle.front_end.specs.Typed.{IsUnitOf, IsProgram}
-use Rattle.checked_units.specs.Begun.{EachUse, further_uses, IsSource, IsRoomy}
+use Rattle.brought_interfaces.specs.Below.{view_unit, EachUse, further_uses, IsSource, IsRoomy, IsFormedIn, end_scope}
 use Rattle.brought_interfaces.specs.Faithful.{IsFaithful}
 
 -- The source uses no unit but OVERLAY, and hasn't its name; what the lexer gives is in it, and not too much.
@@ -57,8 +57,14 @@ UsingLaw = (have : List Interface) (source : Source) (unit : typed.Unit) → IsU
 abbrev pub ProgramLaw : Type 0
 ProgramLaw = (sources : List Source) (program : Program) → IsProgram sources program → All IsAlone sources → All IsRoomy program.units → All IsWellFormed program.units
 
+-- The typed unit of each source is well formed where other units have what the scope at the source's end tells of them.
+abbrev pub AreFormed : List Interface → List Source → Type 0
+AreFormed have sources = (place : ℕ) (source : Source) → slice_get sources place ≡ Some source → (unit : typed.Unit) → (is : IsUnitOf have source unit) → IsRoomy unit
+    → IsFormedIn (end_scope source.name source.says (outer_scope have source) have source.tree (view_unit unit) is.typed) unit
+
 -- The units of each program are well formed, where what the lexer gives is in its sources, and not too much, and if 32 bits hold their
--- numbers.
+-- numbers; and each is so by what its scope tells of the others.
 abbrev pub WholeLaw : Type 0
 WholeLaw = (held : Folder) (name : List ℕ) (texts : List Text) (sources : List Source) → Gathers held name texts sources
-    → (program : Program) → IsProgram sources program → All (λ (source : Source). IsSource source.tree) sources → All IsRoomy program.units → All IsWellFormed program.units
+    → (program : Program) → (is : IsProgram sources program) → All (λ (source : Source). IsSource source.tree) sources → All IsRoomy program.units
+    → All IsWellFormed program.units × AreFormed is.units.have sources

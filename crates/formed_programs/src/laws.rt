@@ -2,12 +2,12 @@
 
 ghost use Rattle.formed_programs.specs.Laws.{UnitLaw, UsingLaw, ProgramLaw, WholeLaw};
 
-use brought_interfaces::{further_use_law, interface_law, own_use_law};
-use checked_parts::part_keeping_law;
-use checked_units::checked_unit_laws;
+use brought_interfaces::{
+    checked_unit_laws, further_use_law, interface_law, own_use_law, part_keeping_law,
+    shown_constant_law,
+};
 use closed_tables::table_laws;
 use constant_values::constant_value_law;
-use shown_constants::shown_constant_law;
 
 /// All units of a program are well formed. Where sources use no unit but OVERLAY, the typed unit of each is, whatever else is there; and
 /// so is that of a source whose interface part uses others, where what these tell is known alike.

@@ -1,20 +1,41 @@
 -- What is found in the files of a folder: a program, or why there is none.
 use Rattle.std.proofs.Common.{ℕ, List, Option, Some, None, refl, inl}
-use Rattle.std.specs.Prelude.{IfSome}
+use Rattle.std.specs.Prelude.{All, IfSome}
 use Rattle.tp_outside.specs.Folder.{Folder}
+use Rattle.typed_tree.specs.declared.units.Unit.{Unit}
+use Rattle.typed_tree.specs.declared.units.Program.{Program}
+use Rattle.source_gathering.specs.declared.sources.Source.{Source}
 use Rattle.source_gathering.specs.declared.error.GatherError.TheVariants as gather
 use Rattle.outcomes.specs.declared.outcome.Outcome.TheVariants as outcome
 use Rattle.written_sources.specs.Laws.{SourcesLaw}
-use Rattle.formed_programs.specs.Laws.{WholeLaw}
+use Rattle.well_typed_programs.specs.Below.{IsSource, IsRoomy, IsHeld, HaveDeclaredMethods, MethodsLaw, WholeLaw}
+use Rattle.well_typed_programs.specs.Laws.{WellTypedLaw}
 use Rattle.front_end.specs.Untyped.{IsNoProgram}
 use Rattle.front_end.specs.declared.program.TypedSources.{TypedSources}
 use Rattle.front_end.specs.Found.{IsFoundIn}
+use Rattle.formed_sources.specs.Known.{IsKept}
+use Rattle.formed_sources.specs.Numbers.{HasRoom, IsRoomyThen}
 use Rattle.formed_sources.specs.Formed.{AreFormed, FormedLaw}
 
-pub formed : SourcesLaw → WholeLaw → FormedLaw
-formed sources whole held name found is texts few roomy =
-    let written = sources held name found.texts.items found.sources.items is.gathers texts in
-    whole held name found.texts.items found.sources.items is.gathers found.program is.is (λ k d h. written k d h (few k d h)) roomy
+-- units whose types have methods as they were declared
+roomy_units : (units : List Unit) → All IsRoomyThen units → All (λ (unit : Unit). HaveDeclaredMethods unit.types.types) units → All IsRoomy units
+roomy_units units roomy declared k d h = roomy k d h (declared k d h)
+
+-- what no rule sees to, by what was counted and by the types of values
+held_units : (units : List Unit) → All IsKept units → All HasRoom units → All IsHeld units
+held_units units kept room k d h = record { bytes = (kept k d h).bytes; few = (room k d h).variables }
+
+pub formed : SourcesLaw → MethodsLaw → WholeLaw → WellTypedLaw → FormedLaw
+formed sources methods whole typed held name found is texts kept numbered roomy =
+    let program : Program = found.program in
+    let written : All (λ (source : Source). IsSource source.tree) found.sources.items =
+    λ k d h. sources held name found.texts.items found.sources.items is.gathers texts k d h (numbered.sources k d h) in
+    let declared = methods held name found.texts.items found.sources.items is.gathers program is.is in
+    let room : All IsRoomy program.units = roomy_units program.units roomy declared in
+    record {
+      units = (whole held name found.texts.items found.sources.items is.gathers program is.is written room).0;
+      typed = typed held name found.texts.items found.sources.items is.gathers program is.is written room (held_units program.units kept numbered.units) (λ k d h. (kept k d h).table);
+    }
 
 pub formed_there : (known : Option Folder) (name : List ℕ) (found : TypedSources) → ((held : Folder) (name : List ℕ) → IsFoundIn held name found → AreFormed found.program)
     → IfSome known (λ held. IsFoundIn held name found) → IfSome known (λ held. AreFormed found.program)

@@ -1,2 +1,3 @@
 mod Lines
+mod Methods
 mod Founds

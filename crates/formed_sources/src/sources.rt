@@ -1,55 +1,43 @@
-//! The typed program that the files of a folder hold, with units that are well formed.
+//! The typed program that the files of a folder hold, which is well-typed.
 
-ghost use Rattle.std.specs.Prelude.{◌≡◌, ◌<◌, ◌≤◌, ℕ, List, All, IsTrue, IfOk, IfErr, IfSome, Err};
+ghost use Rattle.std.specs.Prelude.{◌≡◌, ◌≤◌, ℕ, List, IsTrue, IfOk, IfErr, IfSome, Err};
 ghost use Rattle.tp_outside.specs.Faults.{HasRisen};
 ghost use Rattle.tp_outside.specs.Folder.{Folder};
 ghost use Rattle.outcomes.specs.declared.outcome.Outcome.{Outcome};
-ghost use Rattle.written_leaves.specs.Written.{AreTexts};
 ghost use Rattle.front_end.specs.Found.{IsFoundIn};
 ghost use Rattle.front_end.specs.Untyped.{IsNoProgram, IsDeclining};
 ghost use Rattle.formed_sources.specs.Formed.{AreFormed, FormedLaw};
 
+use crate::known::{are_kept, are_texts};
 use crate::numbers::are_numbered;
-use formed_programs::formed_program_laws;
 use front_end::{TypedSources, typed_sources};
 use outcomes::Outcome;
 use std::alloc::Global;
-use tp_lexer::Text;
 use tp_outside::Files;
 use type_layout::Name;
+use well_typed_programs::{formed_program_laws, numbered_method_laws, well_typed_program_laws};
 use written_sources::written_source_laws;
 
 fn formed_law()
     ensures { FormedLaw }
 {
     written_source_laws();
+    numbered_method_laws();
     formed_program_laws();
+    well_typed_program_laws();
 }
 
-// What is known of bytes. It does nothing.
-fn known(bytes: &[u8])
-    ensures { All (λ byte. byte < 256) bytes.now }
-{}
-
-// The texts are made of bytes, as their types say. It only looks at them.
-fn are_texts(texts: &[Text])
-    ensures { AreTexts texts.now }
-{
-    for text in texts {
-        known(text.bytes.as_slice());
-    }
-}
-
-// Whether 32 bits hold the numbers of what is declared, and then each unit is well formed.
+// Whether 32 bits hold the numbers of what is declared, and then each unit is well formed, and the program well-typed.
 fn are_formed(found: &TypedSources) -> bool
     ensures formed { IsTrue result → (held : Folder) (name : List ℕ) → IsFoundIn held name found.now → AreFormed found.now.program }
 {
     formed_law();
     are_texts(found.texts.as_slice());
+    are_kept(found.program.units.as_slice());
     are_numbered(found)
 }
 
-/// The sources of the program of this name with the typed program that they are, of which all units are well formed. An error is the
+/// The sources of the program of this name with the typed program that they are, which is well-typed: it never comes to an ill-typed step. An error is the
 /// outcome of a command that asks for it: the first refusal in the order of the phases, a fault of the files, or want of memory. It is want
 /// of memory too where 32 bits don't hold the numbers of what the sources declare: limits on texts don't see to that, since a text may
 /// include a file many times.

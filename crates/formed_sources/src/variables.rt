@@ -2,8 +2,7 @@
 
 ghost use Rattle.std.specs.Prelude.{◌≡◌, ◌↔◌, IsTrue, min};
 ghost use Rattle.routines.specs.Trees.{view_routine, view_declarations};
-ghost use Rattle.checked_routines.specs.Trees.{names_in, variables_of, variables_in};
-ghost use Rattle.checked_units.specs.Begun.{interface_variables};
+ghost use Rattle.well_typed_programs.specs.Below.{names_in, variables_of, variables_in, interface_variables};
 ghost use Rattle.written_sources.specs.Variables.{HasFewInside, EachHasFew, HasFew, HasFewVariables};
 
 use source_tree::{

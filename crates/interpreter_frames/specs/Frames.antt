@@ -8,7 +8,7 @@ use Rattle.typed_tree.specs.declared.expressions.BinaryOp.{BinaryOp}
 use Rattle.typed_tree.specs.declared.statements.Destructor.{Destructor}
 use Rattle.typed_tree.specs.Expressions.{view_boxed, Expression, Elements as Listed, Arguments, view_expr, view_place, view_elements, view_args}
 use Rattle.typed_tree.specs.Statements.{Written, Taken, Statement, Arms, While, Repeat, view_stmt, view_stmts, view_arms, view_written, view_taken}
-use Rattle.well_formed.specs.Fits.{stored_as}
+use Rattle.type_fits.specs.Fits.{stored_as}
 use Rattle.values.specs.Sets.{with_range}
 use Rattle.meaning.specs.Trees.{Value, Ordinal, Block}
 use Rattle.meaning.specs.Store.{number_of}

@@ -1,7 +1,7 @@
 -- What a call does before and after the body of its routine.
 use Rattle.std.specs.Prelude.{ℕ, ◌&&◌, not, length, List, Option, Some, Ok}
 use Rattle.typed_tree.specs.declared.units.Program.{Program}
-use Rattle.well_formed.specs.Scopes.{variables_of}
+use Rattle.type_fits.specs.Routines.{variables_of}
 use Rattle.meaning.specs.Trees.{Key, Spot, Value}
 use Rattle.meaning.specs.Store.{next_serial, without}
 use Rattle.meaning.specs.Programs.{Sort, is_overlaid, class_key}

@@ -2,7 +2,7 @@
 
 ghost use Rattle.std.specs.Prelude.{◌≡◌, IfOk, map};
 ghost use Rattle.std.specs.Option.{option_map, option_copied};
-ghost use Rattle.well_formed.specs.Fits.{stored_as};
+ghost use Rattle.type_fits.specs.Fits.{stored_as};
 ghost use Rattle.typed_tree.specs.Expressions.{view_expr, type_of};
 ghost use Rattle.meaning.specs.Outcomes.{State, looked, found};
 ghost use Rattle.meaning.specs.Programs.{sort_in};

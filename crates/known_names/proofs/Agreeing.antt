@@ -11,8 +11,9 @@ use Rattle.type_layout.specs.declared.definitions.Param.{Param}
 use Rattle.type_layout.specs.declared.definitions.Header.{Header}
 use Rattle.type_layout.specs.declared.definitions.Method.{Method}
 use Rattle.typed_tree.specs.declared.units.Routine.{Routine}
-use Rattle.well_formed.specs.Fits.{IsSome, shape_of}
-use Rattle.well_formed.specs.Scopes.{Scope, HasType, IsGlobal, IsVariableOf, IsVariableAt, HasVariable, IsRoutineAt, HasRoutine, listed, variables_of}
+use Rattle.type_fits.specs.Fits.{IsSome, shape_of}
+use Rattle.type_fits.specs.Routines.{listed, variables_of}
+use Rattle.well_formed.specs.Scopes.{Scope, HasType, IsNamed, IsGlobal, IsVariableOf, IsVariableAt, HasVariable, Prototype, prototype, IsRoutineAt, HasRoutine, IsWithin}
 use Rattle.well_formed.specs.Typed.{IsRoutineValue}
 use Rattle.scopes.specs.declared.entries.Entry.{Entry}
 use Rattle.scopes.specs.declared.entries.Entry.TheVariants as entry
@@ -32,27 +33,32 @@ use Rattle.typed_methods.specs.Declared.{IsMethod, HasMethods}
 use Rattle.typed_methods.proofs.Bound.{here, header_in}
 use Rattle.checked_expressions.specs.Agreeing.{IsKnown, Agrees}
 use Rattle.checked_statements.specs.Within.{AgreesWithin}
-use Rattle.known_names.specs.Known.{opening, open_from, open_in, at_level, IsDeep, IsLocal, IsVariableIn, IsAtDepth, IsEntry, IsLasting, AreLasting, AreKnown, levels_in, scope_over}
+use Rattle.known_names.specs.Known.{opening, open_from, open_in, at_level, IsDeep, IsLocal, IsVariableIn, IsAtDepth, IsLasting, AreLasting, AreKnown, levels_in, scope_over}
 use Rattle.known_names.proofs.Frames.{level_below, open_count, level_variables, IsOpen, stands, one_depth}
-use Rattle.known_names.proofs.Finding.{found_known, inside_known}
+use Rattle.known_names.proofs.Finding.{IsReached, found_known, inside_known}
 
 -- ---- the same over the levels of routines
 
 module _ (s : Scope) (around : List ℕ) where
-  routine_at : (Asked : Routine → Type 0) (unit number : ℕ) → IsRoutineAt Asked s unit number → IsRoutineAt Asked (scope_over s around) unit number
+  routine_at : (Asked : Prototype → Type 0) (unit number : ℕ) → IsRoutineAt Asked s unit number → IsRoutineAt Asked (scope_over s around) unit number
   routine_at Asked zero number h = h
   routine_at Asked (suc unit) number h = h
 
-  routine_over : (Asked : Routine → Type 0) (routine : RoutineId) → HasRoutine Asked s routine → HasRoutine Asked (scope_over s around) routine
+  routine_over : (Asked : Prototype → Type 0) (routine : RoutineId) → HasRoutine Asked s routine → HasRoutine Asked (scope_over s around) routine
   routine_over Asked routine h = routine_at Asked routine.unit routine.number h
 
   global_over : (unit number : ℕ) (ty : TypeId) → IsGlobal s unit number ty → IsGlobal (scope_over s around) unit number ty
   global_over zero number ty h = h
   global_over (suc unit) number ty h = h
 
+  named_over : (unit : ℕ) → IsNamed s unit → IsNamed (scope_over s around) unit
+  named_over zero h = tt
+  named_over (suc unit) h = h
+
   methods_over : (g : Environment) → HasMethods g s → HasMethods g (scope_over s around)
   methods_over g h = record {
     types = h.types;
+    units = h.units;
     methods = λ class number method routine m r. routine_over (IsMethod class method.header) routine (h.methods class number method routine m r);
   }
 
@@ -205,12 +211,22 @@ module _ (g : Environment) (s : Scope) (h : AreKnown g s) where
   has_variable : (unit level number : ℕ) (ty : TypeId) → HasType s ty → IsVariableIn s (open_in g) level unit number ty → HasVariable over (variable g unit level number) ty
   has_variable unit level number ty there v = (there, variable_over s (open_in g) (routine_depth g.blocks) level unit number ty (sym depth) v)
 
-  entry_known : (one : Entry) → IsEntry s (open_in g) one → IsKnown g over one
+  -- a routine that may be called
+  abbrev IsCallable : Header → Prototype → Type 0
+  IsCallable header one = IsFree header one × IsWithin (open_in g) one.outer
+
+  entry_known : (one : Entry) → IsReached s (open_in g) one → IsKnown g over one
   entry_known (entry.Const ty v) k = k
   entry_known (entry.Ty ty) k = k
   entry_known (entry.Var unit level number ty) k = has_variable unit level number ty k.0 k.1
-  entry_known (entry.Code routine level header far) k =
-      (routine_over s (open_in g) (IsFree header) routine k.0, k.1, λ f l. routine_over s (open_in g) (IsRoutineValue header) routine (k.2 f l))
+  entry_known (entry.Code routine level header far) k = (
+    routine_over s (open_in g) (IsCallable header) routine k.0,
+    k.1,
+    λ f l. (
+      routine_over s (open_in g) (IsRoutineValue header) routine (k.2 f l).0,
+      named_over s (open_in g) routine.unit (k.2 f l).1,
+    ),
+  )
   entry_known (entry.Std number) k = tt
 
   agrees : Agrees g over
@@ -242,14 +258,14 @@ module _ (g : Environment) (s : Scope) (h : AreKnown g s) where
   result_there : (header : Header) (ty : TypeId) → header.result ≡ Some ty → IsHeaderIn s.types header → HasType s ty
   result_there header ty is k = subst (λ (o : Option TypeId). IsResultIn s.types o) is k.result
 
-  function_at : (unit number level : ℕ) (header : Header) (ty : TypeId) → unit ≡ 0 → IsRoutineAt (IsFree header) s unit number → IsAtDepth s unit number level → IsHeaderIn s.types header → header.result ≡ Some ty
+  function_at : (unit number level : ℕ) (header : Header) (ty : TypeId) → unit ≡ 0 → IsRoutineAt (IsCallable header) s unit number → IsAtDepth s unit number level → IsHeaderIn s.types header → header.result ≡ Some ty
       → IsOpen (open_in g) number → HasVariable over (variable g 0 (narrow (level + 1)) (narrow (length header.params))) ty
   function_at (suc unit) number level header ty none declared deep there result around = let bad : ⊥ = cc in absurd bad
   function_at zero number level header ty none declared deep there result around =
       let place = stands s.routines (open_in g) number h.nested around in
       let same : deep.0 ≡ place.one = (let e = deep.1 in let f = place.is in cc) in
       let other : declared.0 ≡ place.one = (let e = declared.1 in let f = place.is in cc) in
-      let free : IsFree header place.one = subst (λ (r : Routine). IsFree header r) other declared.2 in
+      let free : IsFree header (prototype place.one) = subst (λ (r : Routine). IsFree header (prototype r)) other declared.2.0 in
       let level_is : level ≡ place.level = one_depth s.routines level place.level place.one.outer (subst (λ (r : Routine). IsDeep s.routines level r.outer) same deep.2) place.deep in
       let count : length header.params ≡ length place.one.header.params = shapes_count header.params place.one.header.params free.same.params in
       let few = (h.placed number place.one place.is).few in
@@ -281,7 +297,7 @@ module _ (g : Environment) (s : Scope) (h : AreKnown g s) where
   method_at zero number class header ty none declared there result around =
       let place = stands s.routines (open_in g) number h.nested around in
       let other : declared.0 ≡ place.one = (let e = declared.1 in let f = place.is in cc) in
-      let method : IsMethod class header place.one = subst (λ (r : Routine). IsMethod class header r) other declared.2 in
+      let method : IsMethod class header (prototype place.one) = subst (λ (r : Routine). IsMethod class header (prototype r)) other declared.2 in
       let placed = h.placed number place.one place.is in
       let owned : IsSome place.one.owner = subst (λ (o : Option TypeId). IsSome o) (sym method.owned) tt in
       let level_is : place.level ≡ 0 = outermost place.level place.one.outer (placed.outermost owned) place.deep in

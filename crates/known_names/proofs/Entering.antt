@@ -85,7 +85,7 @@ with_blocks g blocks = record g { blocks = blocks }
 changed : (g : Environment) (s : Scope) (blocks : List OpenBlock) → AreKnown g s → AreNested s.routines (open_from [] blocks) → length (open_from [] blocks) < 2 ^ 31 → AreLasting blocks → EachIn (IsEntry s) [] blocks
     → AreKnown (with_blocks g blocks) s
 changed g s blocks h nested few lasting known = record {
-  has = record { types = h.has.types; methods = h.has.methods };
+  has = record { types = h.has.types; units = h.has.units; methods = h.has.methods };
   sound = h.sound;
   nested = nested;
   few = few;

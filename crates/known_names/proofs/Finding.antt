@@ -1,13 +1,16 @@
 -- What is found under a name is known.
-use Rattle.std.proofs.Common.{◌≡◌, ◌⊎◌, inl, inr, ℕ, zero, suc, ◌+◌, ◌-◌, ◌<◌, ◌≤◌, Bool, true, false, cond, All, List, [], ◌∷◌, length, take, Option, Some, None, sym, subst, ap, arith, length-take}
+use Rattle.std.proofs.Common.{◌≡◌, ◌⊎◌, inl, inr, ℕ, zero, suc, ◌+◌, ◌-◌, ◌<◌, ◌≤◌, ◌==◌, Bool, true, false, cond, All, List, [], ◌∷◌, length, take, Option, Some, None, refl, sym, subst, ap, arith, length-take}
 use Rattle.std.specs.Prelude.{option_map, slice_get, nat_lt}
 use Rattle.std.specs.Map.{lookup}
 use Rattle.std.proofs.Math.Nat.{min-le_right}
+use Rattle.std.proofs.lemmas.Bool.Decides.{Decides-eqb}
 use Rattle.std.proofs.lemmas.List.Elements.{All-head, All-tail, All-take}
 use Rattle.type_layout.specs.declared.definitions.TypeId.{TypeId}
+use Rattle.type_layout.specs.declared.definitions.Header.{Header}
 use Rattle.type_layout.specs.declared.definitions.TypeDef.{TypeDef}
 use Rattle.type_layout.specs.Words.{same_bytes}
-use Rattle.well_formed.specs.Scopes.{Scope}
+use Rattle.type_fits.specs.Fits.{definition, IsValue}
+use Rattle.well_formed.specs.Scopes.{IsOneOf, Prototype, prototype, Scope, HasType, IsRoutineAt, HasRoutine, IsWithin}
 use Rattle.scopes.specs.declared.entries.Entry.{Entry}
 use Rattle.scopes.specs.declared.entries.Entry.TheVariants as entry
 use Rattle.scopes.specs.declared.searches.OpenBlock.{OpenBlock}
@@ -15,22 +18,67 @@ use Rattle.scopes.specs.declared.members.Member.{Member}
 use Rattle.scopes.specs.Symbols.{SymbolList, entry_of}
 use Rattle.scopes.specs.Members.{first_of, member_of}
 use Rattle.scopes.specs.Environment.{Environment, named, member, line_of, in_symbols, in_block, in_blocks, in_units, entry_in, find, found_in, first_open, block_count}
-use Rattle.known_names.specs.Known.{opening, open_from, open_in, IsVariableIn, IsEntry, EachOf, EachIn, AreKnown}
+use Rattle.typed_nodes.specs.Tables.{IsInTable, IsHeaderIn}
+use Rattle.typed_calls.specs.Laws.{IsFree}
+use Rattle.typed_allocations.specs.Laws.{MayBeValue}
+use Rattle.known_names.specs.Known.{opening, open_from, open_in, at_level, first_in, IsVariableIn, IsAtDepth, IsDeclaredIn, IsEntry, EachOf, EachIn, AreKnown}
 use Rattle.known_names.proofs.Frames.{Keeps, keeps_from}
 
+-- ---- what may be told of what is found
+
+-- What an entry means is there, where the blocks of these routines are open: a routine is declared in none, or in one of these.
+abbrev pub IsReached : Scope → List ℕ → Entry → Type 0
+IsReached s around (entry.Const ty v) = IsValue s.types v (definition s.types ty)
+IsReached s around (entry.Ty ty) = IsInTable s.types ty
+IsReached s around (entry.Var unit level number ty) = HasType s ty × IsVariableIn s around level unit number ty
+IsReached s around (entry.Code routine level header far) =
+    HasRoutine (λ one. IsFree header one × IsWithin around one.outer) s routine × IsHeaderIn s.types header × MayBeValue s routine level header far
+    × IsAtDepth s routine.unit routine.number level
+IsReached s around (entry.Std number) = Unit {0}
+
 -- ---- more open routines
+
+-- a routine of a level is one of those that are open
+level_within : (around : List ℕ) (level number : ℕ) → at_level around level ≡ Some number → IsOneOf number around
+level_within [] level number e = let bad : ⊥ = cc in absurd bad
+level_within (one ∷ around) level number e = by (λ k. level_within around level number k) (level == length around + 1) e
+  where
+    by : (at_level around level ≡ Some number → IsOneOf number around) → (b : Bool) → cond b (Some one) (at_level around level) ≡ Some number → IsOneOf number (one ∷ around)
+    by rec true k = (0, k)
+    by rec false k =
+        let further = rec k in
+        (suc further.0, further.1)
+
+-- the innermost of those that were open is one of those that are
+first_within : (around more : List ℕ) → Keeps around more → IsWithin more (first_in around)
+first_within [] more keeps = tt
+first_within (number ∷ around) more keeps =
+    let yes : (length around + 1 == length around + 1) ≡ true = (Decides-eqb (length around + 1) (length around + 1)).1 refl in
+    let at : at_level (number ∷ around) (length around + 1) ≡ Some number =
+    ap (λ (b : Bool). cond b (Some number) (at_level around (length around + 1))) yes in
+    level_within more (length around + 1) number (keeps (length around + 1) number at)
+
+declared_within : (around more : List ℕ) (header : Header) (one : Prototype) → Keeps around more → IsDeclaredIn around header one → IsFree header one × IsWithin more one.outer
+declared_within around more header one keeps h = (h.free, subst (λ (o : Option ℕ). IsWithin more o) (sym h.outer) (first_within around more keeps))
+
+-- what is asked of a routine, less strictly
+routine_weaker : (Asked Wanted : Prototype → Type 0) → ((one : Prototype) → Asked one → Wanted one) → (s : Scope) (unit number : ℕ) → IsRoutineAt Asked s unit number → IsRoutineAt Wanted s unit number
+routine_weaker Asked Wanted weaker s zero number h = (h.0, h.1, weaker (prototype h.0) h.2)
+routine_weaker Asked Wanted weaker s (suc unit) number h = (h.0, h.1, weaker h.0 h.2)
 
 variable_lifted : (s : Scope) (around more : List ℕ) (level unit number : ℕ) (ty : TypeId) → Keeps around more → IsVariableIn s around level unit number ty → IsVariableIn s more level unit number ty
 variable_lifted s around more zero unit number ty keeps h = h
 variable_lifted s around more (suc level) unit number ty keeps h =
     record { routine = h.routine; opened = keeps (suc level) h.routine h.opened; one = h.one; is = h.is; variable = h.variable }
 
-pub entry_lifted : (s : Scope) (around more : List ℕ) (one : Entry) → Keeps around more → IsEntry s around one → IsEntry s more one
-entry_lifted s around more (entry.Const ty v) keeps h = h
-entry_lifted s around more (entry.Ty ty) keeps h = h
-entry_lifted s around more (entry.Var unit level number ty) keeps h = (h.0, variable_lifted s around more level unit number ty keeps h.1)
-entry_lifted s around more (entry.Code routine level header far) keeps h = h
-entry_lifted s around more (entry.Std number) keeps h = h
+entry_reached : (s : Scope) (around more : List ℕ) (one : Entry) → Keeps around more → IsEntry s around one → IsReached s more one
+entry_reached s around more (entry.Const ty v) keeps h = h
+entry_reached s around more (entry.Ty ty) keeps h = h
+entry_reached s around more (entry.Var unit level number ty) keeps h = (h.0, variable_lifted s around more level unit number ty keeps h.1)
+entry_reached s around more (entry.Code routine level header far) keeps h =
+    let Wanted : Prototype → Type 0 = λ one. IsFree header one × IsWithin more one.outer in
+    (routine_weaker (IsDeclaredIn around header) Wanted (λ one k. declared_within around more header one keeps k) s routine.unit routine.number h.0, h.1, h.2, h.3)
+entry_reached s around more (entry.Std number) keeps h = h
 
 none_open : (more : List ℕ) → Keeps [] more
 none_open more level number e = let bad : ⊥ = cc in absurd bad
@@ -74,19 +122,20 @@ block_known P types k n b name one h e = by (first_cases (in_symbols k b.symbols
     by (inl f) = symbols_known P k n b.symbols name one h f
     by (inr f) = absurd (no_member k n (member_of types (line_of b.kind) name) one f)
 
-module _ (P : List ℕ → Entry → Type 0) (types : List TypeDef) (n : ℕ) (name : List ℕ) (one : Entry) where
-  -- an entry of a block, where blocks inside it take nothing away
-  blocks_known : (lift : (around more : List ℕ) → Keeps around more → P around one → P more one) (around : List ℕ) (k : ℕ) (blocks : List OpenBlock) → EachIn P around blocks
-      → in_blocks types k blocks name ≡ Some (named n one) → P (open_from around blocks) one
+module _ (P Q : List ℕ → Entry → Type 0) (types : List TypeDef) (n : ℕ) (name : List ℕ) (one : Entry) where
+  -- an entry of a block, as it is told where blocks inside it are open
+  blocks_known : (lift : (around more : List ℕ) → Keeps around more → P around one → Q more one) (around : List ℕ) (k : ℕ) (blocks : List OpenBlock) → EachIn P around blocks
+      → in_blocks types k blocks name ≡ Some (named n one) → Q (open_from around blocks) one
   blocks_known lift around k [] h e = let bad : ⊥ = cc in absurd bad
   blocks_known lift around k (b ∷ blocks) h e =
       by (λ f. blocks_known lift (opening b.kind around) (k + 1) blocks h.1 f) (first_cases (in_blocks types (k + 1) blocks name) (in_block types k b name) (named n one) e)
     where
-      by : (in_blocks types (k + 1) blocks name ≡ Some (named n one) → P (open_from (opening b.kind around) blocks) one)
-          → (in_blocks types (k + 1) blocks name ≡ Some (named n one)) ⊎ (in_block types k b name ≡ Some (named n one)) → P (open_from (opening b.kind around) blocks) one
+      by : (in_blocks types (k + 1) blocks name ≡ Some (named n one) → Q (open_from (opening b.kind around) blocks) one)
+          → (in_blocks types (k + 1) blocks name ≡ Some (named n one)) ⊎ (in_block types k b name ≡ Some (named n one)) → Q (open_from (opening b.kind around) blocks) one
       by rec (inl f) = rec f
       by rec (inr f) = lift (opening b.kind around) (open_from (opening b.kind around) blocks) (keeps_from blocks (opening b.kind around)) (block_known (P (opening b.kind around)) types k n b name one h.0 f).0
 
+module _ (P : List ℕ → Entry → Type 0) (types : List TypeDef) (n : ℕ) (name : List ℕ) (one : Entry) where
   -- an entry of the innermost block
   inner_known : (around : List ℕ) (k : ℕ) (blocks : List OpenBlock) → EachIn P around blocks → n + 1 ≡ k + length blocks
       → in_blocks types k blocks name ≡ Some (named n one) → P (open_from around blocks) one
@@ -115,7 +164,7 @@ units_known P k n (unit ∷ units) name one h e =
     by rec (inl f) = rec f
     by rec (inr f) = (symbols_known P k n unit name one (All-head (EachOf P) unit units h) f).0
 
-pub found_known : (g : Environment) (s : Scope) (name : List ℕ) (n : ℕ) (one : Entry) → AreKnown g s → find g name ≡ Some (named n one) → IsEntry s (open_in g) one
+pub found_known : (g : Environment) (s : Scope) (name : List ℕ) (n : ℕ) (one : Entry) → AreKnown g s → find g name ≡ Some (named n one) → IsReached s (open_in g) one
 found_known g s name n one h e =
     by (first_cases (in_blocks g.types.types (length g.used + 1) g.blocks name) (first_of (in_units 1 (take g.seen g.used) name) (in_symbols 0 g.predeclared name)) (named n one) e)
   where
@@ -124,29 +173,29 @@ found_known g s name n one h e =
     outside (inr f) = (symbols_known (IsEntry s []) 0 n g.predeclared name one h.predeclared f).0
 
     by : (in_blocks g.types.types (length g.used + 1) g.blocks name ≡ Some (named n one)) ⊎ (first_of (in_units 1 (take g.seen g.used) name) (in_symbols 0 g.predeclared name) ≡ Some (named n one))
-        → IsEntry s (open_in g) one
-    by (inl f) = blocks_known (IsEntry s) g.types.types n name one (λ around more keeps k. entry_lifted s around more one keeps k) [] (length g.used + 1) g.blocks h.blocks f
+        → IsReached s (open_in g) one
+    by (inl f) = blocks_known (IsEntry s) (IsReached s) g.types.types n name one (λ around more keeps k. entry_reached s around more one keeps k) [] (length g.used + 1) g.blocks h.blocks f
     by (inr f) =
-        entry_lifted s [] (open_in g) one (none_open (open_in g)) (outside (first_cases (in_units 1 (take g.seen g.used) name) (in_symbols 0 g.predeclared name) (named n one) f))
+        entry_reached s [] (open_in g) one (none_open (open_in g)) (outside (first_cases (in_units 1 (take g.seen g.used) name) (in_symbols 0 g.predeclared name) (named n one) f))
 
 -- ---- names of one block
 
-module _ (P : List ℕ → Entry → Type 0) (name : List ℕ) (one : Entry) where
-  -- an entry of a block itself, where blocks inside it take nothing away
-  entry_known : (lift : (around more : List ℕ) → Keeps around more → P around one → P more one) (around : List ℕ) (k : ℕ) (blocks : List OpenBlock) → EachIn P around blocks
-      → entry_in (slice_get blocks k) name ≡ Some one → P (open_from around blocks) one
+module _ (P Q : List ℕ → Entry → Type 0) (name : List ℕ) (one : Entry) where
+  -- an entry of a block itself, as it is told where blocks inside it are open
+  entry_known : (lift : (around more : List ℕ) → Keeps around more → P around one → Q more one) (around : List ℕ) (k : ℕ) (blocks : List OpenBlock) → EachIn P around blocks
+      → entry_in (slice_get blocks k) name ≡ Some one → Q (open_from around blocks) one
   entry_known lift around zero [] h e = let bad : ⊥ = cc in absurd bad
   entry_known lift around (suc k) [] h e = let bad : ⊥ = cc in absurd bad
   entry_known lift around zero (b ∷ blocks) h e =
       lift (opening b.kind around) (open_from (opening b.kind around) blocks) (keeps_from blocks (opening b.kind around)) (looked_up (P (opening b.kind around)) name one b.symbols h.0 e)
   entry_known lift around (suc k) (b ∷ blocks) h e = entry_known lift (opening b.kind around) k blocks h.1 e
 
-pub inside_known : (g : Environment) (s : Scope) (number : ℕ) (name : List ℕ) (one : Entry) → AreKnown g s → found_in g number name ≡ Some one → IsEntry s (open_in g) one
+pub inside_known : (g : Environment) (s : Scope) (number : ℕ) (name : List ℕ) (one : Entry) → AreKnown g s → found_in g number name ≡ Some one → IsReached s (open_in g) one
 inside_known g s number name one h e = by (nat_lt number (first_open g)) e
   where
-    by : (low : Bool) → cond low None (entry_in (slice_get g.blocks (number - first_open g)) name) ≡ Some one → IsEntry s (open_in g) one
+    by : (low : Bool) → cond low None (entry_in (slice_get g.blocks (number - first_open g)) name) ≡ Some one → IsReached s (open_in g) one
     by true k = let bad : ⊥ = cc in absurd bad
-    by false k = entry_known (IsEntry s) name one (λ around more keeps f. entry_lifted s around more one keeps f) [] (number - first_open g) g.blocks h.blocks k
+    by false k = entry_known (IsEntry s) (IsReached s) name one (λ around more keeps f. entry_reached s around more one keeps f) [] (number - first_open g) g.blocks h.blocks k
 
 -- ---- names of the innermost block
 

@@ -1,5 +1,5 @@
 -- What is known stays so as declarations follow.
-use Rattle.std.proofs.Common.{◌≡◌, ℕ, zero, suc, ◌-◌, List, [], ◌∷◌, get_or, Option, Some, None, refl, sym, subst, ap, ◌∙◌, arith}
+use Rattle.std.proofs.Common.{◌≡◌, ℕ, zero, suc, List, [], ◌∷◌, get_or, Option, Some, None, refl, sym, subst, ap, ◌∙◌}
 use Rattle.std.specs.Prelude.{slice_get}
 use Rattle.std.proofs.lemmas.List.Elements.{All-weaker}
 use Rattle.type_layout.specs.declared.definitions.TypeId.{TypeId}
@@ -10,8 +10,9 @@ use Rattle.type_layout.specs.declared.definitions.TypeDef.{TypeDef}
 use Rattle.type_layout.specs.Table.{Table}
 use Rattle.typed_tree.specs.declared.expressions.Value.{Value}
 use Rattle.typed_tree.specs.declared.units.Routine.{Routine}
-use Rattle.well_formed.specs.Fits.{definition, IsSome, IsValue, AreSameHeaders}
-use Rattle.well_formed.specs.Scopes.{Scope, IsGlobal, IsRoutineAt, HasRoutine, variables_of}
+use Rattle.type_fits.specs.Fits.{definition, IsSome, IsValue}
+use Rattle.type_fits.specs.Routines.{variables_of}
+use Rattle.well_formed.specs.Scopes.{IsOneOf, Prototype, prototype, Others, Scope, IsNamed, IsGlobal, IsRoutineAt, HasRoutine}
 use Rattle.well_formed.specs.Typed.{IsRoutineValue}
 use Rattle.scopes.specs.declared.entries.Entry.{Entry}
 use Rattle.scopes.specs.declared.entries.Entry.TheVariants as entry
@@ -20,35 +21,17 @@ use Rattle.scopes.specs.Symbols.{SymbolList}
 use Rattle.scopes.specs.Environment.{Environment}
 use Rattle.method_rules.specs.Slots.{methods_of}
 use Rattle.typed_nodes.specs.Tables.{IsInTable, IsResultIn, IsHeaderIn, IsSound}
-use Rattle.typed_calls.specs.Laws.{IsFree}
 use Rattle.typed_methods.specs.Declared.{IsMethod, HasMethods}
 use Rattle.wider_scopes.specs.Wider.{IsSame, Widens}
 use Rattle.wider_scopes.proofs.Types.{more_kept, more_value}
-use Rattle.known_names.specs.Known.{opening, open_in, AreNested, IsDeep, IsVariableIn, IsAtDepth, IsEntry, EachOf, EachIn, IsPlaced, AreKnown, variables_at, levels_in, scope_over}
+use Rattle.known_names.specs.Known.{opening, open_in, AreNested, IsDeep, IsVariableIn, IsAtDepth, IsDeclaredIn, IsEntry, EachOf, EachIn, IsPlaced, AreKnown, variables_at, levels_in, scope_over}
 use Rattle.known_names.specs.Growing.{Extends}
 use Rattle.known_names.specs.Laws.{typing}
 
 -- ---- routines with the same header
 
-free_same : (header : Header) (one other : Routine) → IsSame one other → IsFree header one → IsFree header other
-free_same header one other k h = record {
-  free = sym k.owner ∙ h.free;
-  same = subst (λ (x : Header). AreSameHeaders header x) k.header h.same;
-}
-
-value_same : (header : Header) (one other : Routine) → IsSame one other → IsRoutineValue header one → IsRoutineValue header other
-value_same header one other k h = record {
-  far = sym k.far ∙ h.far;
-  free = sym k.owner ∙ h.free;
-  outermost = sym k.outer ∙ h.outermost;
-  same = subst (λ (x : Header). AreSameHeaders header x) k.header h.same;
-}
-
-method_same : (class : TypeId) (header : Header) (one other : Routine) → IsSame one other → IsMethod class header one → IsMethod class header other
-method_same class header one other k h = record {
-  owned = sym k.owner ∙ h.owned;
-  same = subst (λ (x : Header). AreSameHeaders header x) k.header h.same;
-}
+prototype_same : (one other : Routine) → IsSame one other → prototype one ≡ prototype other
+prototype_same one other h = let a = h.header in let b = h.owner in let c = h.outer in let d = h.far in cc
 
 module _ (s t : Scope) (e : Extends s t) (sound : IsSound s.types) where
   type_kept : (ty : TypeId) → IsInTable s.types ty → IsInTable t.types ty
@@ -69,16 +52,18 @@ module _ (s t : Scope) (e : Extends s t) (sound : IsSound s.types) where
   value_kept : (v : Value) (ty : TypeId) → IsValue s.types v (definition s.types ty) → IsValue t.types v (definition t.types ty)
   value_kept v ty h = subst (λ (types : List TypeDef). IsValue types v (definition types ty)) (sym e.types.1) (more_value s.types e.types.0 sound.defined v ty h)
 
-  routine_at : (Asked : Routine → Type 0) → ((one other : Routine) → IsSame one other → Asked one → Asked other) → (unit number : ℕ) → IsRoutineAt Asked s unit number → IsRoutineAt Asked t unit number
-  routine_at Asked same zero number h =
+  routine_at : (Asked : Prototype → Type 0) → (unit number : ℕ) → IsRoutineAt Asked s unit number → IsRoutineAt Asked t unit number
+  routine_at Asked zero number h =
       let it = e.routines number h.0 h.1 in
-      (it.0, it.1, same h.0 it.0 it.2.same h.2)
-  routine_at Asked same (suc unit) number h =
-      let more = e.units in
-      omega (arith, h, more)
+      (it.0, it.1, subst Asked (prototype_same h.0 it.0 it.2.same) h.2)
+  routine_at Asked (suc unit) number h = (h.0, e.others.routines (record { routine = record { unit = suc unit; number = number }; seen = h.0 }) h.1, h.2)
 
-  routine_kept : (Asked : Routine → Type 0) → ((one other : Routine) → IsSame one other → Asked one → Asked other) → (routine : RoutineId) → HasRoutine Asked s routine → HasRoutine Asked t routine
-  routine_kept Asked same routine h = routine_at Asked same routine.unit routine.number h
+  routine_kept : (Asked : Prototype → Type 0) → (routine : RoutineId) → HasRoutine Asked s routine → HasRoutine Asked t routine
+  routine_kept Asked routine h = routine_at Asked routine.unit routine.number h
+
+  named_kept : (unit : ℕ) → IsNamed s unit → IsNamed t unit
+  named_kept zero h = tt
+  named_kept (suc unit) h = (h.0, e.others.units (record { number = suc unit; name = h.0 }) h.1)
 
   deep_kept : (level : ℕ) (outer : Option ℕ) → IsDeep s.routines level outer → IsDeep t.routines level outer
   deep_kept zero None h = tt
@@ -96,9 +81,7 @@ module _ (s t : Scope) (e : Extends s t) (sound : IsSound s.types) where
 
   global_kept : (unit number : ℕ) (ty : TypeId) → IsGlobal s unit number ty → IsGlobal t unit number ty
   global_kept zero number ty h = e.globals number ty h
-  global_kept (suc unit) number ty h =
-      let more = e.units in
-      omega (arith, h, more)
+  global_kept (suc unit) number ty h = e.others.globals (record { unit = suc unit; number = number; ty = ty }) h
 
   variable_kept : (around : List ℕ) (level unit number : ℕ) (ty : TypeId) → IsVariableIn s around level unit number ty → IsVariableIn t around level unit number ty
   variable_kept around zero unit number ty h = global_kept unit number ty h
@@ -117,7 +100,7 @@ module _ (s t : Scope) (e : Extends s t) (sound : IsSound s.types) where
   entry_kept around (entry.Ty ty) h = type_kept ty h
   entry_kept around (entry.Var unit level number ty) h = (type_kept ty h.0, variable_kept around level unit number ty h.1)
   entry_kept around (entry.Code routine level header far) h =
-      (routine_kept (IsFree header) (free_same header) routine h.0, header_kept header h.1, λ f l. routine_kept (IsRoutineValue header) (value_same header) routine (h.2 f l), depth_kept routine.unit routine.number level h.3)
+      (routine_kept (IsDeclaredIn around header) routine h.0, header_kept header h.1, λ f l. (routine_kept (IsRoutineValue header) routine (h.2 f l).0, named_kept routine.unit (h.2 f l).1), depth_kept routine.unit routine.number level h.3)
   entry_kept around (entry.Std number) h = tt
 
   entries_kept : (around : List ℕ) (symbols : SymbolList) → EachOf (IsEntry s around) symbols → EachOf (IsEntry t around) symbols
@@ -128,11 +111,12 @@ module _ (s t : Scope) (e : Extends s t) (sound : IsSound s.types) where
   blocks_kept around [] h = tt
   blocks_kept around (one ∷ blocks) h = (entries_kept (opening one.kind around) one.symbols h.0, blocks_kept (opening one.kind around) blocks h.1)
 
-  -- methods stay where the types do
-  pub methods_kept : (g : Environment) → HasMethods g s → t.types ≡ s.types → HasMethods g t
-  methods_kept g h is = record {
+  -- methods stay where the types do, and what is supposed of other units
+  pub methods_kept : (g : Environment) → HasMethods g s → t.types ≡ s.types → t.others ≡ s.others → HasMethods g t
+  methods_kept g h is others = record {
     types = is ∙ h.types;
-    methods = λ class number method routine m r. routine_kept (IsMethod class method.header) (method_same class method.header) routine
+    units = λ one k. h.units one (subst (λ (o : Others). IsOneOf one o.units) others k);
+    methods = λ class number method routine m r. routine_kept (IsMethod class method.header) routine
         (h.methods class number method routine (subst (λ (types : List TypeDef). slice_get (methods_of (definition types class)) number ≡ Some method) is m) r);
   }
 
@@ -161,9 +145,9 @@ module _ (g : Environment) (s : Scope) (h : AreKnown g s) where
   }
 
   -- further variables and routines
-  pub same_known : (t : Scope) → Extends s t → t.types ≡ s.types → ((number : ℕ) (one : Routine) → slice_get t.routines number ≡ Some one → IsPlaced one) → AreKnown g t
-  same_known t e is placed = record {
-    has = methods_kept s t e h.sound g h.has is;
+  pub same_known : (t : Scope) → Extends s t → t.types ≡ s.types → t.others ≡ s.others → ((number : ℕ) (one : Routine) → slice_get t.routines number ≡ Some one → IsPlaced one) → AreKnown g t
+  same_known t e is others placed = record {
+    has = methods_kept s t e h.sound g h.has is others;
     sound = subst (λ (types : List TypeDef). IsSound types) (sym is) h.sound;
     nested = nested_kept s t e h.sound (open_in g) h.nested;
     few = h.few;
@@ -178,9 +162,10 @@ module _ (g : Environment) (s : Scope) (h : AreKnown g s) where
   wider t e = record {
     defined = h.sound.defined;
     types = e.types;
-    units = e.units;
+    others = e.others;
     globals = e.globals;
     routines = λ number one is. (let it = e.routines number one is in (it.0, it.1, it.2.same));
+    around = λ number k. k;
     levels = λ level number ty v. levels_kept s t e h.sound (open_in g) level number ty h.nested v;
     withs = refl;
   }

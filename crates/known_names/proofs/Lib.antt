@@ -3,3 +3,6 @@ pub mod Finding
 pub mod Agreeing
 pub mod Entering
 pub mod Growing
+pub mod Members
+pub mod Units
+pub mod Others

@@ -1,9 +1,11 @@
 -- When each entry of a scope is known among trees: what is declared under each name is there, in which block it stands.
 use Rattle.std.specs.Prelude.{◌≡◌, ℕ, zero, suc, ◌+◌, ◌<◌, ◌==◌, ◌^◌, cond, All, List, [], ◌∷◌, length, Option, Some, None, slice_get}
 use Rattle.type_layout.specs.declared.definitions.TypeId.{TypeId}
+use Rattle.type_layout.specs.declared.definitions.Header.{Header}
 use Rattle.typed_tree.specs.declared.units.Routine.{Routine}
-use Rattle.well_formed.specs.Fits.{definition, IsSome, IsValue}
-use Rattle.well_formed.specs.Scopes.{Scope, HasType, IsGlobal, variables_of}
+use Rattle.type_fits.specs.Fits.{definition, IsSome, IsValue}
+use Rattle.type_fits.specs.Routines.{variables_of}
+use Rattle.well_formed.specs.Scopes.{Prototype, Scope, HasType, IsGlobal, HasRoutine}
 use Rattle.scopes.specs.declared.entries.Entry.{Entry}
 use Rattle.scopes.specs.declared.entries.Entry.TheVariants as entry
 use Rattle.scopes.specs.declared.entries.BlockKind.{BlockKind}
@@ -12,7 +14,7 @@ use Rattle.scopes.specs.declared.searches.OpenBlock.{OpenBlock}
 use Rattle.scopes.specs.Symbols.{SymbolList}
 use Rattle.scopes.specs.Environment.{Environment}
 use Rattle.typed_nodes.specs.Tables.{IsInTable, IsHeaderIn, IsSound}
-use Rattle.typed_calls.specs.Laws.{IsDeclared}
+use Rattle.typed_calls.specs.Laws.{IsFree}
 use Rattle.typed_methods.specs.Declared.{HasMethods}
 use Rattle.typed_allocations.specs.Laws.{MayBeValue}
 
@@ -71,13 +73,18 @@ abbrev pub IsAtDepth : Scope → ℕ → ℕ → ℕ → Type 0
 IsAtDepth s zero number level = (one : Routine) × (slice_get s.routines number ≡ Some one) × IsDeep s.routines level one.outer
 IsAtDepth s (suc unit) number level = Unit {0}
 
+-- a routine that is no method, with this header, which is declared in the innermost of these
+pub record IsDeclaredIn (around : List ℕ) (header : Header) (one : Prototype) : Type 0 where
+  pub free : IsFree header one
+  pub outer : one.outer ≡ first_in around
+
 -- what an entry means is there, where the blocks of these routines are open
 abbrev pub IsEntry : Scope → List ℕ → Entry → Type 0
 IsEntry s around (entry.Const ty v) = IsValue s.types v (definition s.types ty)
 IsEntry s around (entry.Ty ty) = IsInTable s.types ty
 IsEntry s around (entry.Var unit level number ty) = HasType s ty × IsVariableIn s around level unit number ty
 IsEntry s around (entry.Code routine level header far) =
-    IsDeclared s routine header × IsHeaderIn s.types header × MayBeValue s routine level header far × IsAtDepth s routine.unit routine.number level
+    HasRoutine (IsDeclaredIn around header) s routine × IsHeaderIn s.types header × MayBeValue s routine level header far × IsAtDepth s routine.unit routine.number level
 IsEntry s around (entry.Std number) = Unit {0}
 
 -- each entry of a list of names
@@ -132,4 +139,4 @@ levels_in routines (number ∷ around) = variables_at (slice_get routines number
 
 -- what the nodes of the innermost routine may name
 abbrev pub scope_over : Scope → List ℕ → Scope
-scope_over s around = record s { levels = levels_in s.routines around; withs = [] }
+scope_over s around = record s { around = around; levels = levels_in s.routines around; withs = [] }

@@ -1,3 +1,4 @@
 pub mod Known
+pub mod Others
 pub mod Growing
 pub mod Laws

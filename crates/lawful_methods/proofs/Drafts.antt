@@ -19,7 +19,7 @@ use Rattle.syntax_tree.specs.declared.statement.CompoundStatement.{CompoundState
 use Rattle.type_tree.specs.declared.parameter.MethodHeader.{MethodHeader}
 use Rattle.source_tree.specs.declared.declaration.RoutineHeader.{RoutineHeader}
 use Rattle.typed_tree.specs.Statements.{Statement}
-use Rattle.well_formed.specs.Fits.{definition}
+use Rattle.type_fits.specs.Fits.{definition}
 use Rattle.scopes.specs.declared.entries.Entry.{Entry}
 use Rattle.scopes.specs.declared.entries.Entry.TheVariants as entry
 use Rattle.scopes.specs.declared.entries.BlockKind.TheVariants as block
@@ -35,13 +35,8 @@ use Rattle.routines.specs.Headings.{name_of, announced_by, announced, heading, i
 use Rattle.routines.specs.Methods.{method_at, declared_method, own_method, is_owner, is_awaited, method_opened_by, method_opened}
 use Rattle.routines.specs.Insides.{self_entered, params_entered, inside, done, closed, ended}
 use Rattle.typed_nodes.proofs.Assigned.{same_id}
-use Rattle.known_names.specs.Known.{open_in, EachIn}
-use Rattle.known_names.proofs.Finding.{found_inner}
-use Rattle.known_names.proofs.Entering.{blocks_join, named_each, closed_each}
-use Rattle.checked_routines.specs.Reading.{IsBottom}
-use Rattle.checked_routines.proofs.Bottoms.{named_bottom, more_bottom, closed_bottom}
-use Rattle.checked_routines.proofs.Entered.{entered_is}
-use Rattle.checked_routines.proofs.Grown.{inside_keeps}
+use Rattle.checked_units.specs.Below.{open_in, EachIn, IsBottom}
+use Rattle.checked_units.proofs.Below.{found_inner, blocks_join, named_each, closed_each, named_bottom, more_bottom, closed_bottom, entered_is, inside_keeps}
 use Rattle.lawful_methods.proofs.Numbered.{in_class, HaveRoutines, free_on, finished_on}
 
 pub narrow_most : (n : ℕ) → narrow n ≤ 4294967295

@@ -5,3 +5,5 @@ pub mod Routines
 pub mod Tables
 pub mod Sources
 pub mod Whole
+pub mod Below
+pub mod BelowMore

@@ -7,15 +7,13 @@ use Rattle.type_layout.specs.declared.definitions.Method.{Method}
 use Rattle.type_layout.specs.declared.definitions.TypeDef.{TypeDef}
 use Rattle.type_layout.specs.Table.{Table}
 use Rattle.type_layout.proofs.Local.{slice_get-append}
-use Rattle.well_formed.specs.Fits.{definition}
+use Rattle.type_fits.specs.Fits.{definition}
 use Rattle.scopes.specs.Members.{narrow}
 use Rattle.scopes.specs.Environment.{Environment}
 use Rattle.method_rules.specs.Slots.{methods_of}
 use Rattle.routines.specs.Drafts.{Done, Numbered, finishing}
 use Rattle.routines.specs.Methods.{method_announced, awaiting}
-use Rattle.checked_routines.proofs.Lists.{finished_at, finished_kept}
-use Rattle.checked_routines.proofs.Steps.{snoc_at}
-use Rattle.checked_parts.proofs.Objects.{Awaits, joined_at, behind_at, some_object}
+use Rattle.checked_units.proofs.Below.{finished_at, finished_kept, snoc_at, Awaits, joined_at, behind_at, some_object}
 use Rattle.lawful_methods.proofs.Answers.{low_or_not}
 
 -- the methods that a type of a table declares

@@ -28,14 +28,11 @@ use Rattle.routines.specs.Headings.{begins}
 use Rattle.routines.specs.Methods.{of_part, of_declarations}
 use Rattle.routines.specs.Insides.{site_in}
 use Rattle.routines.specs.Blocks.{part_judged, judged, all_judged}
-use Rattle.known_names.specs.Known.{open_in, EachOf}
+use Rattle.checked_units.specs.Below.{open_in, EachOf}
 use Rattle.declared_names.specs.Declaring.{typing, with_names}
 use Rattle.declared_parts.specs.Declaring.{IsDeclaredIn, AreDeclaredIn}
 use Rattle.declared_parts.proofs.Parts.{part_adds}
-use Rattle.checked_parts.proofs.Tables.{AddsPlain, none_added, plain_then, plain_at, entered_plain, type_plain}
-use Rattle.checked_parts.proofs.Objects.{Awaits, plain_awaits, types_await, plain_types}
-use Rattle.checked_parts.proofs.Rows.{constants_plain_part}
-use Rattle.checked_parts.proofs.Names.{names_each, names_bottom}
+use Rattle.checked_units.proofs.Below.{AddsPlain, none_added, plain_then, plain_at, entered_plain, type_plain, Awaits, plain_awaits, types_await, plain_types, constants_plain_part, names_each, names_bottom}
 use Rattle.lawful_methods.proofs.Numbered.{awaits_on}
 use Rattle.lawful_methods.proofs.Drafts.{IsFew, AreOpen, some_open, IsReading, reading_at, heading_read, opened_read, method_read, inside_read, ended_read}
 

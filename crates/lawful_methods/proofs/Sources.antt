@@ -22,12 +22,10 @@ use Rattle.scopes.specs.Environment.{Environment}
 use Rattle.unit_interface.specs.declared.interfaces.Interface.{Interface}
 use Rattle.routines.specs.Trees.{Works, view_declarations}
 use Rattle.routines.specs.Drafts.{Numbered, Drafted, Stage, stage, knowing}
-use Rattle.tp_check_decl.specs.Units.{Finished, Whole, view_routine, view_unit, finished}
-use Rattle.tp_check_decl.specs.Programs.{unit_site, empty_draft, declarations_judged}
-use Rattle.tp_check_decl.specs.Endings.{all_finished, ended}
-use Rattle.tp_check_decl.specs.Interfaces.{items_of, all_declared, declared, interface_judged}
-use Rattle.tp_check_decl.specs.Checked.{IsTypedAs}
-use Rattle.interface_laws.proofs.UsesGrow.{used_grows}
+use Rattle.agreed_programs.specs.Below.{Finished, Whole, view_routine, view_unit, finished, unit_site, empty_draft, all_finished, ended, items_of, all_declared, declared, IsTypedAs}
+use Rattle.tp_check_decl.specs.Programs.{declarations_judged}
+use Rattle.tp_check_decl.specs.Interfaces.{interface_judged}
+use Rattle.agreed_programs.proofs.Below.{used_grows}
 use Rattle.checked_units.proofs.Finished.{slot_at, view_back}
 use Rattle.agreed_programs.proofs.Using.{used_bare}
 use Rattle.agreed_programs.proofs.Units.{ended_types, ended_name, AreUsedSo, IsFirstScope}

@@ -11,15 +11,15 @@ use Rattle.type_layout.specs.declared.definitions.TypeDef.{TypeDef}
 use Rattle.type_layout.specs.declared.definitions.TypeDef.TheVariants as type
 use Rattle.type_layout.specs.Table.{Table, HasMethodsOf}
 use Rattle.type_layout.proofs.Local.{slice_get-append}
-use Rattle.well_formed.specs.Fits.{definition}
+use Rattle.type_fits.specs.Fits.{definition}
 use Rattle.method_rules.specs.Slots.{methods_of}
 use Rattle.unit_interface.specs.declared.keys.Key.{Key}
 use Rattle.unit_interface.specs.Merge.{key_of, keys_of}
 use Rattle.unit_interface.specs.Keyed.{IsKeyed}
 use Rattle.unit_interface.proofs.KeyLaws.{keys_stay}
 use Rattle.routines.specs.Drafts.{Numbered}
-use Rattle.interface_laws.proofs.Growing.{Grows}
-use Rattle.checked_parts.proofs.Objects.{nothing_at}
+use Rattle.agreed_programs.proofs.Below.{Grows}
+use Rattle.checked_units.proofs.Below.{nothing_at}
 use Rattle.told_types.specs.Told.{Stands}
 use Rattle.told_types.proofs.Known.{keys_long, key_there}
 use Rattle.agreed_programs.specs.Told.{AreOwned}

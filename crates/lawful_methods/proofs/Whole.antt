@@ -30,8 +30,7 @@ use Rattle.method_rules.specs.Slots.{methods_of}
 use Rattle.tp_outside.specs.Folder.{Folder}
 use Rattle.tp_lexer.specs.declared.token.Text.{Text}
 use Rattle.source_gathering.specs.Walk.{Gathers}
-use Rattle.source_interfaces.specs.Scopes.{outer_scope}
-use Rattle.front_end.specs.Typed.{IsProgram}
+use Rattle.agreed_programs.specs.Below.{outer_scope, IsProgram}
 use Rattle.agreed_programs.specs.Laws.{AgreedLaw, ListedLaw, DeclarersLaw, ClassesLaw}
 use Rattle.agreed_programs.proofs.Keys.{class_of, declared_at}
 use Rattle.agreed_programs.proofs.Whole.{listed}
@@ -45,7 +44,7 @@ use Rattle.lawful_methods.proofs.Sources.{source_methods}
 -- ---- lists of methods
 
 -- a place of a list that is mapped to what another is mapped to
-alike_at : {X D : Type 0} (f g : X → D) (xs ys : List X) (place : ℕ) (x : X) → map f xs ≡ map g ys → slice_get xs place ≡ Some x → (y : X) × (slice_get ys place ≡ Some y) × (g y ≡ f x)
+pub alike_at : {X D : Type 0} (f g : X → D) (xs ys : List X) (place : ℕ) (x : X) → map f xs ≡ map g ys → slice_get xs place ≡ Some x → (y : X) × (slice_get ys place ≡ Some y) × (g y ≡ f x)
 alike_at f g [] ys place x e at = absurd cc
 alike_at f g (z ∷ xs) [] place x e at = absurd cc
 alike_at f g (z ∷ xs) (y ∷ ys) zero x e at =
@@ -56,7 +55,7 @@ alike_at f g (z ∷ xs) (y ∷ ys) (suc place) x e at =
     alike_at f g xs ys place x rest at
 
 -- the routine of a unit with a number
-routine_found : (program : Program) (unit : typed.Unit) (number : ℕ) (routine : Routine) → IsUnit program unit → slice_get unit.routines number ≡ Some routine
+pub routine_found : (program : Program) (unit : typed.Unit) (number : ℕ) (routine : Routine) → IsUnit program unit → slice_get unit.routines number ≡ Some routine
     → callee_of program (record { unit = unit.name; number = number }) ≡ Ok (record { unit = unit; number = number; routine = routine })
 routine_found program unit number routine there is =
     let end : Option Routine → Found Callee = λ o. known o >>= λ routine. Ok (record { unit = unit; number = number; routine = routine }) in
@@ -103,7 +102,7 @@ module _ (program : Program) (agreed : AreAgreed program) (declarers : HasDeclar
   by_alike class unit ty name parent dynamic fields methods place method key there named is here at keyed one defined alike = absurd alike
 
   -- what a unit declares is in its table
-  declared_type : (unit : typed.Unit) → IsUnit program unit → (ty : TypeId) (name : Class) → declared unit.types ty ≡ Some name → (one : TypeDef) × (slice_get unit.types.types ty.0 ≡ Some one)
+  pub declared_type : (unit : typed.Unit) → IsUnit program unit → (ty : TypeId) (name : Class) → declared unit.types ty ≡ Some name → (one : TypeDef) × (slice_get unit.types.types ty.0 ≡ Some one)
   declared_type unit there ty name is =
       let law = (agreed.lawful unit there).well_formed in
       option_and_then_some (class_by unit.types) (slice_get unit.types.origins ty.0) name is
@@ -127,7 +126,7 @@ module _ (program : Program) (agreed : AreAgreed program) (declarers : HasDeclar
 -- ---- the units of a program
 
 module _ (held : Folder) (name : List ℕ) (texts : List Text) (sources : List Source) (gathers : Gathers held name texts sources) (program : Program) (is : IsProgram sources program) where
-  unit_methods : (unit : typed.Unit) → IsUnit program unit → HasOwn unit
+  pub unit_methods : (unit : typed.Unit) → IsUnit program unit → HasOwn unit
   unit_methods unit there =
       let t = source_of held name texts sources gathers program is unit there in
       let s : Source = t.source in

@@ -9,14 +9,14 @@ use Rattle.source_gathering.specs.Walk.{Gathers}
 use Rattle.typed_tree.specs.declared.units.Routine.{Routine}
 use Rattle.typed_tree.specs.declared.units.Unit.{Unit as TypedUnit}
 use Rattle.typed_tree.specs.declared.units.Program.{Program}
-use Rattle.well_formed.specs.Fits.{definition}
+use Rattle.type_fits.specs.Fits.{definition}
 use Rattle.object_vmt.specs.Dispatch.{IsLawful, AnswersAlike}
 use Rattle.method_rules.specs.Slots.{methods_of}
 use Rattle.declared_types.specs.Agreement.{IsUnit}
 use Rattle.typed_programs.specs.WellTyped.{HasMethods, IsSoundUnit, IsWellTyped}
 use Rattle.declared_methods.specs.Laws.{HasLawfulMethods}
 use Rattle.agreed_programs.specs.Laws.{IsKeptTable}
-use Rattle.front_end.specs.Typed.{IsProgram}
+use Rattle.agreed_programs.specs.Below.{IsProgram}
 
 -- Where no rule on fields and overrides fails in a table, a method that overrides another has its header.
 abbrev pub AnswersLaw : Type 0

@@ -17,7 +17,7 @@ use Rattle.meaning.specs.Programs.{is_overlaid}
 use Rattle.meaning.specs.Outcomes.{State, Outcome, Over, Does, ◌>>◌, and_then, give, looked, changed}
 use Rattle.meaning.specs.Activations.{Activation, Callee, callee_of, variable_object, result_trees, opened, levels_around, class_set, is_constructor, result_of}
 use Rattle.meaning.specs.Calls.{Flow, Next, Do, Runs, activation_of, activated, entered}
-use Rattle.well_formed.specs.Scopes.{variables_of}
+use Rattle.type_fits.specs.Routines.{variables_of}
 use Rattle.meaning.specs.Meaning.{run_by, run, start_state, start_activation, started, seen_so, seen_of, mean}
 use Rattle.literal_programs.specs.Literals.{said, IsMain, Says}
 use Rattle.literal_programs.proofs.Played.{behind, played, statement_played}

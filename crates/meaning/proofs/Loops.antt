@@ -15,7 +15,7 @@ use Rattle.typed_tree.specs.Expressions.{Expression}
 use Rattle.typed_tree.specs.Statements.{Statement, For}
 use Rattle.values.specs.Ordinals.{IsValueOf}
 use Rattle.values.proofs.OrdinalLemmas.{storage_laws}
-use Rattle.well_formed.specs.Fits.{stored_as}
+use Rattle.type_fits.specs.Fits.{stored_as}
 use Rattle.meaning.specs.Trees.{Ordinal, Spot, Tree, holding, unset, part_at, with_part}
 use Rattle.meaning.specs.Found.{Found, ◌>>=◌, known}
 use Rattle.meaning.specs.Shapes.{stored_among, kept_as}

@@ -10,8 +10,8 @@ use Rattle.typed_tree.specs.declared.units.Program.{Program}
 use Rattle.typed_tree.specs.Statements.{view_stmt}
 use Rattle.typed_tree.specs.Expressions.{Expression, Const, RoutineValue, Load, Unary, Binary, Convert, Range, SetOf, Call, CallVirtual, CallThrough, Std, Make, Place, Var, Deref, Index, FieldOf, Receiver, NoReceiver, Own, Elements as Listed, NoElements, One, Span, Arguments, NoArguments, ByValue, ByPlace, type_of}
 use Rattle.values.specs.Sets.{with_range}
-use Rattle.well_formed.specs.Fits.{stored_as, field_type}
-use Rattle.well_formed.specs.Scopes.{variables_of}
+use Rattle.type_fits.specs.Fits.{stored_as, field_type}
+use Rattle.type_fits.specs.Routines.{variables_of}
 use Rattle.meaning.specs.Trees.{Key, Spot, Value, Ordinal, Text, Elements, Block, Code, Void}
 use Rattle.meaning.specs.Shapes.{parts_at, field_place}
 use Rattle.meaning.specs.Store.{next_serial, followed, number_of, without}

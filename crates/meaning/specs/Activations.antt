@@ -11,7 +11,7 @@ use Rattle.typed_tree.specs.declared.expressions.Variable.{Variable}
 use Rattle.typed_tree.specs.declared.units.Routine.{Routine}
 use Rattle.typed_tree.specs.declared.units.Unit.{Unit as TypedUnit}
 use Rattle.typed_tree.specs.declared.units.Program.{Program}
-use Rattle.well_formed.specs.Scopes.{variables_of}
+use Rattle.type_fits.specs.Routines.{variables_of}
 use Rattle.meaning.specs.Trees.{Key, Spot, Value, Text, Class, At, Void, Tree, holding}
 use Rattle.meaning.specs.Found.{IllTyped, Found, ◌>>=◌, known}
 use Rattle.meaning.specs.Shapes.{new_tree, parts_at, class_place}

@@ -7,7 +7,7 @@ use Rattle.typed_tree.specs.declared.units.Program.{Program}
 use Rattle.typed_tree.specs.Statements.{Statement, view_stmt}
 use Rattle.typed_tree.specs.Frames.{frame_of}
 use Rattle.values.specs.Strings.{upper}
-use Rattle.well_formed.specs.Scopes.{variables_of}
+use Rattle.type_fits.specs.Routines.{variables_of}
 use Rattle.meaning.specs.Trees.{Key, Spot, Value, Ordinal, Text, Void}
 use Rattle.meaning.specs.Store.{next_serial, without}
 use Rattle.meaning.specs.Programs.{is_overlaid, stack_of, overlay_file, integer_sort, overlay_result, Sort, class_sort, method_in}

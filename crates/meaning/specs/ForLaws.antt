@@ -8,7 +8,7 @@ use Rattle.typed_tree.specs.declared.units.Program.{Program}
 use Rattle.typed_tree.specs.Expressions.{Expression}
 use Rattle.typed_tree.specs.Statements.{Statement, For}
 use Rattle.values.specs.Ordinals.{IsValueOf}
-use Rattle.well_formed.specs.Fits.{stored_as}
+use Rattle.type_fits.specs.Fits.{stored_as}
 use Rattle.meaning.specs.Trees.{Tree}
 use Rattle.meaning.specs.Shapes.{stored_among}
 use Rattle.meaning.specs.Store.{Store, tree_at}

@@ -12,7 +12,7 @@ use Rattle.values.specs.Numerals.{val_of}
 use Rattle.values.specs.Written.{padded, integer_text, boolean_text}
 use Rattle.values.specs.Input.{is_eof, is_eoln}
 use Rattle.values.specs.Blocks.{rounded, block_sum, with_block}
-use Rattle.well_formed.specs.Fits.{stored_as}
+use Rattle.type_fits.specs.Fits.{stored_as}
 use Rattle.meaning.specs.Trees.{Key, Value, Ordinal, Text, Nil, Block, At}
 use Rattle.meaning.specs.Found.{Act, Error, IllTyped, Found, ◌>>=◌, known}
 use Rattle.meaning.specs.Shapes.{new_tree, kept_as, parts_at, class_place}

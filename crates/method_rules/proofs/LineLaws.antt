@@ -9,7 +9,7 @@ use Rattle.type_layout.specs.Table.{IsDefinedOver, AllDefined}
 use Rattle.type_layout.proofs.Given.{length-given_by, get_or-given_by-middle, get_or-given_by-front}
 use Rattle.type_layout.proofs.Local.{within_if_object}
 use Rattle.type_layout.proofs.Measured.{round}
-use Rattle.well_formed.specs.Fits.{parent_of}
+use Rattle.type_fits.specs.Fits.{parent_of}
 use Rattle.object_vmt.specs.Members.{Members, no_members, members_by, members_rule, members_of, members_in}
 use Rattle.object_vmt.proofs.Lines.{place_below}
 use Rattle.method_rules.specs.Slots.{methods_of, methods_within, AreLines}

@@ -3,7 +3,7 @@ use Rattle.std.proofs.Common.{◌≡◌, ℕ, suc, List, [], ◌++◌, Some, sym
 use Rattle.type_layout.specs.declared.definitions.TypeId.{TypeId}
 use Rattle.type_layout.specs.declared.definitions.Method.{Method}
 use Rattle.type_layout.specs.declared.definitions.TypeDef.{TypeDef}
-use Rattle.well_formed.specs.Fits.{definition, parent_of}
+use Rattle.type_fits.specs.Fits.{definition, parent_of}
 use Rattle.object_vmt.specs.Slots.{slots_from, slots_of}
 use Rattle.object_vmt.proofs.SlotLaws.{slots_from-append}
 use Rattle.method_rules.specs.Slots.{methods_of, methods_within}

@@ -9,7 +9,7 @@ use Rattle.type_layout.specs.declared.texts.Place.{Place}
 use Rattle.type_layout.specs.Words.{same_bytes}
 use Rattle.typed_tree.specs.Expressions as tree
 use Rattle.typed_tree.specs.Expressions.{Expression, Load, view_place}
-use Rattle.well_formed.specs.Fits.{definition}
+use Rattle.type_fits.specs.Fits.{definition}
 use Rattle.scopes.specs.declared.members.Member.{Member}
 use Rattle.scopes.specs.Members.{narrow, member_of}
 use Rattle.scopes.specs.Environment.{Environment}

@@ -5,7 +5,7 @@ use Rattle.type_layout.specs.declared.definitions.Method.{Method}
 use Rattle.type_layout.specs.declared.definitions.TypeDef.{TypeDef}
 use Rattle.type_layout.specs.declared.definitions.TypeDef.TheVariants as type
 use Rattle.type_layout.specs.Words.{same_bytes}
-use Rattle.well_formed.specs.Fits.{definition, parent_of}
+use Rattle.type_fits.specs.Fits.{definition, parent_of}
 use Rattle.scopes.specs.Members.{narrow}
 use Rattle.object_vmt.specs.Members.{members_of, members_in}
 use Rattle.object_vmt.specs.Slots.{slots_of}

@@ -3,7 +3,7 @@
 ghost use Rattle.std.specs.Prelude.{◌≡◌, Some, IfOk, option_copied, position};
 ghost use Rattle.std.specs.List.{list_any};
 ghost use Rattle.type_layout.specs.Words.{same_bytes};
-ghost use Rattle.well_formed.specs.Fits.{parent_of};
+ghost use Rattle.type_fits.specs.Fits.{parent_of};
 ghost use Rattle.scopes.specs.Members.{narrow};
 ghost use Rattle.object_vmt.specs.Slots.{with_slot, slots_from, slots_of};
 ghost use Rattle.method_rules.specs.Slots.{AreLines, methods_of, methods_within, slot_in, slot_of};

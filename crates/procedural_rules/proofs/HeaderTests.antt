@@ -7,7 +7,7 @@ use Rattle.type_layout.specs.declared.definitions.Kind.{Kind}
 use Rattle.type_layout.specs.declared.definitions.Kind.TheVariants as kind
 use Rattle.type_layout.specs.declared.definitions.Header.{Header}
 use Rattle.object_vmt.specs.Rules.{kind_number, same_flag, same_param, same_params, same_result, same_header}
-use Rattle.well_formed.specs.Fits.{shape_of, AreSameHeaders}
+use Rattle.type_fits.specs.Fits.{shape_of, AreSameHeaders}
 
 tells_kind : (one other : Kind) → Decides (nat_eq (kind_number one) (kind_number other)) (one ≡ other)
 tells_kind kind.Procedure kind.Procedure = (λ e. refl, λ e. refl)

@@ -9,7 +9,7 @@ use Rattle.type_layout.specs.declared.definitions.TypeDef.TheVariants as type
 use Rattle.type_layout.specs.declared.texts.Place.{Place}
 use Rattle.typed_tree.specs.Expressions as tree
 use Rattle.typed_tree.specs.Expressions.{Expression, Const, RoutineValue, Load, Unary, Binary, Convert, Range, SetOf, Call, CallVirtual, CallThrough, Std, Make}
-use Rattle.well_formed.specs.Fits.{definition, AreSameHeaders}
+use Rattle.type_fits.specs.Fits.{definition, AreSameHeaders}
 use Rattle.object_vmt.specs.Rules.{same_header}
 use Rattle.scopes.specs.Environment.{Environment}
 use Rattle.typing_rules.specs.declared.faults.Fault.{Fault}

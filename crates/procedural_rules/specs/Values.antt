@@ -8,7 +8,7 @@ use Rattle.type_layout.specs.declared.definitions.TypeDef.TheVariants as type
 use Rattle.type_layout.specs.declared.texts.Place.{Place}
 use Rattle.type_layout.specs.Words.{same_bytes}
 use Rattle.typed_tree.specs.Expressions.{Expression, RoutineValue}
-use Rattle.well_formed.specs.Fits.{definition, AreSameHeaders}
+use Rattle.type_fits.specs.Fits.{definition, AreSameHeaders}
 use Rattle.object_vmt.specs.Rules.{same_header}
 use Rattle.scopes.specs.Environment.{Environment}
 use Rattle.typing_rules.specs.declared.faults.Fault.{Fault}

@@ -7,7 +7,7 @@ use Rattle.type_layout.specs.declared.definitions.Kind.{Kind}
 use Rattle.type_layout.specs.declared.definitions.Kind.TheVariants as kind
 use Rattle.type_layout.specs.declared.definitions.Header.{Header}
 use Rattle.object_vmt.specs.Rules.{kind_number, same_flag, same_param, same_params, same_result, same_header}
-use Rattle.well_formed.specs.Fits.{shape_of, AreSameHeaders, IsSome}
+use Rattle.type_fits.specs.Fits.{shape_of, AreSameHeaders, IsSome}
 use Rattle.routines.specs.Drafts.{Numbered, Done}
 use Rattle.routines.specs.Headings.{same_kind}
 use Rattle.routines.specs.Insides.{is_outer, is_met, IsMet}

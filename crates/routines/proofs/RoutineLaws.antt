@@ -21,7 +21,7 @@ use Rattle.scopes.specs.declared.entries.Entry.TheVariants as entry
 use Rattle.scopes.specs.declared.entries.BlockKind.TheVariants.{Routine}
 use Rattle.scopes.specs.Members.{narrow}
 use Rattle.scopes.specs.Environment.{Environment, with_block}
-use Rattle.well_formed.specs.Fits.{AreSameHeaders, definition}
+use Rattle.type_fits.specs.Fits.{AreSameHeaders, definition}
 use Rattle.typing_rules.specs.declared.faults.Rule.TheVariants as rules
 use Rattle.typing_rules.specs.Faults.{broken, too_large}
 use Rattle.typing_rules.specs.Judgements.{Judgement, makes, refuses, rule, part}

@@ -16,7 +16,7 @@ use Rattle.source_tree.specs.declared.declaration.RoutineHeader.TheVariants as h
 use Rattle.scopes.specs.declared.entries.Entry.{Entry}
 use Rattle.scopes.specs.declared.entries.Entry.TheVariants as entry
 use Rattle.scopes.specs.Environment.{Environment, Meaning, named, find, block_count}
-use Rattle.well_formed.specs.Fits.{AreSameHeaders}
+use Rattle.type_fits.specs.Fits.{AreSameHeaders}
 use Rattle.typing_rules.specs.declared.faults.Rule.TheVariants as rules
 use Rattle.typing_rules.specs.Faults.{broken}
 use Rattle.typing_rules.specs.Judgements.{Judgement, makes, refuses, rule, either, part}

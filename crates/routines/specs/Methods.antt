@@ -22,7 +22,7 @@ use Rattle.source_tree.specs.declared.declaration.DeclarationPart.{DeclarationPa
 use Rattle.source_tree.specs.declared.declaration.DeclarationPart.TheVariants as part_of
 use Rattle.scopes.specs.declared.entries.Entry.TheVariants as entry
 use Rattle.scopes.specs.Environment.{Environment, Meaning, named, find}
-use Rattle.well_formed.specs.Fits.{definition}
+use Rattle.type_fits.specs.Fits.{definition}
 use Rattle.typing_rules.specs.declared.faults.Rule.TheVariants as rules
 use Rattle.typing_rules.specs.Faults.{broken}
 use Rattle.typing_rules.specs.Judgements.{Judgement, makes, refuses, rule, either, part}

@@ -9,7 +9,7 @@ use Rattle.typed_tree.specs.declared.units.Program.{Program}
 use Rattle.typed_tree.specs.Statements.{view_stmt}
 use Rattle.typed_tree.specs.Needs.{statement_need}
 use Rattle.typed_tree.specs.Frames.{argument_bytes, local_bytes, frame_of}
-use Rattle.well_formed.specs.Scopes.{variables_of}
+use Rattle.type_fits.specs.Routines.{variables_of}
 use Rattle.tp_check_decl.specs.Units.{Finished, view_routine, Whole, view_unit}
 use Rattle.meaning.specs.Trees.{Key, Spot, Value}
 use Rattle.meaning.specs.Found as finding

@@ -14,7 +14,7 @@ use Rattle.typed_tree.specs.Expressions.{Expression, Const, RoutineValue, Load, 
 use Rattle.typed_tree.specs.Statements.{Written, Taken, Statement, Assign, CopyAll, Run, If, While, Repeat, Block as Listing, Case, For, With, WriteItems, ReadItems, Halt, Exit, Unmake, Statements, NoStatements, Then, Arms, NoArms, Branch}
 use Rattle.values.specs.Sets.{with_range}
 use Rattle.values.specs.Blocks.{block_sum}
-use Rattle.well_formed.specs.Fits.{stored_as}
+use Rattle.type_fits.specs.Fits.{stored_as}
 use Rattle.tp_check_decl.specs.Units.{view_unit}
 use Rattle.meaning.specs.Trees.{Key, Value, Ordinal, Text, Block, Code, unset}
 use Rattle.meaning.specs.Found as finding

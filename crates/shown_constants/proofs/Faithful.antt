@@ -15,7 +15,7 @@ use Rattle.typed_tree.specs.declared.units.Item.{Item}
 use Rattle.typed_tree.specs.declared.units.Item.TheVariants as item
 use Rattle.typed_tree.specs.declared.units.Unit.{Unit as TypedUnit}
 use Rattle.typed_tree.specs.declared.expressions.Value.TheVariants as value
-use Rattle.well_formed.specs.Fits.{definition, IsValue}
+use Rattle.type_fits.specs.Fits.{definition, IsValue}
 use Rattle.scopes.specs.Predeclared.{type_id}
 use Rattle.typing_rules.specs.Sorts.{char, boolean}
 use Rattle.unit_interface.specs.declared.interfaces.Interface.{Interface}

@@ -9,7 +9,7 @@ use Rattle.type_layout.specs.declared.definitions.TypeDef.TheVariants as type
 use Rattle.type_layout.specs.Layouts.{bounds_of, bounds_at}
 use Rattle.typed_tree.specs.declared.expressions.Value.{Value}
 use Rattle.typed_tree.specs.declared.expressions.Value.TheVariants as value
-use Rattle.well_formed.specs.Fits.{definition, AreElements, IsValue}
+use Rattle.type_fits.specs.Fits.{definition, AreElements, IsValue}
 use Rattle.scopes.specs.Predeclared.{type_id}
 use Rattle.typing_rules.specs.declared.sorts.SetBase.{SetBase}
 use Rattle.typing_rules.specs.declared.sorts.SetBase.TheVariants as over

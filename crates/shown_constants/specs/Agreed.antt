@@ -9,7 +9,7 @@ use Rattle.typed_tree.specs.declared.units.Item.{Item}
 use Rattle.typed_tree.specs.declared.units.Item.TheVariants as item
 use Rattle.unit_interface.specs.Merge.{new_id, renumbered, ids_in, is_new, merged}
 use Rattle.constant_values.specs.Whole.{IsConstantOf}
-use Rattle.well_formed.specs.Fits.{definition}
+use Rattle.type_fits.specs.Fits.{definition}
 use Rattle.scopes.specs.Predeclared.{type_id}
 use Rattle.typing_rules.specs.Sorts.{char, boolean}
 use Rattle.typed_tree.specs.declared.units.Unit.{Unit as TypedUnit}

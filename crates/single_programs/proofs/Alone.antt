@@ -1,25 +1,25 @@
--- The example is a program of one unit that refers only to itself.
-use Rattle.std.proofs.Common.{◌≡◌, ℕ, zero, suc, Bool, List, Some, refl, sym, ap, subst, ◌∙◌}
+-- The example is a program of one unit that supposes nothing of others.
+use Rattle.std.proofs.Common.{◌≡◌, ℕ, zero, suc, Bool, List, [], Some, refl, sym, ap, subst, ◌∙◌}
 use Rattle.std.specs.Prelude.{Option, slice_get}
 use Rattle.std.proofs.lemmas.Option.{same_Some}
 use Rattle.type_layout.specs.declared.definitions.TypeId.{TypeId}
 use Rattle.type_layout.specs.declared.definitions.Field.{Field}
 use Rattle.type_layout.specs.declared.definitions.Method.{Method}
 use Rattle.type_layout.specs.declared.definitions.TypeDef.TheVariants as type
-use Rattle.typed_tree.specs.declared.units.Routine.{Routine}
-use Rattle.typed_tree.specs.Statements.{view_stmt}
 use Rattle.object_vmt.specs.Members.{members_of, members_in}
 use Rattle.object_vmt.specs.Dispatch.{AreAnsweredAlike}
-use Rattle.well_formed.specs.WellFormed.{scope_in}
+use Rattle.well_formed.specs.Scopes.{Others}
 use Rattle.meaning.specs.Trees.{Key}
 use Rattle.meaning.specs.ShownCalls.{Boxed}
 use Rattle.declared_types.specs.Declared.{declared}
 use Rattle.typed_programs.specs.WellTyped.{IsSoundUnit, IsWellTyped}
-use Rattle.typed_programs.specs.Example.{table, main_part, counting, counting_program}
-use Rattle.typed_programs.proofs.Counting.{can_be_met}
-use Rattle.own_references.specs.Own.{IsOwnStatement}
-use Rattle.own_references.specs.Laws.{site_in, IsAlone}
-use Rattle.single_programs.specs.Laws.{DeclaresItsTypes, CanBeAlone}
+use Rattle.typed_programs.specs.Example.{table, counting, counting_program}
+use Rattle.typed_programs.proofs.Counting.{typed, supposes_nothing, can_be_met}
+use Rattle.single_programs.specs.Laws.{IsAlone, DeclaresItsTypes, CanBeAlone}
+
+none_is : {A : Type 0} (one : A) (place : ℕ) → (let l : List A = [] in slice_get l place) ≡ Some one → ⊥
+none_is one zero e = cc
+none_is one (suc place) e = cc
 
 first_origin : (n : ℕ) (key : Key) → declared table (record { 0 = n }) ≡ Some key → n ≡ 0
 first_origin zero key e = refl
@@ -48,24 +48,22 @@ module _ (b : Boxed) where
     methods = λ class parent dynamic fields methods place method e at. absurd (no_object class.0 parent dynamic fields methods e);
   }
 
-  body : (number : ℕ) (routine : Routine) → slice_get (counting b).routines number ≡ Some routine
-      → IsOwnStatement (site_in (counting_program b) (counting b) number) (scope_in (counting b) number) (view_stmt routine.body)
-  body zero routine e =
-      subst (λ (r : Routine). IsOwnStatement (site_in (counting_program b) (counting b) 0) (scope_in (counting b) 0) (view_stmt r.body)) (same_Some (main_part b) routine e)
-      ((λ level. refl), ((λ level. refl), tt))
-  body (suc number) routine e = absurd cc
-
   alone : IsAlone (counting_program b) (counting b)
   alone =
       let met : IsWellTyped (counting_program b) = can_be_met b in
       let unit : IsSoundUnit (counting_program b) (counting b) = met.units (counting b) refl in
       record {
         single = record { units = refl; lawful = met.agreed.lawful (counting b) refl; apart = apart };
-        own = unit.own;
-        well_formed = unit.well_formed;
-        globals = unit.globals;
-        routines = unit.routines;
-        bodies = body;
+        parts = record { own = unit.own; globals = unit.globals; routines = unit.routines };
+        marked = λ class parent dynamic fields methods place method e at is. absurd (no_object class.0 parent dynamic fields methods e);
+        supported = record {
+          formed = typed b;
+          held = record {
+            units = λ one is. absurd (none_is one is.0 (subst (λ (o : Others). slice_get o.units is.0 ≡ Some one) (supposes_nothing b) is.1));
+            globals = λ one is low. absurd (none_is one is.0 (subst (λ (o : Others). slice_get o.globals is.0 ≡ Some one) (supposes_nothing b) is.1));
+            routines = λ one is low. absurd (none_is one is.0 (subst (λ (o : Others). slice_get o.routines is.0 ≡ Some one) (supposes_nothing b) is.1));
+          };
+        };
       }
 
 pub can_be_alone : CanBeAlone

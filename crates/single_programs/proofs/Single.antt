@@ -1,9 +1,10 @@
 -- A program of one unit is well-typed.
 use Rattle.std.proofs.Common.{◌≡◌, ℕ, Bool, true, false, List, [], Some, None, refl, sym, ap, subst, ◌∙◌}
-use Rattle.std.specs.Prelude.{Option, Ok, slice_get, if◌then◌else◌}
+use Rattle.std.specs.Prelude.{Option, Ok, All, slice_get, if◌then◌else◌}
 use Rattle.std.specs.Option.{option_map}
 use Rattle.std.specs.Cmp.Lexicographic.{bytes_decides}
 use Rattle.std.proofs.lemmas.Option.{same_Some}
+use Rattle.std.proofs.lemmas.List.Elements.{All-nil, All-cons}
 use Rattle.type_layout.specs.declared.definitions.TypeId.{TypeId}
 use Rattle.type_layout.specs.declared.definitions.Method.{Method}
 use Rattle.type_layout.specs.declared.definitions.TypeDef.TheVariants as type
@@ -27,10 +28,10 @@ use Rattle.declared_methods.specs.Laws.{HasLawfulMethods}
 use Rattle.declared_methods.proofs.Whole.{has_methods}
 use Rattle.declared_classes.specs.Laws.{HasDeclarers}
 use Rattle.declared_classes.proofs.Found.{has_classes}
-use Rattle.own_references.specs.Laws.{IsAlone}
-use Rattle.own_references.proofs.Statements.{alone_is_well_typed}
+use Rattle.unit_references.specs.Units.{HasSoundParts, AreMarked, IsSupported, HasSoundUnits}
+use Rattle.unit_references.proofs.Whole.{well_typed}
 use Rattle.sound_programs.proofs.Runs.{never_stop}
-use Rattle.single_programs.specs.Laws.{IsOwnMethod, DeclaresItsTypes, AloneNeverStops}
+use Rattle.single_programs.specs.Laws.{IsAlone, IsOwnMethod, DeclaresItsTypes, AloneNeverStops}
 
 module _ (program : Program) (unit : TypedUnit) (alone : IsAlone program unit) (own : DeclaresItsTypes unit) where
   only : (other : TypedUnit) → IsUnit program other → other ≡ unit
@@ -91,7 +92,19 @@ module _ (program : Program) (unit : TypedUnit) (alone : IsAlone program unit) (
         subst (λ (s : Sort). AnyMethod s method key) (sym (own_sort class ks)) (method_of class.ty method key one) e;
   }
 
+  sound : HasSoundUnits program
+  sound = record {
+    agreed = agreed;
+    parts = λ other is. subst HasSoundParts (sym (only other is)) alone.parts;
+    marked = λ other is. subst (λ (u : TypedUnit). AreMarked u.types.types) (sym (only other is)) alone.marked;
+    supported = λ other is. subst (IsSupported program) (sym (only other is)) alone.supported;
+  }
+
+  found : All (IsUnit program) program.units
+  found = subst (λ (units : List TypedUnit). All (IsUnit program) units) (sym alone.single.units) (All-cons (IsUnit program) unit [] listed (All-nil (IsUnit program)))
+
 pub alone_never_stops : AloneNeverStops
 alone_never_stops program unit alone own =
     let is = agreed program unit alone own in
-    never_stop program (alone_is_well_typed program unit alone (has_classes program is (declarers program unit alone own)) (has_methods program is (lawful_methods program unit alone own)))
+    never_stop program
+    (well_typed program (found program unit alone own) (sound program unit alone own) (has_classes program is (declarers program unit alone own)) (has_methods program is (lawful_methods program unit alone own)))

@@ -8,13 +8,21 @@ use Rattle.typed_tree.specs.declared.units.Routine.{Routine}
 use Rattle.typed_tree.specs.declared.units.Unit.{Unit as TypedUnit}
 use Rattle.typed_tree.specs.declared.units.Program.{Program}
 use Rattle.object_vmt.specs.Dispatch.{AnswersAlike}
-use Rattle.well_formed.specs.Fits.{AreSameHeaders}
+use Rattle.type_fits.specs.Fits.{AreSameHeaders}
 use Rattle.meaning.specs.Trees.{Key}
 use Rattle.meaning.specs.ShownCalls.{Boxed}
 use Rattle.declared_types.specs.Declared.{declared}
 use Rattle.typed_programs.specs.Example.{counting, counting_program}
 use Rattle.sound_starts.specs.Laws.{IsNeverStopped}
-use Rattle.own_references.specs.Laws.{IsAlone}
+use Rattle.single_units.specs.Laws.{IsSingle}
+use Rattle.unit_references.specs.Units.{HasSoundParts, AreMarked, IsSupported}
+
+-- a program of one well-formed unit that has sound parts, and supposes of others what is so
+pub record IsAlone (program : Program) (unit : TypedUnit) : Type 0 where
+  pub single : IsSingle program unit
+  pub parts : HasSoundParts unit
+  pub marked : AreMarked unit.types.types
+  pub supported : IsSupported program unit
 
 -- a method that a type of the unit declares is one of its routines, for instances of the type
 pub record IsOwnMethod (unit : TypedUnit) (class : TypeId) (method : Method) : Type 0 where
@@ -32,7 +40,7 @@ pub record DeclaresItsTypes (unit : TypedUnit) : Type 0 where
   pub methods : (class : TypeId) (parent : Option TypeId) (dynamic : Bool) (fields : List Field) (methods : List Method) (place : ℕ) (method : Method) → slice_get unit.types.types class.0 ≡ Some (type.ObjectOf parent dynamic fields methods)
       → slice_get methods place ≡ Some method → IsOwnMethod unit class method
 
--- On no input of bytes does a program of one well-formed unit, which refers only to itself, come to an ill-typed step.
+-- On no input of bytes does a program of one such unit come to an ill-typed step.
 abbrev pub AloneNeverStops : Type 0
 AloneNeverStops = (program : Program) (unit : TypedUnit) → IsAlone program unit → DeclaresItsTypes unit → IsNeverStopped program
 

@@ -3,7 +3,7 @@
 
 ghost use Rattle.single_programs.specs.Laws.{AloneNeverStops, CanBeAlone};
 
-/// A program of one well-formed unit that refers only to itself, and declares the methods of its types, never stops at an ill-typed step,
+/// A program of one well-formed unit that supposes of others what is so, and declares the methods of its types, never stops at an ill-typed step,
 /// whatever bytes its input has and however many turns it is given. A program that adds 1 to its variable is one. It does nothing.
 pub fn single_program_laws()
     ensures all { AloneNeverStops }

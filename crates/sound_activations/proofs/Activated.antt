@@ -5,7 +5,7 @@ use Rattle.std.specs.Option.{option_map}
 use Rattle.type_layout.specs.declared.definitions.TypeId.{TypeId}
 use Rattle.typed_tree.specs.declared.units.Unit.{Unit as TypedUnit}
 use Rattle.typed_tree.specs.Statements.{view_stmt}
-use Rattle.well_formed.specs.Scopes.{variables_of}
+use Rattle.type_fits.specs.Routines.{variables_of}
 use Rattle.well_formed.specs.WellFormed.{scope_of, IsOwner}
 use Rattle.meaning.specs.Trees.{Key, Spot, Value}
 use Rattle.meaning.specs.Found.{Found}

@@ -9,7 +9,7 @@ use Rattle.type_layout.specs.declared.definitions.Header.{Header}
 use Rattle.typed_tree.specs.declared.units.Routine.{Routine}
 use Rattle.typed_tree.specs.declared.units.Unit.{Unit as TypedUnit}
 use Rattle.typed_tree.specs.declared.units.Program.{Program}
-use Rattle.well_formed.specs.Scopes.{HasType, HasResult}
+use Rattle.well_formed.specs.Scopes.{Others, HasType, HasResult}
 use Rattle.well_formed.specs.WellFormed.{scope_of, IsRoutine}
 use Rattle.meaning.specs.Trees.{Key, Spot, Value}
 use Rattle.meaning.specs.Found.{◌>>=◌, known}
@@ -60,7 +60,7 @@ all_at P [] each param number e = absurd cc
 all_at P (p ∷ params) each param zero e = subst P (same_Some p param e) (All-head P p params each)
 all_at P (p ∷ params) each param (suc number) e = all_at P params (All-tail P p params each) param number e
 
-module _ (program : Program) (unit : TypedUnit) (listed : IsUnit program unit) (number : ℕ) (routine : Routine) (is : IsRoutine unit number routine) where
+module _ (program : Program) (unit : TypedUnit) (listed : IsUnit program unit) (number : ℕ) (routine : Routine) (others : Others) (is : IsRoutine others unit number routine) where
   pub param_types : (param : Param) (n : ℕ) → slice_get routine.header.params n ≡ Some param → IsKnown program (sort_in unit param.ty)
   param_types param n e = unit_type unit program listed param.ty (all_at (λ (p : Param). HasType (scope_of unit) p.ty) routine.header.params is.params param n e)
 
@@ -103,7 +103,7 @@ module _ (w : World) (agreed : AreAgreed w.program) (routines : HasRoutines w.pr
       let numbered = callee_numbered w.program key callee names.found in
       let sound = routines.routines callee.unit callee.number callee.routine names.listed numbered in
       let params = taken_shared w agreed f.unit callee.unit active.listed header.params callee.routine.header.params (ap (λ (h : DeclaredHeader). h.params) names.same)
-      (param_types w.program callee.unit names.listed callee.number callee.routine sound.well_formed) args takes in
+      (param_types w.program callee.unit names.listed callee.number callee.routine sound.others sound.well_formed) args takes in
       let is : IsCalled w f.levels callee own class args = record {
         listed = names.listed;
         numbered = numbered;
@@ -113,5 +113,5 @@ module _ (w : World) (agreed : AreAgreed w.program) (routines : HasRoutines w.pr
       } in
       ends_more (Gives callee) w (GivesAs f.unit header.result) (entered w.program again f key own class args s)
       (λ more v gives. result_shared (after w more) agreed f.unit callee.unit active.listed header.result callee.routine.header.result (ap (λ (h : DeclaredHeader). h.result) names.same)
-      (result_types w.program callee.unit names.listed callee.number callee.routine sound.well_formed) v gives)
+      (result_types w.program callee.unit names.listed callee.number callee.routine sound.others sound.well_formed) v gives)
       (entered_ends again callee w agreed routines bodies active.globals f key names.found own class args is s typed)

@@ -5,7 +5,8 @@ use Rattle.typed_tree.specs.declared.units.Routine.{Routine}
 use Rattle.typed_tree.specs.declared.units.Unit.{Unit as TypedUnit}
 use Rattle.typed_tree.specs.declared.units.Program.{Program}
 use Rattle.typed_tree.specs.Statements.{view_stmt}
-use Rattle.well_formed.specs.Scopes.{variables_of}
+use Rattle.type_fits.specs.Routines.{variables_of}
+use Rattle.well_formed.specs.Scopes.{Others}
 use Rattle.well_formed.specs.WellFormed.{IsRoutine}
 use Rattle.meaning.specs.Trees.{Key, Spot, Value}
 use Rattle.meaning.specs.Outcomes.{State}
@@ -36,7 +37,8 @@ pub record IsCalled (w : World) (levels : List Level) (callee : Callee) (own : O
 -- a routine of a unit: its types are in the unit's table, no `with` has the number of one of its variables, a method is declared in
 -- no other routine, and instances that a constructor begins have a class
 pub record IsCallable (unit : TypedUnit) (number : ℕ) (routine : Routine) : Type 0 where
-  pub well_formed : IsRoutine unit number routine
+  pub others : Others
+  pub well_formed : IsRoutine others unit number routine
   pub few : length (variables_of routine) < 2 ^ 31
   pub method : is_some routine.owner ≡ true → routine.outer ≡ None
   pub class : routine.header.kind ≡ kind.Constructor → HasClassPart unit.types routine.owner

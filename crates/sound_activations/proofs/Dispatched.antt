@@ -11,7 +11,7 @@ use Rattle.type_layout.specs.declared.definitions.TypeDef.{TypeDef}
 use Rattle.type_layout.specs.declared.definitions.TypeDef.TheVariants as type
 use Rattle.type_layout.specs.Table.{IsObject}
 use Rattle.typed_tree.specs.declared.units.Unit.{Unit as TypedUnit}
-use Rattle.well_formed.specs.Fits.{stored_as, ancestor}
+use Rattle.type_fits.specs.Fits.{stored_as, ancestor}
 use Rattle.meaning.specs.Trees.{Key, Spot, Value}
 use Rattle.meaning.specs.Shapes.{parts_at, class_place}
 use Rattle.meaning.specs.Programs.{Sort, definition, beside, sort_in, class_key, method_in}

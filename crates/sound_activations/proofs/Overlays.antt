@@ -3,7 +3,7 @@ use Rattle.std.proofs.Common.{◌≡◌, ℕ, Bool, true, false, List, [], ◌�
 use Rattle.std.specs.Prelude.{ℤ, pos, negsuc, slice_get}
 use Rattle.type_layout.specs.declared.definitions.Host.TheVariants as host
 use Rattle.type_layout.specs.Storage.{holds}
-use Rattle.well_formed.specs.Standard.{Slot}
+use Rattle.type_fits.specs.Standard.{Slot}
 use Rattle.meaning.specs.Trees.{Key, Value, Ordinal, Void}
 use Rattle.meaning.specs.Store.{Store}
 use Rattle.meaning.specs.Programs.{integer_sort, overlay_name, overlay_file}

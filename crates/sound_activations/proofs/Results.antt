@@ -6,7 +6,7 @@ use Rattle.std.proofs.lemmas.Bool.Decides.{nat_tests}
 use Rattle.type_layout.specs.declared.definitions.TypeId.{TypeId}
 use Rattle.type_layout.specs.declared.definitions.Param.{Param}
 use Rattle.typed_tree.specs.declared.units.Routine.{Routine}
-use Rattle.well_formed.specs.Scopes.{listed, variables_of}
+use Rattle.type_fits.specs.Routines.{listed, variables_of}
 use Rattle.meaning.specs.Store.{Store}
 use Rattle.meaning.specs.Programs.{Sort, sort_in}
 use Rattle.meaning.specs.Activations.{Callee, whole, is_alias, is_self_of, result_number, result_in, result_of}

@@ -10,8 +10,9 @@ use Rattle.type_layout.specs.Table.{IsObject}
 use Rattle.typed_tree.specs.declared.units.Routine.{Routine}
 use Rattle.typed_tree.specs.declared.units.Unit.{Unit as TypedUnit}
 use Rattle.typed_tree.specs.declared.units.Program.{Program}
-use Rattle.well_formed.specs.Fits.{IsSome}
-use Rattle.well_formed.specs.Scopes.{listed, variables_of, HasResult}
+use Rattle.type_fits.specs.Fits.{IsSome}
+use Rattle.type_fits.specs.Routines.{listed, variables_of}
+use Rattle.well_formed.specs.Scopes.{Others, HasResult}
 use Rattle.well_formed.specs.WellFormed.{scope_of, IsOwner, IsRoutine}
 use Rattle.meaning.specs.Programs.{sort_in}
 use Rattle.declared_types.specs.Agreement.{IsUnit, IsKnown}
@@ -58,7 +59,7 @@ module _ (unit : TypedUnit) where
   gets_result None is = gets_none Has
   gets_result (Some ty) is = gets_one Has ty is
 
-  gets_variables : (number : ℕ) (routine : Routine) → IsRoutine unit number routine → Gets Has (variables_of routine)
+  gets_variables : {others : Others} → (number : ℕ) (routine : Routine) → IsRoutine others unit number routine → Gets Has (variables_of routine)
   gets_variables number routine is =
       gets_both Has (map (λ (param : Param). param.ty) routine.header.params) (listed routine.owner ++ (listed routine.header.result ++ routine.locals)) (gets_params Has routine.header.params is.params)
       (gets_both Has (listed routine.owner) (listed routine.header.result ++ routine.locals) (gets_owner routine.owner is.owner)
@@ -73,6 +74,6 @@ module _ (unit : TypedUnit) where
   unit_type program listed ty is = known_of program listed ty (slice_get unit.types.types ty.0) refl is
 
   -- the types of a routine's variables are types of the program
-  pub variable_types : (program : Program) → IsUnit program unit → (number : ℕ) (routine : Routine) → IsRoutine unit number routine
+  pub variable_types : {others : Others} → (program : Program) → IsUnit program unit → (number : ℕ) (routine : Routine) → IsRoutine others unit number routine
       → (n : ℕ) (ty : TypeId) → slice_get (variables_of routine) n ≡ Some ty → IsKnown program (sort_in unit ty)
   variable_types program listed number routine is n ty e = unit_type program listed ty (gets_variables number routine is n ty e)

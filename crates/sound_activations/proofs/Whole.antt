@@ -15,7 +15,7 @@ use Rattle.sound_stores.specs.Worlds.{World}
 use Rattle.sound_stores.specs.Places.{IsSeenAs, Shared, Letter, Whole, IsAt}
 use Rattle.sound_standards.proofs.Sizes.{object_of_class}
 use Rattle.typed_programs.specs.Outcomes.{world}
-use Rattle.typed_programs.specs.WellTyped.{IsSoundUnit, IsWellTyped}
+use Rattle.typed_programs.specs.WellTyped.{NeedsClass, IsSoundUnit, IsWellTyped}
 use Rattle.typed_programs.specs.Tasks.{IsTask, AreSound}
 use Rattle.typed_programs.specs.Calls.{HasSoundCalls}
 use Rattle.sound_activations.proofs.Callers.{IsCallable, HasRoutines, RunsBodies}
@@ -28,7 +28,8 @@ use Rattle.sound_activations.proofs.Overlays.{overlay_ends}
 callable : (program : Program) (unit : TypedUnit) → IsSoundUnit program unit → (number : ℕ) (routine : Routine) → slice_get unit.routines number ≡ Some routine → IsCallable unit number routine
 callable program unit sound number routine is =
     let one = sound.routines number routine is in
-    record { well_formed = sound.well_formed.routines number routine is; few = one.few; method = one.method; class = one.class }
+    let formed = sound.well_formed in
+    record { others = formed.others; well_formed = formed.routines number routine is; few = one.few; method = one.method; class = λ made. one.class (subst NeedsClass (sym made) tt) }
 
 pub routines_of : (program : Program) → IsWellTyped program → HasRoutines program
 routines_of program typed = record { routines = λ unit number routine listed is. callable program unit (typed.units unit listed) number routine is }
@@ -37,9 +38,10 @@ pub bodies_of : (program : Program) (again : Runs) → IsWellTyped program → A
 bodies_of program again typed sound = record {
   bodies = λ made callee f s listed numbered same active state.
       let unit = typed.units callee.unit listed in
-      let routine = unit.well_formed.routines callee.number callee.routine numbered in
+      let formed = unit.well_formed in
+      let routine = formed.routines callee.number callee.routine numbered in
       let task : IsTask (record { program = program; unit = callee.unit; number = callee.number }) [] (Do (view_stmt callee.routine.body)) =
-      record { typed = routine.body; refers = unit.refers callee.number callee.routine numbered } in
+      record { others = formed.others; typed = routine.body; refers = unit.refers callee.number callee.routine numbered } in
       sound made f callee.number [] (Do (view_stmt callee.routine.body)) s active
       (subst (λ (u : TypedUnit). IsTask (record { program = program; unit = u; number = callee.number }) [] (Do (view_stmt callee.routine.body))) (sym same) task) state;
 }

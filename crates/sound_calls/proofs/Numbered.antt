@@ -8,7 +8,7 @@ use Rattle.type_layout.specs.declared.definitions.TypeId.{TypeId}
 use Rattle.type_layout.specs.declared.definitions.Param.{Param}
 use Rattle.typed_tree.specs.declared.units.Routine.{Routine}
 use Rattle.typed_tree.specs.declared.units.Unit.{Unit as TypedUnit}
-use Rattle.well_formed.specs.Scopes.{listed, variables_of}
+use Rattle.type_fits.specs.Routines.{listed, variables_of}
 use Rattle.meaning.specs.Store.{Store, next_serial}
 use Rattle.meaning.specs.Programs.{sort_in}
 use Rattle.meaning.specs.Activations.{Level, Callee, is_alias, around}

@@ -6,7 +6,7 @@ use Rattle.type_layout.specs.declared.definitions.TypeId.{TypeId}
 use Rattle.type_layout.specs.declared.definitions.Param.{Param}
 use Rattle.typed_tree.specs.declared.units.Routine.{Routine}
 use Rattle.typed_tree.specs.declared.units.Unit.{Unit as TypedUnit}
-use Rattle.well_formed.specs.Scopes.{listed}
+use Rattle.type_fits.specs.Routines.{listed}
 use Rattle.meaning.specs.Trees.{Spot, Value, At, Tree, holding}
 use Rattle.meaning.specs.Found.{◌>>=◌}
 use Rattle.meaning.specs.Shapes.{new_tree}

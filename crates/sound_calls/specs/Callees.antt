@@ -4,7 +4,7 @@ use Rattle.type_layout.specs.declared.definitions.TypeId.{TypeId}
 use Rattle.type_layout.specs.declared.definitions.Param.{Param}
 use Rattle.typed_tree.specs.declared.units.Routine.{Routine}
 use Rattle.typed_tree.specs.declared.units.Unit.{Unit as TypedUnit}
-use Rattle.well_formed.specs.Scopes.{listed, variables_of}
+use Rattle.type_fits.specs.Routines.{listed, variables_of}
 use Rattle.meaning.specs.Trees.{Spot, Value, At}
 use Rattle.meaning.specs.Programs.{Sort, sort_in}
 use Rattle.meaning.specs.Activations.{Callee}

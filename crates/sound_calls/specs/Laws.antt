@@ -2,7 +2,7 @@
 use Rattle.std.specs.Prelude.{◌≡◌, ℕ, ◌<◌, ◌^◌, List, ◌++◌, length, slice_get, Option, Some, Ok}
 use Rattle.typed_tree.specs.declared.units.Routine.{Routine}
 use Rattle.typed_tree.specs.declared.units.Unit.{Unit as TypedUnit}
-use Rattle.well_formed.specs.Scopes.{variables_of}
+use Rattle.type_fits.specs.Routines.{variables_of}
 use Rattle.meaning.specs.Trees.{Spot, Value}
 use Rattle.meaning.specs.Store.{Store, next_serial}
 use Rattle.meaning.specs.Activations.{Level, Callee, opened, around}

@@ -8,7 +8,7 @@ use Rattle.type_layout.specs.declared.definitions.TypeDef.{TypeDef}
 use Rattle.type_layout.specs.declared.definitions.TypeDef.TheVariants as type
 use Rattle.type_layout.specs.Table.{IsObject}
 use Rattle.typed_tree.specs.declared.units.Program.{Program}
-use Rattle.well_formed.specs.Standard.{Slot}
+use Rattle.type_fits.specs.Standard.{Slot}
 use Rattle.meaning.specs.Trees.{Key, Value, Ordinal, Text, Elements, Nil, Block, Code, Class, At, Void}
 use Rattle.meaning.specs.Found.{Act, Error, IllTyped, Found}
 use Rattle.meaning.specs.Store.{Store, value_at, routine_of, next_serial}

@@ -13,11 +13,12 @@ use Rattle.type_layout.specs.declared.definitions.TypeDef.TheVariants as type
 use Rattle.typed_tree.specs.declared.expressions.Variable.{Variable}
 use Rattle.typed_tree.specs.declared.units.Program.{Program}
 use Rattle.typed_tree.specs.Expressions.{Expression, Place, Receiver, Elements, Arguments, Const, RoutineValue, Load, Unary, Binary, Convert, Range, SetOf, Call, CallVirtual, CallThrough, Std, Make, Var, Deref, Index, FieldOf, NoReceiver, Own, NoElements, One, Span, NoArguments, ByValue, ByPlace, type_of}
-use Rattle.well_formed.specs.Fits.{definition as definition_in, IsSome, family_of, AreOfOneFamily, Joins, JoinBy, Descends}
-use Rattle.well_formed.specs.Scopes.{Scope}
-use Rattle.well_formed.specs.Standard.{Slot, FitsValue}
-use Rattle.well_formed.specs.Standard.{sort_of as sort_in_table}
-use Rattle.well_formed.specs.Typed.{IsTyped, HasPlace, TakeEach, FillEach, AreTypedElements, FitsUnary, FitsBinary, IsConversion, IsElement, PointsTo, JoinsSome}
+use Rattle.type_fits.specs.Fits.{definition as definition_in, IsSome, family_of, AreOfOneFamily, Joins, JoinBy, Descends}
+use Rattle.well_formed.specs.Scopes.{Others, Scope}
+use Rattle.type_fits.specs.Standard.{Slot, FitsValue}
+use Rattle.type_fits.specs.Standard.{sort_of as sort_in_table}
+use Rattle.type_fits.specs.Operators.{FitsUnary, FitsBinary, IsConversion}
+use Rattle.well_formed.specs.Typed.{IsTyped, HasPlace, TakeEach, FillEach, AreTypedElements, IsElement, PointsTo, JoinsSome}
 use Rattle.meaning.specs.Trees.{Key, Value, Code}
 use Rattle.meaning.specs.Programs.{Sort, definition, sort_in, routine_key}
 use Rattle.meaning.specs.Outcomes.{State, Outcome, ◌>>=◌, give, known, found, looked}
@@ -89,12 +90,12 @@ index_ordinal types ty None at h = absurd h
 
 -- ---- all forms
 
-module _ (program : Program) (well : IsWellTyped program) (again : Runs) (sound : HasSoundCalls program again) (f : Activation) (number : ℕ) (withs : List TypeId) where
+module _ (program : Program) (well : IsWellTyped program) (again : Runs) (sound : HasSoundCalls program again) (f : Activation) (number : ℕ) (withs : List TypeId) (others : Others) where
   abbrev site : Site
   site = record { program = program; unit = f.unit; number = number }
 
   abbrev scope : Scope
-  scope = scope_with site withs
+  scope = scope_with others site withs
 
   abbrev sort_at : TypeId → Sort
   sort_at ty = sort_in f.unit ty
@@ -133,7 +134,7 @@ module _ (program : Program) (well : IsWellTyped program) (again : Runs) (sound 
   variable_ends : (made : List Made) (variable : Variable) (ty : TypeId) (s : State) → HasPlace scope (Var variable) ty → NamesGlobal program f.unit variable ty → Body made → IsTyped' made s
       → Ends (world program made) (PlaceAt (sort_at ty)) (looked (variable_at program f variable) s)
   variable_ends made variable ty s h names k typed =
-      ends_looked (PlaceAt (sort_at ty)) (world program made) (variable_at program f variable) s typed (variable_place (world program made) well.agreed s.store typed.store f number withs variable ty k h names)
+      ends_looked (PlaceAt (sort_at ty)) (world program made) (variable_at program f variable) s typed (variable_place (world program made) well.agreed s.store typed.store others f number withs variable ty k h names)
 
   routine_value : (made : List Made) (ty : TypeId) (routine : RoutineId) (header : Header) (s : State) → definition (sort_at ty) ≡ Some (type.Procedural header) → NamesCode site routine header → IsTyped' made s
       → Ends (world program made) (ValueAt (sort_at ty)) ((known (routine_key f.unit routine) >>= λ key. give (Code key)) s)
@@ -166,7 +167,7 @@ module _ (program : Program) (well : IsWellTyped program) (again : Runs) (sound 
     -- an expression gives a value of its type
     pub value_ends : (made : List Made) (e : Expression) (h : IsTyped scope e) → Refers site scope e h → (s : State) → Body made → IsTyped' made s → Ends (world program made) (GivesAs f.unit (type_of e)) (value program again f e s)
     value_ends made (Const ty v) h r s k typed =
-        ends_done (ValueAt (sort_at ty)) (world program made) (constant_value v) s typed (constant_is (world program made) well.agreed (sort_at ty) v (typed_known made k (Const ty v) ty h refl) h r)
+        ends_done (ValueAt (sort_at ty)) (world program made) (constant_value v) s typed (constant_is (world program made) well.agreed (sort_at ty) v (typed_known made k (Const ty v) ty h refl) h)
     value_ends made (RoutineValue ty routine) h r s k typed = routine_value made ty routine h.0 s h.1 r typed
     value_ends made (Load ty from) h r s k typed = load_ends program well.agreed made (sort_at ty) (place program again f from s) (place_ends made from ty h.1 r s k typed)
     value_ends made (Unary ty op operand) h r s k typed =

@@ -6,8 +6,8 @@ use Rattle.type_layout.specs.declared.definitions.Param.{Param}
 use Rattle.typed_tree.specs.declared.units.Unit.{Unit as TypedUnit}
 use Rattle.typed_tree.specs.declared.units.Program.{Program}
 use Rattle.typed_tree.specs.Expressions.{Expression, Const, Arguments, NoArguments, ByValue, ByPlace, type_of}
-use Rattle.well_formed.specs.Fits.{Descends, Joins}
-use Rattle.well_formed.specs.Standard.{Slot}
+use Rattle.type_fits.specs.Fits.{Descends, Joins}
+use Rattle.type_fits.specs.Standard.{Slot}
 use Rattle.meaning.specs.Trees.{Value, At}
 use Rattle.meaning.specs.Programs.{Sort, sort_in}
 use Rattle.meaning.specs.Outcomes.{State, Outcome, Done, Does, and_then, ◌>>=◌, give, known}

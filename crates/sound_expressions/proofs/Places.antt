@@ -5,7 +5,7 @@ use Rattle.type_layout.specs.declared.definitions.TypeId.{TypeId}
 use Rattle.type_layout.specs.declared.definitions.TypeDef.{TypeDef}
 use Rattle.type_layout.specs.declared.definitions.TypeDef.TheVariants as type
 use Rattle.typed_tree.specs.declared.units.Program.{Program}
-use Rattle.well_formed.specs.Fits.{family_of, field_type, IsSome}
+use Rattle.type_fits.specs.Fits.{family_of, field_type, IsSome}
 use Rattle.well_formed.specs.Typed.{IsElement}
 use Rattle.meaning.specs.Trees.{Key, Value, Ordinal, Text, Elements, Nil, Block, Code, Class, At, Void}
 use Rattle.meaning.specs.Store.{Store, Object, object_at, if_there, followed, number_of}

@@ -11,9 +11,9 @@ use Rattle.typed_tree.specs.declared.expressions.BinaryOp.TheVariants.{Add, Subt
 use Rattle.typed_tree.specs.declared.units.Unit.{Unit as TypedUnit}
 use Rattle.typed_tree.specs.declared.units.Program.{Program}
 use Rattle.typed_tree.specs.Expressions.{Expression, type_of}
-use Rattle.well_formed.specs.Fits.{definition, stored_as, family_of, IsSome, IsInteger, IsBoolean, IsChar, AreOfOneFamily, AreStoredAlike, IsWide, IsString, IsSet, IsPointer, IsReadable, IsWritable}
-use Rattle.well_formed.specs.Standard.{sort_of, Slot, Integer, Ordinal, Char, Text, Pointer, IntegerVariable, OrdinalVariable, TextVariable, PointerVariable, Variable, FitsValue}
-use Rattle.well_formed.specs.Typed.{IsArithmetic, IsLogic, FitsUnary, FitsBinary, AreNumbers, AreSets, AreStrings, AreTruths, IsShift, AreOrdered, AreSetsBoth, ArePointers, IsConversion}
+use Rattle.type_fits.specs.Fits.{definition, stored_as, family_of, IsSome, IsInteger, IsBoolean, IsChar, AreOfOneFamily, AreStoredAlike, IsWide, IsString, IsSet, IsPointer, IsReadable, IsWritable}
+use Rattle.type_fits.specs.Standard.{sort_of, Slot, Integer, Ordinal, Char, Text, Pointer, IntegerVariable, OrdinalVariable, TextVariable, PointerVariable, Variable, FitsValue}
+use Rattle.type_fits.specs.Operators.{IsArithmetic, IsLogic, FitsUnary, FitsBinary, AreNumbers, AreSets, AreStrings, AreTruths, IsShift, AreOrdered, AreSetsBoth, ArePointers, IsConversion}
 use Rattle.meaning.specs.Programs.{sort_in}
 use Rattle.declared_types.specs.Agreement.{IsUnit, IsKnown}
 

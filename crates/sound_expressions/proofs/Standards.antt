@@ -14,9 +14,9 @@ use Rattle.typed_tree.specs.declared.expressions.Value.TheVariants as constant
 use Rattle.typed_tree.specs.declared.units.Unit.{Unit as TypedUnit}
 use Rattle.typed_tree.specs.declared.units.Program.{Program}
 use Rattle.typed_tree.specs.Expressions.{Expression, Const, Arguments, NoArguments, ByValue, ByPlace, type_of}
-use Rattle.well_formed.specs.Fits.{stored_as, held_as, IsPointer, AreStoredAlike}
-use Rattle.well_formed.specs.Fits.{definition as definition_in}
-use Rattle.well_formed.specs.Standard.{sort_of, Slot, Outcome as Result, Nothing, Wide, Holding, Alike, Truth, Letter, Byte, Small, Size, Line, Link, HoldsAll, HoldsValue, HoldsFirst, IsLikeFirst, Gives as IsGiven, IsStandard, abs, sqr, odd, ord, chr, succ, pred, inc, inc_by, dec, dec_by, hi, lo, swap, size, up_case, length_of, copy, delete, insert, concat, position, text, text_in, number, end_of_file, end_of_line, new, new_block, dispose}
+use Rattle.type_fits.specs.Fits.{stored_as, held_as, IsPointer, AreStoredAlike}
+use Rattle.type_fits.specs.Fits.{definition as definition_in}
+use Rattle.type_fits.specs.Standard.{sort_of, Slot, Outcome as Result, Nothing, Wide, Holding, Alike, Truth, Letter, Byte, Small, Size, Line, Link, HoldsAll, HoldsValue, HoldsFirst, IsLikeFirst, Gives as IsGiven, IsStandard, abs, sqr, odd, ord, chr, succ, pred, inc, inc_by, dec, dec_by, hi, lo, swap, size, up_case, length_of, copy, delete, insert, concat, position, text, text_in, number, end_of_file, end_of_line, new, new_block, dispose}
 use Rattle.meaning.specs.Trees.{Value, Ordinal, Block, Void}
 use Rattle.meaning.specs.Programs.{Sort, definition, beside, sort_in, class_key}
 use Rattle.meaning.specs.Outcomes.{State, Outcome, and_then, ◌>>=◌, give, known, found, changed}

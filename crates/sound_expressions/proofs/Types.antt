@@ -11,8 +11,9 @@ use Rattle.typed_tree.specs.declared.expressions.UnaryOp.TheVariants.{Plus, Minu
 use Rattle.typed_tree.specs.declared.expressions.BinaryOp.{BinaryOp}
 use Rattle.typed_tree.specs.declared.expressions.BinaryOp.TheVariants.{Add, Subtract, Multiply, Divide, Modulo, ShiftLeft, ShiftRight, And, Or, Xor, Equal, NotEqual, Less, LessOrEqual, Greater, GreaterOrEqual, In}
 use Rattle.typed_tree.specs.Expressions.{Const, RoutineValue, Load, Unary, Binary, Convert, Range, SetOf, Call, CallVirtual, CallThrough, Std, Make, Var, Deref, Index, FieldOf}
-use Rattle.well_formed.specs.Fits.{definition, stored_as, IsSome, IsValue}
-use Rattle.well_formed.specs.Typed.{sort_of, FitsUnary, FitsBinary, IsConversion}
+use Rattle.type_fits.specs.Fits.{definition, stored_as, IsSome, IsValue}
+use Rattle.type_fits.specs.Operators.{FitsUnary, FitsBinary, IsConversion}
+use Rattle.well_formed.specs.Typed.{sort_of}
 use Rattle.well_formed.specs.Laws.{HaveTypes, PlacesHaveTypes}
 
 value_type : (types : List TypeDef) (value : Value) (one : Option TypeDef) → IsValue types value one → IsSome one

@@ -11,9 +11,9 @@ use Rattle.typed_tree.specs.declared.expressions.Value.TheVariants as constant
 use Rattle.typed_tree.specs.declared.expressions.UnaryOp.{UnaryOp}
 use Rattle.typed_tree.specs.declared.expressions.BinaryOp.{BinaryOp}
 use Rattle.typed_tree.specs.declared.units.Program.{Program}
-use Rattle.well_formed.specs.Fits.{stored_as, family_of, IsSome, IsValue}
-use Rattle.well_formed.specs.Typed.{FitsUnary, FitsBinary, MayBeEarly, IsConversion}
-use Rattle.meaning.specs.Trees.{Key, Value, Ordinal, Elements, Nil, Code}
+use Rattle.type_fits.specs.Fits.{stored_as, family_of, IsSome, IsValue}
+use Rattle.type_fits.specs.Operators.{FitsUnary, FitsBinary, MayBeEarly, IsConversion}
+use Rattle.meaning.specs.Trees.{Key, Value, Elements, Code}
 use Rattle.meaning.specs.Programs.{Sort, definition}
 use Rattle.meaning.specs.Outcomes.{State, Outcome, Done, Does, and_then, ◌>>=◌, found, looked}
 use Rattle.meaning.specs.Operators.{unary, binary, decided, converted, ranged, element_of}
@@ -26,7 +26,6 @@ use Rattle.sound_stores.proofs.Grown.{grows_by, value_grows}
 use Rattle.sound_operators.specs.Laws.{OperatorLaws}
 use Rattle.sound_operators.proofs.Operators.{operator_laws}
 use Rattle.typed_programs.specs.Outcomes.{IsTypedState, world, after, Ends}
-use Rattle.typed_programs.specs.References.{IsOfBytes}
 use Rattle.typed_programs.proofs.Ends.{ends_bind, ends_done, ends_found, ends_looked}
 use Rattle.sound_expressions.proofs.Chains.{Kept, chain}
 
@@ -37,21 +36,21 @@ ValueAt sort w v = IsValueOf w sort v
 -- ---- constants
 
 module _ (w : World) (agreed : AreAgreed w.program) (sort : Sort) where
-  constant_by : (v : Constant) (one : TypeDef) → slice_get sort.table.types sort.ty.0 ≡ Some one → IsKnown w.program sort → IsValue sort.table.types v (Some one) → IsOfBytes v → IsValueBy w sort (Some one) (constant_value v)
-  constant_by (constant.Number n) (type.Ordinal host low high) e ks is bytes = is
-  constant_by (constant.Chars text) (type.Str max) e ks is bytes =
+  constant_by : (v : Constant) (one : TypeDef) → slice_get sort.table.types sort.ty.0 ≡ Some one → IsKnown w.program sort → IsValue sort.table.types v (Some one) → IsValueBy w sort (Some one) (constant_value v)
+  constant_by (constant.Number n) (type.Ordinal host low high) e ks is = is
+  constant_by (constant.Chars text) (type.Str max) e ks is =
       let law = agreed.lawful ks.unit ks.listed in
       let short : max < 256 = law.short sort.ty.0 (type.Str max) (subst (λ (t : Table). slice_get t.types sort.ty.0 ≡ Some (type.Str max)) ks.table e) in
-      record { each = bytes; short = omega (arith, is, short) }
-  constant_by constant.Nil (type.PointerTo target) e ks is bytes = tt
-  constant_by (constant.Elements elements) (type.SetOf base) e ks is bytes = tt
-  constant_by v one e ks is bytes = absurd is
+      record { each = is.1; short = omega (arith, is.0, short) }
+  constant_by constant.Nil (type.PointerTo target) e ks is = tt
+  constant_by (constant.Elements elements) (type.SetOf base) e ks is = tt
+  constant_by v one e ks is = absurd is
 
   -- a constant is a value of its type
-  pub constant_is : (v : Constant) → IsKnown w.program sort → IsValue sort.table.types v (definition sort) → IsOfBytes v → IsValueOf w sort (constant_value v)
-  constant_is v ks is bytes =
+  pub constant_is : (v : Constant) → IsKnown w.program sort → IsValue sort.table.types v (definition sort) → IsValueOf w sort (constant_value v)
+  constant_is v ks is =
       subst (λ (o : Option TypeDef). IsValueBy w sort o (constant_value v)) (sym ks.is)
-      (constant_by v ks.one ks.is ks (subst (λ (o : Option TypeDef). IsValue sort.table.types v o) ks.is is) bytes)
+      (constant_by v ks.one ks.is ks (subst (λ (o : Option TypeDef). IsValue sort.table.types v o) ks.is is))
 
 -- a routine is a value of a procedural type
 pub code_is : (w : World) (sort : Sort) (header : Header) (key : Key) → definition sort ≡ Some (type.Procedural header) → IsCode w.program (declared_header sort.table header) key → IsValueOf w sort (Code key)

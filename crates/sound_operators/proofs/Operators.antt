@@ -20,8 +20,8 @@ use Rattle.typed_tree.specs.declared.expressions.BinaryOp.TheVariants.{Add, Subt
 use Rattle.values.specs.Ordinals.{width_of, quotient, remainder, shift_count}
 use Rattle.values.specs.Strings.{longest, joined}
 use Rattle.values.specs.Sets.{is_member, union, difference, intersection}
-use Rattle.well_formed.specs.Fits.{stored_as, family_of, IsSome, IsInteger, IsBoolean, IsChar, AreStoredAlike, IsWide, IsString, IsSet, IsPointer}
-use Rattle.well_formed.specs.Typed.{IsArithmetic, FitsUnary, AreNumbers, AreSets, AreStrings, AreTruths, IsShift, AreOrdered, AreSetsBoth, ArePointers, FitsBinary, MayBeEarly, IsConversion}
+use Rattle.type_fits.specs.Fits.{stored_as, family_of, IsSome, IsInteger, IsBoolean, IsChar, AreStoredAlike, IsWide, IsString, IsSet, IsPointer}
+use Rattle.type_fits.specs.Operators.{IsArithmetic, FitsUnary, AreNumbers, AreSets, AreStrings, AreTruths, IsShift, AreOrdered, AreSetsBoth, ArePointers, FitsBinary, MayBeEarly, IsConversion}
 use Rattle.meaning.specs.Trees.{Key, Value, Ordinal, Text, Elements, Nil, Block}
 use Rattle.meaning.specs.Found.{Found, Act, Error, ◌>>=◌}
 use Rattle.meaning.specs.Shapes.{stored_among}

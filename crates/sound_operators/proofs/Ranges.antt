@@ -14,7 +14,7 @@ use Rattle.values.specs.declared.ordinals.IntegerType.{IntegerType}
 use Rattle.values.specs.declared.ordinals.IntegerType.TheVariants as integer
 use Rattle.values.specs.Ordinals.{width_of, IsValueOf, meant_by}
 use Rattle.values.proofs.OrdinalLemmas.{storage_laws}
-use Rattle.well_formed.specs.Fits.{held_as}
+use Rattle.type_fits.specs.Fits.{held_as}
 use Rattle.meaning.specs.Shapes.{stored_among, kept_as}
 
 le_true : (m n : ℤ) → m ≤ℤ n → int_le m n ≡ true

@@ -2,8 +2,8 @@
 use Rattle.std.specs.Prelude.{◌≡◌, ℤ, Bool, Some}
 use Rattle.typed_tree.specs.declared.expressions.UnaryOp.{UnaryOp}
 use Rattle.typed_tree.specs.declared.expressions.BinaryOp.{BinaryOp}
-use Rattle.well_formed.specs.Fits.{stored_as, family_of, IsSome}
-use Rattle.well_formed.specs.Typed.{FitsUnary, FitsBinary, MayBeEarly, IsConversion}
+use Rattle.type_fits.specs.Fits.{stored_as, family_of, IsSome}
+use Rattle.type_fits.specs.Operators.{FitsUnary, FitsBinary, MayBeEarly, IsConversion}
 use Rattle.meaning.specs.Trees.{Value}
 use Rattle.meaning.specs.Store.{Store}
 use Rattle.meaning.specs.Programs.{Sort, definition}

@@ -7,7 +7,7 @@ use Rattle.type_layout.specs.declared.definitions.Method.{Method}
 use Rattle.type_layout.specs.declared.definitions.TypeDef.{TypeDef}
 use Rattle.type_layout.specs.declared.definitions.TypeDef.TheVariants as type
 use Rattle.type_layout.specs.Table.{AllDefined}
-use Rattle.well_formed.specs.Fits.{fields_by, field_type}
+use Rattle.type_fits.specs.Fits.{fields_by, field_type}
 use Rattle.meaning.specs.Shapes.{Part, FieldPart, ClassPart, has_class_part, field_parts, class_parts, parts_by, parts_at, field_place}
 use Rattle.declared_types.proofs.Whole.{above, no_parts, parts_of_record, parts_of_object, parts_of_none, parent_below, fields_at, fields_of_record, fields_of_object, no_fields, no_fields_of}
 

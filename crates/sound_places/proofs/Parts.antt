@@ -11,7 +11,7 @@ use Rattle.type_layout.specs.declared.definitions.TypeDef.TheVariants as type
 use Rattle.type_layout.specs.Layouts.{bounds_at}
 use Rattle.type_layout.specs.Storage.{count_between}
 use Rattle.type_layout.specs.Table.{IsObject}
-use Rattle.well_formed.specs.Fits.{stored_as, fields_by, field_type, IsChar}
+use Rattle.type_fits.specs.Fits.{stored_as, fields_by, field_type, IsChar}
 use Rattle.meaning.specs.Trees.{Key}
 use Rattle.meaning.specs.Shapes.{Part, FieldPart, parts_at, field_place}
 use Rattle.meaning.specs.Programs.{Sort, definition, class_key, beside, char_sort}

@@ -9,7 +9,8 @@ use Rattle.type_layout.specs.declared.definitions.TypeId.{TypeId}
 use Rattle.typed_tree.specs.declared.expressions.Variable.{Variable}
 use Rattle.typed_tree.specs.declared.units.Routine.{Routine}
 use Rattle.typed_tree.specs.declared.units.Unit.{Unit as TypedUnit}
-use Rattle.well_formed.specs.Scopes.{variables_of, levels_of, levels_from, HasVariable, IsVariableOf, IsHeld, IsVariableAt}
+use Rattle.type_fits.specs.Routines.{variables_of}
+use Rattle.well_formed.specs.Scopes.{Others, levels_of, levels_from, HasVariable, IsVariableOf, IsHeld, IsVariableAt}
 use Rattle.well_formed.specs.WellFormed.{scope_in}
 use Rattle.meaning.specs.Trees.{Key, Tree, part_at}
 use Rattle.meaning.specs.Found.{Found, ◌>>=◌, known}
@@ -88,17 +89,17 @@ module _ (w : World) (agreed : AreAgreed w.program) (store : Store) (typed : IsT
         through true serial sort e = stands serial sort e
         through false serial sort e = whole_place serial sort e
 
-  module _ (f : Activation) (number : ℕ) (withs : List TypeId) (active : IsActive w f number withs) where
+  module _ (others : Others) (f : Activation) (number : ℕ) (withs : List TypeId) (active : IsActive w f number withs) where
     abbrev IsThe : TypeId → Reached → Type 0
     IsThe ty at = IsAt w at (sort_in f.unit ty)
 
-    on_level_variable : (k n : ℕ) (ty : TypeId) → IsVariableOf (scope_in f.unit number) k n ty → Finds (IsThe ty) (known (slice_get f.levels k) >>= variable_in f.unit n store)
+    on_level_variable : (k n : ℕ) (ty : TypeId) → IsVariableOf (scope_in others f.unit number) k n ty → Finds (IsThe ty) (known (slice_get f.levels k) >>= variable_in f.unit n store)
     on_level_variable k n ty is =
         let on = on_level w f.unit (suc number) (Some number) f.levels k n ty active.levels is in
         subst (λ (o : Option Level). Finds (IsThe ty) (known o >>= variable_in f.unit n store)) (sym on.is) (level_variable f.unit on.level n ty on.fits on.has)
 
     -- variables of a routine are numbered below what `with`s hold
-    own_number : (n : ℕ) (ty : TypeId) → IsVariableOf (scope_in f.unit number) 0 n ty → nat_lt n first_held ≡ true
+    own_number : (n : ℕ) (ty : TypeId) → IsVariableOf (scope_in others f.unit number) 0 n ty → nat_lt n first_held ≡ true
     own_number n ty is =
         let on = on_level w f.unit (suc number) (Some number) f.levels 0 n ty active.levels is in
         let fits = on.fits in
@@ -108,7 +109,7 @@ module _ (w : World) (agreed : AreAgreed w.program) (store : Store) (typed : IsT
     held_number : (n : ℕ) → 2 ^ 31 ≤ n → nat_lt n first_held ≡ false
     held_number n h = grind (arith, nat_tests)
 
-    near_variable : (n : ℕ) (ty : TypeId) → IsVariableOf (scope_in f.unit number) 0 n ty ⊎ IsHeld (record (scope_in f.unit number) { withs = withs }) n ty
+    near_variable : (n : ℕ) (ty : TypeId) → IsVariableOf (scope_in others f.unit number) 0 n ty ⊎ IsHeld (record (scope_in others f.unit number) { withs = withs }) n ty
         → Finds (IsThe ty) (held_or f n (known (slice_get f.levels 0) >>= variable_in f.unit n store))
     near_variable n ty (inl is) =
         let own : Found Reached = known (slice_get f.levels 0) >>= variable_in f.unit n store in
@@ -127,13 +128,13 @@ module _ (w : World) (agreed : AreAgreed w.program) (store : Store) (typed : IsT
         (subst (λ (o : Option Sort). Finds (IsThe ty) (known o >>= λ sort. Ok (record { spot = whole (global_serial w.program global.key); sort = sort }))) (sym global.is)
         (record { place = whole_place (global_serial w.program global.key) global.sort made; same = global.seen }))
 
-    by_level : (level place n : ℕ) (ty : TypeId) → IsVariableAt (record (scope_in f.unit number) { withs = withs }) level place n ty → (level ≡ 0 → IsGlobalOf w.program f.unit place n ty)
+    by_level : (level place n : ℕ) (ty : TypeId) → IsVariableAt (record (scope_in others f.unit number) { withs = withs }) level place n ty → (level ≡ 0 → IsGlobalOf w.program f.unit place n ty)
         → Finds (IsThe ty) (variable_by w.program f level place n store)
     by_level zero place n ty is names = global_variable place n ty (names refl)
     by_level (suc zero) place n ty is names = near_variable n ty is
     by_level (suc (suc links)) place n ty is names = on_level_variable (suc links) n ty is
 
   -- a variable is a place of the type that its unit says
-  pub variable_place : (f : Activation) (number : ℕ) (withs : List TypeId) (variable : Variable) (ty : TypeId) → IsActive w f number withs → HasVariable (record (scope_in f.unit number) { withs = withs }) variable ty
+  pub variable_place : (others : Others) (f : Activation) (number : ℕ) (withs : List TypeId) (variable : Variable) (ty : TypeId) → IsActive w f number withs → HasVariable (record (scope_in others f.unit number) { withs = withs }) variable ty
       → NamesGlobal w.program f.unit variable ty → Finds (λ at. IsAt w at (sort_in f.unit ty)) (variable_at w.program f variable store)
-  variable_place f number withs variable ty active has names = by_level f number withs active variable.level variable.unit variable.number ty has.1 names
+  variable_place others f number withs variable ty active has names = by_level others f number withs active variable.level variable.unit variable.number ty has.1 names

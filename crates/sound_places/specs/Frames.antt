@@ -4,7 +4,7 @@ use Rattle.type_layout.specs.declared.definitions.TypeId.{TypeId}
 use Rattle.typed_tree.specs.declared.expressions.Variable.{Variable}
 use Rattle.typed_tree.specs.declared.units.Unit.{Unit as TypedUnit}
 use Rattle.typed_tree.specs.declared.units.Program.{Program}
-use Rattle.well_formed.specs.Scopes.{variables_of}
+use Rattle.type_fits.specs.Routines.{variables_of}
 use Rattle.meaning.specs.Trees.{Key}
 use Rattle.meaning.specs.Programs.{Sort, sort_in, global_serial, global_sort, key_of}
 use Rattle.meaning.specs.Activations.{Reached, Level, Activation, is_alias}

@@ -4,8 +4,8 @@ use Rattle.behaviour.specs.Seen.{Ended, Going, Undefined, Stopped}
 use Rattle.type_layout.specs.declared.definitions.TypeId.{TypeId}
 use Rattle.type_layout.specs.declared.definitions.TypeDef.TheVariants as type
 use Rattle.typed_tree.specs.declared.expressions.Variable.{Variable}
-use Rattle.well_formed.specs.Fits.{field_type, IsChar}
-use Rattle.well_formed.specs.Scopes.{HasVariable}
+use Rattle.type_fits.specs.Fits.{field_type, IsChar}
+use Rattle.well_formed.specs.Scopes.{Others, HasVariable}
 use Rattle.well_formed.specs.WellFormed.{scope_in}
 use Rattle.meaning.specs.Store.{Store}
 use Rattle.meaning.specs.Programs.{Sort, definition, beside, sort_in}
@@ -27,9 +27,9 @@ Looks IsSo s (Over (Undefined act) t) = Unit {0}
 Looks IsSo s (Over Stopped t) = ⊥
 
 pub record PlaceLaws (w : World) (store : Store) : Type 0 where
-  -- a variable that a routine names is found, or the variable parameter that stands for it can't be read
-  pub variable : (f : Activation) (number : ℕ) (withs : List TypeId) (variable : Variable) (ty : TypeId) → IsActive w f number withs
-      → HasVariable (record (scope_in f.unit number) { withs = withs }) variable ty → NamesGlobal w.program f.unit variable ty
+  -- a variable that a routine names, whatever its unit supposes of others, is found, or the variable parameter that stands for it can't be read
+  pub variable : (others : Others) (f : Activation) (number : ℕ) (withs : List TypeId) (variable : Variable) (ty : TypeId) → IsActive w f number withs
+      → HasVariable (record (scope_in others f.unit number) { withs = withs }) variable ty → NamesGlobal w.program f.unit variable ty
       → Finds (λ at. IsAt w at (sort_in f.unit ty)) (variable_at w.program f variable store)
 
 pub record PartLaws (w : World) : Type 0 where

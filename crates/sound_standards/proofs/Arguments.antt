@@ -5,8 +5,8 @@ use Rattle.std.proofs.lemmas.List.Elements.{All-take, All-drop}
 use Rattle.type_layout.specs.declared.definitions.Host.{Host}
 use Rattle.type_layout.specs.declared.definitions.Host.TheVariants as host
 use Rattle.type_layout.specs.declared.definitions.TypeDef.{TypeDef}
-use Rattle.well_formed.specs.Fits.{stored_as, IsSome, IsInteger, IsString, IsPointer}
-use Rattle.well_formed.specs.Standard.{Integer, Ordinal as OrdinalSlot, Char, Text as TextSlot, IntegerVariable, OrdinalVariable, TextVariable, PointerVariable, Variable}
+use Rattle.type_fits.specs.Fits.{stored_as, IsSome, IsInteger, IsString, IsPointer}
+use Rattle.type_fits.specs.Standard.{Integer, Ordinal as OrdinalSlot, Char, Text as TextSlot, IntegerVariable, OrdinalVariable, TextVariable, PointerVariable, Variable}
 use Rattle.meaning.specs.Trees.{Value, Ordinal, Text}
 use Rattle.meaning.specs.Programs.{Sort, definition}
 use Rattle.meaning.specs.Activations.{Reached}

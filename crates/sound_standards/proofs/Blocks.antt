@@ -6,8 +6,8 @@ use Rattle.type_layout.specs.declared.definitions.Host.TheVariants as host
 use Rattle.type_layout.specs.declared.definitions.TypeDef.{TypeDef}
 use Rattle.type_layout.specs.declared.definitions.TypeDef.TheVariants as type
 use Rattle.values.specs.Blocks.{block_sum}
-use Rattle.well_formed.specs.Fits.{stored_as, IsPointer}
-use Rattle.well_formed.specs.Standard.{Pointer, PointerVariable}
+use Rattle.type_fits.specs.Fits.{stored_as, IsPointer}
+use Rattle.type_fits.specs.Standard.{Pointer, PointerVariable}
 use Rattle.meaning.specs.Trees.{Key, Value, Nil, Block}
 use Rattle.meaning.specs.Found.{Found, Error, ◌>>=◌, known}
 use Rattle.meaning.specs.Shapes.{new_tree}

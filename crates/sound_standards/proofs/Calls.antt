@@ -3,8 +3,8 @@ use Rattle.std.proofs.Common.{◌≡◌, List, [], ◌∷◌, Some, None, refl, 
 use Rattle.std.specs.Prelude.{Option}
 use Rattle.std.proofs.lemmas.List.Elements.{All-cons}
 use Rattle.type_layout.specs.declared.definitions.Host.{Host}
-use Rattle.well_formed.specs.Fits.{stored_as, IsSome}
-use Rattle.well_formed.specs.Standard.{Slot, Integer, Ordinal as OrdinalSlot, Char, Text as TextSlot, Pointer, IntegerVariable, OrdinalVariable, TextVariable, PointerVariable, Variable, IsText as IsTextSlot, abs, sqr, odd, ord, chr, succ, pred, inc, inc_by, dec, dec_by, hi, lo, swap, size, up_case, length_of, copy, delete, insert, concat, position, text, text_in, number, end_of_file, end_of_line, new, new_block, dispose}
+use Rattle.type_fits.specs.Fits.{stored_as, IsSome}
+use Rattle.type_fits.specs.Standard.{Slot, Integer, Ordinal as OrdinalSlot, Char, Text as TextSlot, Pointer, IntegerVariable, OrdinalVariable, TextVariable, PointerVariable, Variable, IsText as IsTextSlot, abs, sqr, odd, ord, chr, succ, pred, inc, inc_by, dec, dec_by, hi, lo, swap, size, up_case, length_of, copy, delete, insert, concat, position, text, text_in, number, end_of_file, end_of_line, new, new_block, dispose}
 use Rattle.meaning.specs.Store.{Store}
 use Rattle.meaning.specs.Programs.{Sort, definition}
 use Rattle.meaning.specs.Standard.{Operand, Given, Named}

@@ -14,8 +14,8 @@ use Rattle.type_layout.specs.declared.definitions.TypeDef.{TypeDef}
 use Rattle.type_layout.specs.Storage.{holds}
 use Rattle.values.specs.Strings.{longest, copied, joined, place_from, position_of, upper}
 use Rattle.values.specs.Input.{is_eof, is_eoln}
-use Rattle.well_formed.specs.Fits.{stored_as, held_as, IsSome, IsBoolean, IsChar, IsWide, IsString}
-use Rattle.well_formed.specs.Standard.{Slot, Integer, Ordinal as OrdinalSlot, Char, Text as TextSlot, IsText as IsTextSlot}
+use Rattle.type_fits.specs.Fits.{stored_as, held_as, IsSome, IsBoolean, IsChar, IsWide, IsString}
+use Rattle.type_fits.specs.Standard.{Slot, Integer, Ordinal as OrdinalSlot, Char, Text as TextSlot, IsText as IsTextSlot}
 use Rattle.meaning.specs.Trees.{Ordinal, Text}
 use Rattle.meaning.specs.Shapes.{kept_as}
 use Rattle.meaning.specs.Store.{Store}

@@ -10,8 +10,8 @@ use Rattle.type_layout.specs.declared.definitions.TypeDef.TheVariants as type
 use Rattle.values.specs.Strings.{longest, byte_count, bytes_before, deleted, inserted}
 use Rattle.values.specs.Numerals.{val_of}
 use Rattle.values.specs.Written.{blank, blanks_due, padded, integer_text}
-use Rattle.well_formed.specs.Fits.{stored_as, IsSome, IsInteger, IsString}
-use Rattle.well_formed.specs.Standard.{Integer, Text as TextSlot, IntegerVariable, OrdinalVariable, TextVariable}
+use Rattle.type_fits.specs.Fits.{stored_as, IsSome, IsInteger, IsString}
+use Rattle.type_fits.specs.Standard.{Integer, Text as TextSlot, IntegerVariable, OrdinalVariable, TextVariable}
 use Rattle.meaning.specs.Trees.{Ordinal, Text}
 use Rattle.meaning.specs.Found.{Found}
 use Rattle.meaning.specs.Shapes.{kept_as}

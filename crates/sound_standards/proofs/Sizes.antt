@@ -13,8 +13,8 @@ use Rattle.type_layout.specs.declared.definitions.TypeDef.TheVariants as type
 use Rattle.type_layout.specs.declared.layout.Layout.{Layout}
 use Rattle.type_layout.specs.Layouts.{plain, layouts_of}
 use Rattle.type_layout.specs.Table.{IsObject}
-use Rattle.well_formed.specs.Fits.{stored_as, ancestor}
-use Rattle.well_formed.specs.Standard.{Variable}
+use Rattle.type_fits.specs.Fits.{stored_as, ancestor}
+use Rattle.type_fits.specs.Standard.{Variable}
 use Rattle.meaning.specs.Trees.{Key, Ordinal}
 use Rattle.meaning.specs.Found.{Found, ◌>>=◌, known}
 use Rattle.meaning.specs.Shapes.{Part, field_parts, parts_by, parts_at, class_place}

@@ -7,7 +7,7 @@ use Rattle.type_layout.specs.declared.definitions.TypeDef.{TypeDef}
 use Rattle.type_layout.specs.declared.definitions.TypeDef.TheVariants as type
 use Rattle.type_layout.specs.Storage.{storage_of}
 use Rattle.type_layout.specs.Table.{Table, IsObject}
-use Rattle.well_formed.specs.Fits.{stored_as, IsString, IsPointer, IsStructured}
+use Rattle.type_fits.specs.Fits.{stored_as, IsString, IsPointer, IsStructured}
 use Rattle.meaning.specs.Trees.{Value, Ordinal, Text}
 use Rattle.meaning.specs.Found.{Found, ◌>>=◌, known}
 use Rattle.meaning.specs.Shapes.{kept_as}

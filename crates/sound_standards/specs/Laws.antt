@@ -2,7 +2,7 @@
 use Rattle.std.specs.Prelude.{◌≡◌, ℕ, List, Option, Some, None}
 use Rattle.type_layout.specs.Table.{IsObject}
 use Rattle.typed_tree.specs.declared.units.Program.{Program}
-use Rattle.well_formed.specs.Standard.{Slot, Outcome, IsStandard}
+use Rattle.type_fits.specs.Standard.{Slot, Outcome, IsStandard}
 use Rattle.meaning.specs.Trees.{Key}
 use Rattle.meaning.specs.Store.{Store}
 use Rattle.meaning.specs.Programs.{Sort, definition, class_key, class_sort}

@@ -3,8 +3,8 @@ use Rattle.std.specs.Prelude.{◌≡◌, IsTrue, List, [], ◌∷◌, Option, So
 use Rattle.type_layout.specs.declared.definitions.Host.{Host}
 use Rattle.type_layout.specs.declared.definitions.Host.TheVariants as host
 use Rattle.type_layout.specs.Storage.{holds}
-use Rattle.well_formed.specs.Fits.{stored_as, IsBoolean, IsChar, AreStoredAlike, IsWide, IsString, IsPointer}
-use Rattle.well_formed.specs.Standard.{Slot, FitsValue, FitsVariable, Outcome, Nothing, Wide, Holding, Alike, Truth, Letter, Byte, Small, Size, Line, Link}
+use Rattle.type_fits.specs.Fits.{stored_as, IsBoolean, IsChar, AreStoredAlike, IsWide, IsString, IsPointer}
+use Rattle.type_fits.specs.Standard.{Slot, FitsValue, FitsVariable, Outcome, Nothing, Wide, Holding, Alike, Truth, Letter, Byte, Small, Size, Line, Link}
 use Rattle.meaning.specs.Trees.{Value, Ordinal, Void}
 use Rattle.meaning.specs.Programs.{Sort, definition}
 use Rattle.meaning.specs.Standard.{Operand, Given, Named}

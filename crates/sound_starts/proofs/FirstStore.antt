@@ -10,7 +10,7 @@ use Rattle.type_layout.specs.Table.{AllDefined}
 use Rattle.typed_tree.specs.declared.units.Global.{Global}
 use Rattle.typed_tree.specs.declared.units.Unit.{Unit as TypedUnit}
 use Rattle.typed_tree.specs.declared.units.Program.{Program}
-use Rattle.well_formed.specs.Fits.{IsSome}
+use Rattle.type_fits.specs.Fits.{IsSome}
 use Rattle.well_formed.specs.WellFormed.{IsOfUnit}
 use Rattle.meaning.specs.Trees.{Key, Ordinal, holding}
 use Rattle.meaning.specs.Shapes.{first_tree}

@@ -8,7 +8,7 @@ use Rattle.type_layout.specs.declared.definitions.Param.{Param}
 use Rattle.typed_tree.specs.declared.units.Routine.{Routine}
 use Rattle.typed_tree.specs.declared.units.Unit.{Unit as TypedUnit}
 use Rattle.typed_tree.specs.declared.units.Program.{Program}
-use Rattle.well_formed.specs.WellFormed.{IsInitial, HasInitial}
+use Rattle.type_fits.specs.Routines.{IsInitial, HasInitial}
 use Rattle.meaning.specs.Trees.{Key, Value, Void}
 use Rattle.meaning.specs.Found.{Found, ◌>>=◌, known}
 use Rattle.meaning.specs.Outcomes.{State, Outcome, Done, Over}

@@ -6,7 +6,7 @@ use Rattle.type_layout.specs.declared.definitions.TypeDef.{TypeDef}
 use Rattle.type_layout.specs.declared.definitions.TypeDef.TheVariants as type
 use Rattle.type_layout.specs.Layouts.{bounds_of}
 use Rattle.type_layout.specs.Storage.{holds}
-use Rattle.well_formed.specs.Fits.{stored_as, held_as, family_of, IsSome}
+use Rattle.type_fits.specs.Fits.{stored_as, held_as, family_of, IsSome}
 use Rattle.meaning.specs.Trees.{Value, Ordinal}
 use Rattle.meaning.specs.Found.{Found}
 use Rattle.meaning.specs.Store.{Store, number_of}

@@ -8,7 +8,7 @@ use Rattle.type_layout.specs.Table.{IsObject}
 use Rattle.typed_tree.specs.declared.expressions.Variable.{Variable}
 use Rattle.typed_tree.specs.declared.units.Program.{Program}
 use Rattle.typed_tree.specs.Statements.{Statement}
-use Rattle.well_formed.specs.Fits.{stored_as}
+use Rattle.type_fits.specs.Fits.{stored_as}
 use Rattle.meaning.specs.Trees.{Ordinal, unset}
 use Rattle.meaning.specs.Store.{Store, replaced}
 use Rattle.meaning.specs.Programs.{Sort, definition, sort_in}
@@ -74,7 +74,7 @@ module _ (program : Program) (agreed : AreAgreed program) (again : Runs) (sound 
   -- the variable
   pub counter_ends : (made : List Made) (s : State) → Body made → IsTypedState (world program made) s → Ends (world program made) Counter (counter program f variable s)
   counter_ends made s k typed =
-      ends_looked Counter (world program made) (variable_at program f variable) s typed (variable_place (world program made) agreed s.store typed.store f number withs variable ty k is_counter.has is_counter.names)
+      ends_looked Counter (world program made) (variable_at program f variable) s typed (variable_place (world program made) agreed s.store typed.store is_counter.others f number withs variable ty k is_counter.has is_counter.names)
 
   pub counted_ends : (made : List Made) (s : State) → Body made → IsTypedState (world program made) s → Ends (world program made) Ended (counted program f variable s)
   counted_ends made s k typed =

@@ -13,9 +13,9 @@ use Rattle.typed_tree.specs.declared.units.Unit.{Unit as TypedUnit}
 use Rattle.typed_tree.specs.declared.units.Program.{Program}
 use Rattle.typed_tree.specs.Expressions.{Expression, Place, Arguments, type_of}
 use Rattle.typed_tree.specs.Statements.{Statement, Statements, Arms, Written, Taken, Assign, CopyAll, Run, If, While, Repeat, Block, Case, For, With, WriteItems, ReadItems, Halt, Exit, Unmake, NoStatements, Then, NoArms, Branch}
-use Rattle.well_formed.specs.Fits.{definition as definition_in, IsSome, stored_as, family_of, IsBoolean, IsInteger, IsObject, IsWritable}
-use Rattle.well_formed.specs.Scopes.{Scope}
-use Rattle.well_formed.specs.Standard.{sort_of as sort_in_table}
+use Rattle.type_fits.specs.Fits.{definition as definition_in, IsSome, stored_as, family_of, IsBoolean, IsInteger, IsObject, IsWritable}
+use Rattle.well_formed.specs.Scopes.{Others, Scope}
+use Rattle.type_fits.specs.Standard.{sort_of as sort_in_table}
 use Rattle.well_formed.specs.Typed.{IsTyped}
 use Rattle.well_formed.specs.WellFormed.{IsStatement, AreStatements, AreArms, IsCondition, IsCount, IsWidth}
 use Rattle.values.specs.Input.{after_line}
@@ -76,12 +76,12 @@ with_active w f number withs ty at k is = record {
   globals = k.globals;
 }
 
-module _ (program : Program) (well : IsWellTyped program) (again : Runs) (calls : HasSoundCalls program again) (sound : AreSound program again) (number' : ℕ) where
+module _ (program : Program) (well : IsWellTyped program) (again : Runs) (calls : HasSoundCalls program again) (sound : AreSound program again) (number' : ℕ) (others : Others) where
   abbrev site : Activation → Site
   site f = record { program = program; unit = f.unit; number = number' }
 
   abbrev scope : Activation → List TypeId → Scope
-  scope f withs = scope_with (site f) withs
+  scope f withs = scope_with others (site f) withs
 
   module _ (f : Activation) (withs : List TypeId) where
     abbrev Body : List Made → Type 0
@@ -102,7 +102,7 @@ module _ (program : Program) (well : IsWellTyped program) (again : Runs) (calls 
 
     ordinal_sort : (made : List Made) → Body made → (e : Expression) → IsSome (family_of (sort_in_table f.unit.types.types e)) → OrdinalOf e
     ordinal_sort made k e some =
-        let has = sort_for program well again calls f number' withs made k e (family_some (sort_in_table f.unit.types.types e) some) in
+        let has = sort_for program well again calls f number' withs others made k e (family_some (sort_in_table f.unit.types.types e) some) in
         let host = ordinal_of_family (definition (sort_at has.ty)) (subst (λ (o : Option TypeDef). IsSome (family_of o)) has.same some) in
         record { sort = has; host = host.0; stored = host.1 }
 
@@ -110,7 +110,7 @@ module _ (program : Program) (well : IsWellTyped program) (again : Runs) (calls 
         → Ends (world program made) (λ w z. Holds o.host z) (number program again f e s)
     number_ends made e h r o s k typed =
         number_held (world program made) (sort_at o.sort.ty) o.host (value program again f e s) o.stored
-        (as_sort program well again calls f number' withs made e o.sort.ty (value program again f e s) o.sort.is (value_ends program well again calls f number' withs made e h r s k typed))
+        (as_sort program well again calls f number' withs others made e o.sort.ty (value program again f e s) o.sort.is (value_ends program well again calls f number' withs others made e h r s k typed))
 
     counted_sort : (made : List Made) → Body made → (e : Expression) → IsInteger (sort_in_table f.unit.types.types e) → OrdinalOf e
     counted_sort made k e is = ordinal_sort made k e (subst IsSome (sym is) tt)
@@ -137,24 +137,24 @@ module _ (program : Program) (well : IsWellTyped program) (again : Runs) (calls 
         → Ends (world program made) Ended (statement program again f (Assign to from) s)
     assign_ends made to from h r s k typed =
         let j = joined (scope f withs) h.ty (type_of from) h.takes in
-        let kg = typed_known program well again calls f number' withs made k from j.given h.typed j.is in
-        let kt = place_known program well again calls f number' withs made k to h.ty h.place in
+        let kg = typed_known program well again calls f number' withs others made k from j.given h.typed j.is in
+        let kt = place_known program well again calls f number' withs others made k to h.ty h.place in
         chain program active (PlaceAt (sort_at h.ty)) Ended made (place program again f to s) (λ at. value program again f from >>= λ v. changed (assigned at v) >> give Next) k
-        (place_ends program well again calls f number' withs made to h.ty h.place r.0 s k typed) (λ made1 at s1 k1 typed1 is.
+        (place_ends program well again calls f number' withs others made to h.ty h.place r.0 s k typed) (λ made1 at s1 k1 typed1 is.
         chain program (place_kept program at (sort_at h.ty)) (ValueAt (sort_at j.given)) Ended made1 (value program again f from s1) (λ v. changed (assigned at v) >> give Next) is
-        (as_sort program well again calls f number' withs made1 from j.given (value program again f from s1) j.is (value_ends program well again calls f number' withs made1 from h.typed r.1 s1 k1 typed1)) (λ made2 v s2 is2 typed2 v_is.
+        (as_sort program well again calls f number' withs others made1 from j.given (value program again f from s1) j.is (value_ends program well again calls f number' withs others made1 from h.typed r.1 s1 k1 typed1)) (λ made2 v s2 is2 typed2 v_is.
         changed_next (world program made2) (assigned at v) s2 typed2
         (assigns (world program made2) well.agreed s2.store typed2.store at (sort_at h.ty) v is2 h.simple (value_joins (world program made2) well.agreed (sort_at j.given) h.ty j.given kt kg v j.joins v_is))))
 
     copy_ends : (made : List Made) (to from : Place) (h : IsStatement (scope f withs) (CopyAll to from)) → RefersStatement (site f) (scope f withs) (CopyAll to from) h → (s : State) → Body made → IsTypedState (world program made) s
         → Ends (world program made) Ended (statement program again f (CopyAll to from) s)
     copy_ends made to from h r s k typed =
-        let kg = place_known program well again calls f number' withs made k from h.given h.source in
-        let kt = place_known program well again calls f number' withs made k to h.ty h.target in
+        let kg = place_known program well again calls f number' withs others made k from h.given h.source in
+        let kt = place_known program well again calls f number' withs others made k to h.ty h.target in
         chain program active (PlaceAt (sort_at h.ty)) Ended made (place program again f to s) (λ at. place program again f from >>= λ of. changed (copied at of.spot) >> give Next) k
-        (place_ends program well again calls f number' withs made to h.ty h.target r.0 s k typed) (λ made1 at s1 k1 typed1 is.
+        (place_ends program well again calls f number' withs others made to h.ty h.target r.0 s k typed) (λ made1 at s1 k1 typed1 is.
         chain program (place_kept program at (sort_at h.ty)) (PlaceAt (sort_at h.given)) Ended made1 (place program again f from s1) (λ of. changed (copied at of.spot) >> give Next) is
-        (place_ends program well again calls f number' withs made1 from h.given h.source r.1 s1 k1 typed1) (λ made2 of s2 is2 typed2 of_is.
+        (place_ends program well again calls f number' withs others made1 from h.given h.source r.1 s1 k1 typed1) (λ made2 of s2 is2 typed2 of_is.
         let w : World = world program made2 in
         let source : IsPlaceOf w of.spot (sort_at h.ty) = place_above w well.agreed of.spot (sort_at h.given) h.ty kg kt h.joins (place_seen w well.agreed of.spot of.sort (sort_at h.given) of_is.same of_is.place) in
         changed_next w (copied at of.spot) s2 typed2 (copies w well.agreed s2.store typed2.store at (sort_at h.ty) of.spot is2 h.structured source)))
@@ -171,14 +171,14 @@ module _ (program : Program) (well : IsWellTyped program) (again : Runs) (calls 
         → Ends (world program made) Ended
         ((sort_of f item.value >>= λ sort. value program again f item.value >>= λ v. width_of program again f item.width >>= λ width. found (text_of (definition sort) v) >>= λ text. printed (field_text width text) >> go) s)
     item_written made item r go s k typed next =
-        let has = sort_for program well again calls f number' withs made k item.value (writable_some (sort_in_table f.unit.types.types item.value) r.is.sort) in
+        let has = sort_for program well again calls f number' withs others made k item.value (writable_some (sort_in_table f.unit.types.types item.value) r.is.sort) in
         let sort : Sort = sort_at has.ty in
         let may = subst IsWritable has.same r.is.sort in
         let rest : Value → ℤ → Does (Unit {0}) = λ v width. found (text_of (definition sort) v) >>= λ text. printed (field_text width text) >> go in
         subst (λ (o : Outcome Sort). Ends (world program made) Ended (and_then o (λ sort. value program again f item.value >>= λ v. width_of program again f item.width >>= λ width. found (text_of (definition sort) v) >>= λ text. printed (field_text width text) >> go)))
         (sym (sort_found f item.value has.ty has.is s))
         (chain program active (ValueAt sort) Ended made (value program again f item.value s) (λ v. width_of program again f item.width >>= rest v) k
-        (as_sort program well again calls f number' withs made item.value has.ty (value program again f item.value s) has.is (value_ends program well again calls f number' withs made item.value r.is.value r.value s k typed)) (λ made1 v s1 k1 typed1 is.
+        (as_sort program well again calls f number' withs others made item.value has.ty (value program again f item.value s) has.is (value_ends program well again calls f number' withs others made item.value r.is.value r.value s k typed)) (λ made1 v s1 k1 typed1 is.
         let told : Finds (λ (text : List ℕ). Unit {0}) (text_of (definition sort) v) = text_found (world program made1) sort (definition sort) v may is in
         chain program active Ended Ended made1 (width_of program again f item.width s1) (rest v) k1 (width_ends made1 item.width r.is.width r.width s1 k1 typed1) (λ made2 width s2 k2 typed2 x.
         chain program active Ended Ended made2 (found (text_of (definition sort) v) s2) (λ text. printed (field_text width text) >> go) k2
@@ -202,7 +202,7 @@ module _ (program : Program) (well : IsWellTyped program) (again : Runs) (calls 
     read_ends made (item ∷ items) r s k typed =
         let one = All-head (RefersRead (site f) (scope f withs)) item items r in
         chain program active (PlaceAt (sort_at item.ty)) Ended made (place program again f item.at s) (λ at. taken_as item.checked at (definition (sort_at item.ty)) >> read program again f items) k
-        (place_ends program well again calls f number' withs made item.at item.ty one.is.place one.place s k typed) (λ made1 at s1 k1 typed1 is.
+        (place_ends program well again calls f number' withs others made item.at item.ty one.is.place one.place s k typed) (λ made1 at s1 k1 typed1 is.
         chain program active Ended Ended made1 (taken_as item.checked at (definition (sort_at item.ty)) s1) (λ u. read program again f items) k1 (item_read program well.agreed made1 item.checked at (sort_at item.ty) s1 is typed1 one.is.sort) (λ made2 u s2 k2 typed2 x.
         read_ends made2 items (All-tail (RefersRead (site f) (scope f withs)) item items r) s2 k2 typed2))
 
@@ -229,11 +229,11 @@ module _ (program : Program) (well : IsWellTyped program) (again : Runs) (calls 
         → Ends (world program made) Ended (statement program again f (For variable ty from to down checked body) s)
     for_ends made variable ty from to down checked body h r s k typed runs =
         let bounded = h.0 in
-        let is : IsCounter (site f) withs variable ty = record { has = bounded.has; names = r.0; ordinal = bounded.first_like.ordinal } in
+        let is : IsCounter (site f) withs variable ty = record { others = others; has = bounded.has; names = r.0; ordinal = bounded.first_like.ordinal } in
         let a = ordinal_sort made k from (stored_family (sort_in_table f.unit.types.types from) (subst IsSome bounded.first_like.same bounded.first_like.ordinal)) in
         let b = ordinal_sort made k to (stored_family (sort_in_table f.unit.types.types to) (subst IsSome bounded.last_like.same bounded.last_like.ordinal)) in
         let stored : stored_as (definition (sort_at ty)) ≡ Some a.host = bounded.first_like.same ∙ ap stored_as a.sort.same ∙ a.stored in
-        let is_body : IsBody (site f) withs body = record { typed = h.1; refers = r.3 } in
+        let is_body : IsBody (site f) withs body = record { others = others; typed = h.1; refers = r.3 } in
         let bounds : Option TypeDef = definition (sort_at ty) in
         let turns : ℤ → ℤ → Does Flow = λ low high. counter program f variable >>= λ at. changed (assigned at (Ordinal low)) >> turn program again f variable high down body (statement program again f body) in
         let looping : ℤ → ℤ → Does Flow = λ first last. tested checked bounds first >>= λ low. tested checked bounds last >>= λ high. turns low high in
@@ -250,7 +250,7 @@ module _ (program : Program) (well : IsWellTyped program) (again : Runs) (calls 
     -- ---- loops and conditions, whose parts are sound
 
     again_ends : (made : List Made) (one : Statement) (h : IsStatement (scope f withs) one) → RefersStatement (site f) (scope f withs) one h → (s : State) → Body made → IsTypedState (world program made) s → Ends (world program made) Ended (again (Do one) f s)
-    again_ends made one h r s k typed = sound made f number' withs (Do one) s k (record { typed = h; refers = r }) typed
+    again_ends made one h r s k typed = sound made f number' withs (Do one) s k (record { others = others; typed = h; refers = r }) typed
 
     while_ends : (made : List Made) (test : Expression) (body : Statement) (h : IsStatement (scope f withs) (While test body)) → RefersStatement (site f) (scope f withs) (While test body) h → (s : State) → Body made → IsTypedState (world program made) s
         → ((made' : List Made) (t : State) → Body made' → IsTypedState (world program made') t → Ends (world program made') Ended (statement program again f body t))
@@ -278,17 +278,17 @@ module _ (program : Program) (well : IsWellTyped program) (again : Runs) (calls 
     -- the arguments of a destructor
     arguments_ends : (made : List Made) (class : TypeId) (with : Destructor) (args : Arguments) (r : RefersDestructor (site f) (scope f withs) class with args) (s : State) → Body made → IsTypedState (world program made) s
         → Ends (world program made) (TakenBy f.unit (params_of program well.agreed well.classes again calls f number' withs (scope f withs) class with args r)) (operands program again f args s)
-    arguments_ends made class (destructor.Routine routine) args r s k typed = taken_ends program well again calls f number' withs made r.calls.header.params args r.calls.takes.0 r.calls.takes.1 s k typed
-    arguments_ends made class (destructor.Slot slot checked) args r s k typed = taken_ends program well again calls f number' withs made r.method.header.params args r.takes.0 r.takes.1 s k typed
+    arguments_ends made class (destructor.Routine routine) args r s k typed = taken_ends program well again calls f number' withs others made r.calls.header.params args r.calls.takes.0 r.calls.takes.1 s k typed
+    arguments_ends made class (destructor.Slot slot checked) args r s k typed = taken_ends program well again calls f number' withs others made r.method.header.params args r.takes.0 r.takes.1 s k typed
 
     unmake_ends : (made : List Made) (pointer : Expression) (with : Destructor) (args : Arguments) (h : IsStatement (scope f withs) (Unmake pointer with args)) → RefersStatement (site f) (scope f withs) (Unmake pointer with args) h → (s : State)
         → Body made → IsTypedState (world program made) s → Ends (world program made) Ended (statement program again f (Unmake pointer with args) s)
     unmake_ends made pointer with args h r s k typed =
-        let has = sort_for program well again calls f number' withs made k pointer (subst IsSome (sym h.points) tt) in
+        let has = sort_for program well again calls f number' withs others made k pointer (subst IsSome (sym h.points) tt) in
         let ks : IsKnown program (sort_at h.class) = known_type program f.unit k.listed h.class (object_some (definition_in f.unit.types.types h.class) h.object) in
         unmade_ends program well.agreed well.classes again calls f number' withs (scope f withs) made has.ty h.class with args r.2 (value program again f pointer s) (sort_of f pointer) (operands program again f args) (sym has.same ∙ h.points) ks r.0
         (sort_found f pointer has.ty has.is) k
-        (as_sort program well again calls f number' withs made pointer has.ty (value program again f pointer s) has.is (value_ends program well again calls f number' withs made pointer h.typed r.1 s k typed))
+        (as_sort program well again calls f number' withs others made pointer has.ty (value program again f pointer s) has.is (value_ends program well again calls f number' withs others made pointer h.typed r.1 s k typed))
         (λ made' t k' typed'. arguments_ends made' h.class with args r.2 t k' typed')
 
   -- ---- all forms
@@ -299,7 +299,7 @@ module _ (program : Program) (well : IsWellTyped program) (again : Runs) (calls 
     statement_ends f withs made (Assign to from) h r s k typed = assign_ends f withs made to from h r s k typed
     statement_ends f withs made (CopyAll to from) h r s k typed = copy_ends f withs made to from h r s k typed
     statement_ends f withs made (Run call) h r s k typed =
-        ends_bind (GivesAs f.unit (type_of call)) (world program made) Ended (value program again f call s) (λ v. give Next) (value_ends program well again calls f number' withs made call h.0 r s k typed)
+        ends_bind (GivesAs f.unit (type_of call)) (world program made) Ended (value program again f call s) (λ v. give Next) (value_ends program well again calls f number' withs others made call h.0 r s k typed)
         (λ more v t typed' is. give_ends (world program (made ++ more)) Next t typed')
     statement_ends f withs made (If test taken other) h r s k typed =
         chain program (active_kept program f number' withs) Ended Ended made (condition program again f test s) (λ b. chosen b (statement program again f taken) (statement program again f other)) k (condition_ends f withs made test h.0 r.0 s k typed) (λ made' b t k' typed' x.
@@ -313,7 +313,7 @@ module _ (program : Program) (well : IsWellTyped program) (again : Runs) (calls 
         branches_ends f withs made' arms h.2 r.1 z (statement program again f other) t k' typed' (statement_ends f withs made' other h.3 r.2 t k' typed'))
     statement_ends f withs made (For variable ty from to down checked body) h r s k typed = for_ends f withs made variable ty from to down checked body h r s k typed (λ made' t k' typed'. statement_ends f withs made' body h.1 r.3 t k' typed')
     statement_ends f withs made (With of body) h r s k typed =
-        chain program (active_kept program f number' withs) (PlaceAt (sort_in f.unit h.0)) Ended made (place program again f of s) (λ at. statement program again (with_held f at) body) k (place_ends program well again calls f number' withs made of h.0 h.1 r.0 s k typed) (λ made' at t k' typed' is.
+        chain program (active_kept program f number' withs) (PlaceAt (sort_in f.unit h.0)) Ended made (place program again f of s) (λ at. statement program again (with_held f at) body) k (place_ends program well again calls f number' withs others made of h.0 h.1 r.0 s k typed) (λ made' at t k' typed' is.
         statement_ends (with_held f at) (withs ++ h.0 ∷ []) made' body h.3 r.1 t (with_active (world program made') f number' withs h.0 at k' is) typed')
     statement_ends f withs made (WriteItems items line) h r s k typed =
         chain program (active_kept program f number' withs) Ended Ended made (written program again f items s) (λ u. line_written line) k (written_ends f withs made items r s k typed) (λ made' u t k' typed' x. line_ends f withs made' line t typed')
@@ -348,9 +348,9 @@ counter_host o some = by (stored_as o) refl some where
 -- a task is sound where tasks with fewer turns are
 pub task_ends : (program : Program) → IsWellTyped program → (again : Runs) → HasSoundCalls program again → AreSound program again → AreSound program (task program again)
 task_ends program well again calls sound made f number withs (Do one) s k is typed =
-    statement_ends program well again calls sound number f withs made one is.typed is.refers s k typed
+    statement_ends program well again calls sound number is.others f withs made one is.typed is.refers s k typed
 task_ends program well again calls sound made f number withs (Turns variable last down body) s k is typed =
     let counter = is.0.1 in
     let host = counter_host (definition (sort_in f.unit is.0.0)) counter.ordinal in
     turn_ends program well.agreed again sound f number withs variable is.0.0 counter host.0 host.1 made last down body (statement program again f body) s is.1 k typed (λ t typed'.
-    let body_is = is.1 in statement_ends program well again calls sound number f withs made body body_is.typed body_is.refers t k typed')
+    let body_is = is.1 in statement_ends program well again calls sound number body_is.others f withs made body body_is.typed body_is.refers t k typed')

@@ -9,7 +9,7 @@ use Rattle.type_layout.specs.declared.definitions.TypeDef.{TypeDef}
 use Rattle.type_layout.specs.declared.definitions.TypeDef.TheVariants as type
 use Rattle.type_layout.specs.Storage.{storage_of}
 use Rattle.typed_tree.specs.declared.units.Program.{Program}
-use Rattle.well_formed.specs.Fits.{stored_as, family_of, IsChar, IsString, IsReadable, IsWritable}
+use Rattle.type_fits.specs.Fits.{stored_as, family_of, IsChar, IsString, IsReadable, IsWritable}
 use Rattle.values.specs.Input.{char_read, string_read, number_read}
 use Rattle.meaning.specs.Trees.{Value, Ordinal, Text}
 use Rattle.meaning.specs.Programs.{Sort, definition}

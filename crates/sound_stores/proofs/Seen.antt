@@ -17,7 +17,7 @@ use Rattle.type_layout.specs.declared.definitions.TypeDef.TheVariants as type
 use Rattle.type_layout.specs.Storage.{storage_of}
 use Rattle.type_layout.specs.Table.{Table, IsObject, AllDefined}
 use Rattle.typed_tree.specs.declared.units.Program.{Program}
-use Rattle.well_formed.specs.Fits.{stored_as, ancestor, parent_of, Descends, shape_of, AreSameHeaders, JoinBy, Joins}
+use Rattle.type_fits.specs.Fits.{stored_as, ancestor, parent_of, Descends, shape_of, AreSameHeaders, JoinBy, Joins}
 use Rattle.meaning.specs.Trees.{Key, Spot, Value, Ordinal, Text, Elements, Nil, Block, Code, Class, At, Void}
 use Rattle.meaning.specs.Programs.{Sort, definition, class_key, beside, char_sort, integer_sort}
 use Rattle.declared_types.specs.Declared.{DeclaredHeader, declared, declared_param, declared_header, AreAlike}

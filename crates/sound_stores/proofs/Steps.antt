@@ -11,7 +11,7 @@ use Rattle.type_layout.specs.declared.definitions.TypeDef.TheVariants as type
 use Rattle.type_layout.specs.Layouts.{bounds_at}
 use Rattle.type_layout.specs.Storage.{storage_of}
 use Rattle.type_layout.specs.Table.{Table, IsObject}
-use Rattle.well_formed.specs.Fits.{stored_as, IsStructured}
+use Rattle.type_fits.specs.Fits.{stored_as, IsStructured}
 use Rattle.meaning.specs.Trees.{Key, Spot, Value, Ordinal, Text, Elements, Nil, Block, Code, Class, At, Void, Tree, Leaf, Tip, Fork, holding}
 use Rattle.meaning.specs.Found.{Found, ◌>>=◌}
 use Rattle.meaning.specs.Shapes.{Part, FieldPart, ClassPart, parts_at, new_tree}

@@ -2,7 +2,7 @@
 use Rattle.std.specs.Prelude.{◌≡◌, ℕ, List, ◌++◌, Option, Some}
 use Rattle.type_layout.specs.declared.definitions.TypeId.{TypeId}
 use Rattle.type_layout.specs.Table.{IsObject}
-use Rattle.well_formed.specs.Fits.{IsStructured, Joins}
+use Rattle.type_fits.specs.Fits.{IsStructured, Joins}
 use Rattle.meaning.specs.Trees.{Key, Spot, Value}
 use Rattle.meaning.specs.Shapes.{parts_at, class_place}
 use Rattle.meaning.specs.Programs.{Sort, definition, class_key, beside}

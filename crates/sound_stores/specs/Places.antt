@@ -6,7 +6,7 @@ use Rattle.type_layout.specs.declared.definitions.TypeDef.TheVariants as type
 use Rattle.type_layout.specs.Storage.{storage_of}
 use Rattle.type_layout.specs.Table.{IsObject}
 use Rattle.typed_tree.specs.declared.units.Program.{Program}
-use Rattle.well_formed.specs.Fits.{stored_as}
+use Rattle.type_fits.specs.Fits.{stored_as}
 use Rattle.meaning.specs.Trees.{Key, Spot, Value, Text, At}
 use Rattle.meaning.specs.Programs.{Sort, definition, class_key, integer_sort, char_sort}
 use Rattle.meaning.specs.Activations.{Reached}

@@ -2,7 +2,7 @@
 use Rattle.std.specs.Prelude.{◌≡◌, ℕ, List, ◌++◌, IsTrue, slice_get, Option, Some, None, Ok}
 use Rattle.type_layout.specs.Storage.{holds}
 use Rattle.typed_tree.specs.declared.units.Program.{Program}
-use Rattle.well_formed.specs.Fits.{held_as}
+use Rattle.type_fits.specs.Fits.{held_as}
 use Rattle.meaning.specs.Trees.{Key, Value, Ordinal, Elements, Nil, Block, Code, Class, Tree, Leaf, Tip, Fork}
 use Rattle.meaning.specs.Programs.{Sort, class_key}
 use Rattle.meaning.specs.Activations.{Callee, callee_of}

@@ -11,6 +11,7 @@ use Rattle.type_layout.proofs.Given.{get_or-given_by-front, length-layouts_of}
 use Rattle.type_layout.proofs.Local.{slice_get-append}
 use Rattle.scopes.specs.Members.{parent_of, own_fields, fields_within}
 use Rattle.sound_tables.specs.Laws.{FrontLaw}
+use Rattle.sound_tables.proofs.Numbered.{numbered_front}
 
 defined_front : (before front back : List TypeDef) → AllDefined before (front ++ back) → AllDefined before front
 defined_front before [] back h = tt
@@ -65,4 +66,5 @@ fit_front front back h =
           let less = more_fields front back (length front) (length (front ++ back)) (Some ty) (omega (arith, count)) in
           let most = h.few ty in
           omega (arith, less, most);
+      numbered = numbered_front front back (defined_front [] front back h.defined) h.defined h.numbered;
     }

@@ -8,7 +8,7 @@ use Rattle.type_layout.specs.declared.definitions.Header.{Header}
 use Rattle.type_layout.specs.declared.definitions.Method.{Method}
 use Rattle.type_layout.specs.declared.definitions.TypeDef.{TypeDef}
 use Rattle.type_layout.specs.declared.definitions.TypeDef.TheVariants as type
-use Rattle.well_formed.specs.Fits.{definition}
+use Rattle.type_fits.specs.Fits.{definition}
 use Rattle.unit_interface.specs.Exports.{in_option, in_params, in_header, in_fields, in_methods, in_type, behind, with_type}
 use Rattle.typed_nodes.specs.Tables.{IsInTable, IsResultIn, IsHeaderIn, NamesWithin}
 use Rattle.typed_nodes.proofs.Fields.{some_within}
@@ -64,4 +64,5 @@ sound g fit closed begins = record {
   names = λ ty one is. type_in g.types.types ty one is (closed.types ty.0);
   room = fit.room;
   few = fit.few;
+  numbered = fit.numbered;
 }

@@ -8,15 +8,18 @@ use Rattle.type_layout.specs.Table.{AllDefined}
 use Rattle.scopes.specs.Predeclared.{type_list}
 use Rattle.scopes.specs.Lines.{fields_of}
 use Rattle.scopes.specs.Environment.{Environment}
+use Rattle.virtual_slots.specs.Laws.{IsNumbered}
 use Rattle.typed_nodes.specs.Tables.{IsSound}
 use Rattle.closed_constants.specs.Bounds.{IsClosedScope}
 
--- types that are defined one over another, with sizes within the limit; not too many, and no line with too many fields
+-- types that are defined one over another, with sizes within the limit; not too many, no line with too many fields, and methods that are
+-- numbered
 pub record IsFit (types : List TypeDef) : Type 0 where
   pub defined : AllDefined [] types
   pub fits : All (λ (layout : Layout). layout.size ≤ 65520) (layouts_of types)
   pub room : length types < 2 ^ 32
   pub few : (ty : TypeId) → fields_of types (Some ty) ≤ 2 ^ 32
+  pub numbered : IsNumbered types
 
 -- a table that begins with the predeclared types
 abbrev pub HasPredeclared : List TypeDef → Type 0

@@ -7,7 +7,7 @@ use Rattle.type_layout.specs.declared.definitions.TypeDef.{TypeDef}
 use Rattle.type_layout.specs.declared.definitions.TypeDef.TheVariants as type
 use Rattle.type_layout.specs.Layouts.{given_by}
 use Rattle.type_layout.specs.Table.{Table}
-use Rattle.well_formed.specs.Fits.{definition}
+use Rattle.type_fits.specs.Fits.{definition}
 use Rattle.meaning.specs.Shapes.{Part, FieldPart, ClassPart, has_class_part, field_parts, class_parts, object_parts, parts_in, parts_by, parts_of, parts_at, class_place}
 use Rattle.typed_programs.specs.WellTyped.{HasClassPart}
 

@@ -21,7 +21,7 @@ use Rattle.declarations.specs.Progress.{Progress, knowing, unset, beginning}
 use Rattle.declarations.specs.Constants.{constant_declared, constants_declared}
 use Rattle.declarations.specs.Variables.{variable_declared, names_declared, variables_declared}
 use Rattle.declarations.specs.Parts.{part_declared}
-use Rattle.checked_parts.proofs.Tables.{AddsPlain, entered_plain, type_plain}
+use Rattle.checked_units.proofs.Below.{AddsPlain, entered_plain, type_plain}
 use Rattle.sound_units.proofs.Each.{Each, each_on, each_as}
 use Rattle.sound_units.proofs.Plain.{plain_more}
 use Rattle.sound_units.proofs.Objects.{part_classed}

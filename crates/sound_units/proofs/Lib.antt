@@ -6,4 +6,3 @@ mod Firsts
 mod Reading
 mod Units
 mod Programs
-mod Together

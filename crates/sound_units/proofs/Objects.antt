@@ -1,8 +1,9 @@
--- A part of type declarations leaves routines to come that are methods of its object types; a type that has a constructor is dynamic.
+-- A part of type declarations leaves routines to come that are methods of its object types; a type that has a constructor or a destructor is dynamic.
 use Rattle.std.proofs.Common.{◌≡◌, ◌∙◌, ℕ, zero, suc, ◌+◌, ◌≤◌, Bool, true, false, ◌||◌, List, [], ◌∷◌, ◌++◌, length, Option, Some, None, is_some, refl, sym, ap, subst, arith, append_assoc, append-nil}
 use Rattle.std.specs.Prelude.{slice_get}
 use Rattle.type_layout.specs.declared.definitions.TypeId.{TypeId}
 use Rattle.type_layout.specs.declared.definitions.Field.{Field}
+use Rattle.type_layout.specs.declared.definitions.Kind.{Kind}
 use Rattle.type_layout.specs.declared.definitions.Kind.TheVariants as kind
 use Rattle.type_layout.specs.declared.definitions.Method.{Method}
 use Rattle.type_layout.specs.declared.definitions.TypeDef.{TypeDef}
@@ -13,7 +14,7 @@ use Rattle.type_tree.specs.declared.parameter.Method as written
 use Rattle.type_tree.specs.declared.types.TypeDenoter.{TypeDenoter}
 use Rattle.type_tree.specs.declared.types.TypeDenoter.TheVariants as t
 use Rattle.source_tree.specs.declared.declaration.TypeDeclaration.{TypeDeclaration}
-use Rattle.well_formed.specs.Fits.{definition}
+use Rattle.type_fits.specs.Fits.{definition}
 use Rattle.scopes.specs.Members.{narrow}
 use Rattle.scopes.specs.Environment.{Environment}
 use Rattle.method_rules.specs.Slots.{methods_of}
@@ -27,17 +28,17 @@ use Rattle.declarations.specs.declared.homes.Home.{Home}
 use Rattle.declarations.specs.declared.homes.Home.TheVariants as home
 use Rattle.routines.specs.Drafts.{Numbered, next_for}
 use Rattle.routines.specs.Methods.{method_announced, awaiting, of_declarations}
+use Rattle.typed_programs.specs.WellTyped.{NeedsClass}
 use Rattle.closed_types.proofs.Reading.{is_added}
-use Rattle.checked_parts.proofs.Tables.{ArePlain, AddsPlain, none_added, entered_plain, type_plain, fields_plain}
-use Rattle.checked_parts.proofs.Objects.{IsMethodAt, nothing_at, types_await, plain_types}
+use Rattle.checked_units.proofs.Below.{ArePlain, AddsPlain, none_added, entered_plain, type_plain, fields_plain, IsMethodAt, nothing_at, types_await, plain_types}
 use Rattle.sound_units.proofs.Each.{Each, each_from}
 use Rattle.sound_units.proofs.Dynamic.{dynamic_by, IsDynamic, dynamic_more}
 
 -- ---- types that are added
 
--- a type with a constructor is dynamic
+-- a type with a constructor or a destructor is dynamic
 abbrev pub IsClassed : TypeDef → Type 0
-IsClassed one = (place : ℕ) (method : Method) → slice_get (methods_of (Some one)) place ≡ Some method → method.header.kind ≡ kind.Constructor → dynamic_by (Some one) ≡ true
+IsClassed one = (place : ℕ) (method : Method) → slice_get (methods_of (Some one)) place ≡ Some method → NeedsClass method.header.kind → dynamic_by (Some one) ≡ true
 
 abbrev pub AreClassed : List TypeDef → Type 0
 AreClassed types = Each IsClassed types
@@ -77,11 +78,17 @@ or_right : (a b : Bool) → b ≡ true → (a || b) ≡ true
 or_right true b e = refl
 or_right false b e = e
 
-dynamic_with : (methods : List Method) (place : ℕ) (method : Method) → slice_get methods place ≡ Some method → method.header.kind ≡ kind.Constructor → is_dynamic methods ≡ true
+class_needed : (k : Kind) → NeedsClass k → has_class k ≡ true
+class_needed kind.Constructor h = refl
+class_needed kind.Destructor h = refl
+class_needed kind.Procedure h = absurd h
+class_needed kind.Function h = absurd h
+
+dynamic_with : (methods : List Method) (place : ℕ) (method : Method) → slice_get methods place ≡ Some method → NeedsClass method.header.kind → is_dynamic methods ≡ true
 dynamic_with [] place method there made = absurd (nothing_at place method there)
 dynamic_with (one ∷ rest) zero method there made =
     let same : one ≡ method = cc in
-    let class : has_class one.header.kind ≡ true = ap (λ (m : Method). has_class m.header.kind) same ∙ ap has_class made in
+    let class : has_class one.header.kind ≡ true = ap (λ (m : Method). has_class m.header.kind) same ∙ class_needed method.header.kind made in
     or_left (one.is_virtual || has_class one.header.kind) (is_dynamic rest) (or_right one.is_virtual (has_class one.header.kind) class)
 dynamic_with (one ∷ rest) (suc place) method there made =
     or_right (one.is_virtual || has_class one.header.kind) (is_dynamic rest) (dynamic_with rest place method there made)
@@ -119,7 +126,7 @@ unfolding type_part
 part_classed unit next g all h k = types_classed (ground unit (promises g all)) next g all h k
 
 classed_there : (front back : List TypeDef) (k place : ℕ) (method : Method) → AreClassed back → length front ≤ k → slice_get (methods_of (slice_get (front ++ back) k)) place ≡ Some method
-    → method.header.kind ≡ kind.Constructor → dynamic_by (slice_get (front ++ back) k) ≡ true
+    → NeedsClass method.header.kind → dynamic_by (slice_get (front ++ back) k) ≡ true
 classed_there [] [] zero place method c h e made = absurd (nothing_at place method e)
 classed_there [] [] (suc k) place method c h e made = absurd (nothing_at place method e)
 classed_there [] (one ∷ back) zero place method c h e made = c.0 place method e made
@@ -129,10 +136,10 @@ classed_there (one ∷ front) back (suc k) place method c h e made = classed_the
 
 -- ---- routines by their headers
 
--- A method is declared in no other routine; a constructor's type is dynamic.
+-- A method is declared in no other routine; the type of a constructor or a destructor is dynamic.
 pub record IsSoundSlot (types : List TypeDef) (one : Numbered) : Type 0 where
   pub method : is_some one.first.owner ≡ true → one.first.outer ≡ None
-  pub class : one.first.header.kind ≡ kind.Constructor → IsDynamic types one.first.owner
+  pub class : NeedsClass one.first.header.kind → IsDynamic types one.first.owner
 
 pub slot_more : (front back : List TypeDef) (one : Numbered) → IsSoundSlot front one → IsSoundSlot (front ++ back) one
 slot_more front back one h = record { method = h.method; class = λ made. dynamic_more front back one.first.owner (h.class made) }

@@ -14,7 +14,8 @@ use Rattle.source_interfaces.specs.Kinds.{is_program, is_used, is_reserved, is_o
 use Rattle.source_interfaces.specs.Scopes.{outer_scope}
 use Rattle.meaning.specs.Programs.{is_overlay}
 use Rattle.front_end.specs.Typed.{sources_at, IsUnitOf}
-use Rattle.sound_units.specs.Sound.{HasSoundParts, IsHeld}
+use Rattle.unit_references.specs.Units.{HasSoundParts}
+use Rattle.sound_units.specs.Sound.{IsHeld}
 use Rattle.sound_units.specs.Laws.{ProgramLaw}
 use Rattle.sound_units.proofs.Units.{unit_sound}
 

@@ -15,7 +15,7 @@ use Rattle.source_tree.specs.declared.declaration.DeclarationPart.TheVariants as
 use Rattle.source_tree.specs.declared.declaration.RoutineHeader.{RoutineHeader}
 use Rattle.source_tree.specs.declared.source.InterfaceDeclaration.{InterfaceDeclaration}
 use Rattle.source_tree.specs.declared.source.InterfaceDeclaration.TheVariants as i
-use Rattle.well_formed.specs.Fits.{definition}
+use Rattle.type_fits.specs.Fits.{definition}
 use Rattle.scopes.specs.declared.entries.Entry.{Entry}
 use Rattle.scopes.specs.declared.entries.BlockKind.TheVariants as block
 use Rattle.scopes.specs.declared.searches.OpenBlock.{OpenBlock}
@@ -37,13 +37,14 @@ use Rattle.routines.specs.Headings.{begins, name_of, announced_by, announced, he
 use Rattle.routines.specs.Insides.{site_in, self_entered, params_entered, inside, done, closed}
 use Rattle.routines.specs.Methods.{of_part, own_method, method_opened_by, method_opened}
 use Rattle.routines.specs.Blocks.{part_judged, block_judged, judged, all_judged}
-use Rattle.tp_check_decl.specs.Interfaces.{declared, all_declared, interface_judged, all_used}
-use Rattle.tp_check_decl.specs.Programs.{unit_site, empty_draft, declarations_judged}
+use Rattle.checked_units.specs.Below.{declared, all_declared, all_used, unit_site, empty_draft}
+use Rattle.tp_check_decl.specs.Interfaces.{interface_judged}
+use Rattle.tp_check_decl.specs.Programs.{declarations_judged}
 use Rattle.closed_types.proofs.Own.{same_count}
 use Rattle.closed_types.proofs.Reading.{is_entered}
 use Rattle.declared_names.specs.Declaring.{typing, with_names}
 use Rattle.declared_parts.proofs.Parts.{part_adds}
-use Rattle.known_names.proofs.Entering.{Ends, ends, outer_end}
+use Rattle.checked_units.proofs.Below.{Ends, ends, outer_end}
 use Rattle.checked_units.proofs.Used.{all_used_grow}
 use Rattle.sound_units.proofs.Each.{Each, each_on, each_as}
 use Rattle.sound_units.proofs.Objects.{IsSoundSlot, slot_more, types_sound}

@@ -5,7 +5,6 @@ use Rattle.std.specs.Option.{option_map}
 use Rattle.std.proofs.lemmas.List.Elements.{All-nil, All-cons, All-head, All-tail}
 use Rattle.std.proofs.lemmas.Option.{slice_get-map, slice_get_within, get_or_from_slice_get}
 use Rattle.type_layout.specs.declared.definitions.TypeId.{TypeId}
-use Rattle.type_layout.specs.declared.definitions.Kind.TheVariants as kind
 use Rattle.type_layout.specs.declared.definitions.TypeDef.{TypeDef}
 use Rattle.syntax_tree.specs.declared.statement.CompoundStatement.{CompoundStatement}
 use Rattle.source_tree.specs.declared.source.Tree.TheVariants as t
@@ -18,11 +17,11 @@ use Rattle.routines.specs.declared.drafts.Announced.{Announced}
 use Rattle.routines.specs.Drafts.{Done, Numbered, Drafted, knowing}
 use Rattle.routines.specs.Trees.{view_declarations}
 use Rattle.meaning.specs.Programs.{is_overlay}
-use Rattle.tp_check_decl.specs.Units.{Finished, Whole, view_routine, view_unit}
-use Rattle.tp_check_decl.specs.Endings.{finished_by, all_finished, main_judged, ended}
-use Rattle.tp_check_decl.specs.Interfaces.{items_of}
-use Rattle.typed_programs.specs.WellTyped.{IsSoundRoutine, IsFirstOf, HasFirst}
-use Rattle.sound_units.specs.Sound.{HasSoundParts, AreBytes, BeginsWithBytes, HasFewVariables, IsHeld}
+use Rattle.checked_units.specs.Below.{Finished, Whole, view_routine, view_unit, finished_by, all_finished, ended, items_of}
+use Rattle.tp_check_decl.specs.Endings.{main_judged}
+use Rattle.typed_programs.specs.WellTyped.{NeedsClass, IsSoundRoutine, IsFirstOf, HasFirst}
+use Rattle.unit_references.specs.Units.{HasSoundParts}
+use Rattle.sound_units.specs.Sound.{AreBytes, BeginsWithBytes, HasFewVariables, IsHeld}
 use Rattle.sound_units.specs.Laws.{UnitLaw}
 use Rattle.sound_units.proofs.Each.{Each, each_at, each_on}
 use Rattle.sound_units.proofs.Plain.{plain_of}
@@ -35,7 +34,7 @@ use Rattle.sound_units.proofs.Reading.{IsSound, interface_open, program_open, im
 
 record IsSoundCode (types : List TypeDef) (one : Finished) : Type 0 where
   method : is_some one.owner ≡ true → one.outer ≡ None
-  class : one.header.kind ≡ kind.Constructor → IsDynamic types one.owner
+  class : NeedsClass one.header.kind → IsDynamic types one.owner
 
 finished_sound : (types : List TypeDef) (first : Announced) (o : Option Done) (one : Finished) → (finished_by types first o).holds one → IsSoundSlot types (record { first = first; done = o }) → IsSoundCode types one
 finished_sound types first None one h s = absurd h

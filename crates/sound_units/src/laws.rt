@@ -1,12 +1,11 @@
 //! The laws on first values and routines of checked units.
 
-ghost use Rattle.sound_units.specs.Laws.{UnitLaw, ProgramLaw, TogetherLaw};
+ghost use Rattle.sound_units.specs.Laws.{UnitLaw, ProgramLaw};
 
 /// What the typed unit of a source begins its globals with has no object in it, its methods are declared in no other routine, and
-/// instances that its constructors make have a class; so it is of all units of a program, of which none is named OVERLAY. With what else
-/// is asked of a program, it is well-typed then. It does nothing.
+/// instances that its constructors and destructors are called for have a class; so it is of all units of a program, of which none is named
+/// OVERLAY. It does nothing.
 pub fn sound_unit_laws()
     ensures unit { UnitLaw }
     ensures program { ProgramLaw }
-    ensures together { TogetherLaw }
 {}

@@ -15,7 +15,7 @@ use Rattle.type_tree.specs.declared.parameter.MethodHeader.TheVariants as m
 use Rattle.source_tree.specs.declared.declaration.RoutineHeader.{RoutineHeader}
 use Rattle.source_tree.specs.declared.declaration.RoutineHeader.TheVariants as h
 use Rattle.scopes.specs.Environment.{Environment}
-use Rattle.well_formed.specs.Fits.{definition}
+use Rattle.type_fits.specs.Fits.{definition}
 use Rattle.typing_rules.specs.declared.faults.Rule.TheVariants as rules
 use Rattle.typing_rules.specs.Faults.{broken}
 use Rattle.typing_rules.specs.Judgements.{Judgement, makes, refuses, rule, either, part}

@@ -18,7 +18,7 @@ use Rattle.source_tree.specs.declared.declaration.DeclarationPart.{DeclarationPa
 use Rattle.source_tree.specs.declared.declaration.DeclarationPart.TheVariants as part_of
 use Rattle.scopes.specs.declared.entries.Entry.TheVariants as entry
 use Rattle.scopes.specs.Environment.{Environment, Meaning, named, find}
-use Rattle.well_formed.specs.Fits.{definition}
+use Rattle.type_fits.specs.Fits.{definition}
 use Rattle.typing_rules.specs.Judgements.{Judgement, makes, part}
 use Rattle.type_denoters.specs.Denoters.{ground}
 use Rattle.typed_constants.specs.Trees as first

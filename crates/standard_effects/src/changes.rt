@@ -2,7 +2,7 @@
 
 ghost use Rattle.std.specs.Prelude.{◌≡◌, ◌≤ℤ◌, ◌+ℤ◌, pos, negsuc, neg_ℤ, map, IfOk};
 ghost use Rattle.std.specs.Option.{option_copied};
-ghost use Rattle.well_formed.specs.Fits.{stored_as};
+ghost use Rattle.type_fits.specs.Fits.{stored_as};
 ghost use Rattle.meaning.specs.Standard.{number_assigned, moved, text_assigned, step_given, moving, deleting, inserting, telling, valuing, disposing};
 ghost use Rattle.meaning.specs.Trees.{Text};
 ghost use Rattle.meaning.specs.Activations.{assigned};

@@ -15,7 +15,7 @@ use Rattle.typed_tree.specs.Statements.{view_stmt}
 use Rattle.typed_tree.specs.Needs.{statement_need}
 use Rattle.scopes.specs.Members.{narrow}
 use Rattle.scopes.specs.Environment.{Environment}
-use Rattle.well_formed.specs.WellFormed.{IsInitial, HasInitial}
+use Rattle.type_fits.specs.Routines.{IsInitial, HasInitial}
 use Rattle.typing_rules.specs.declared.faults.Refusal.{Refusal}
 use Rattle.unit_interface.specs.declared.interfaces.Interface.{Interface}
 use Rattle.typing_rules.specs.Faults.{answer_of}

@@ -1,7 +1,7 @@
 //! The checker of sources.
 
 ghost use Rattle.std.specs.Prelude.{◌≡◌, ◌<◌, ◌^◌, All, IfOk, IfErr, length};
-ghost use Rattle.well_formed.specs.WellFormed.{HasInitial};
+ghost use Rattle.type_fits.specs.Routines.{HasInitial};
 ghost use Rattle.typing_rules.specs.Faults.{Tells, answer_of, IsAnswered};
 ghost use Rattle.typing_rules.specs.Judgements.{Gives};
 ghost use Rattle.tp_check_decl.specs.Units.{Whole, view_unit};

@@ -27,7 +27,7 @@ use Rattle.scopes.specs.declared.entries.BlockKind.{BlockKind}
 use Rattle.scopes.specs.declared.entries.BlockKind.TheVariants as block
 use Rattle.scopes.specs.declared.members.Member.{Member}
 use Rattle.scopes.specs.Environment.{Environment, Meaning, named, member, find, kind_of}
-use Rattle.well_formed.specs.Fits.{definition}
+use Rattle.type_fits.specs.Fits.{definition}
 use Rattle.constant_expressions.specs.Constants as constants
 use Rattle.constant_expressions.specs.Values.{number_of}
 use Rattle.constant_expressions.proofs.ConstantLaws as constant

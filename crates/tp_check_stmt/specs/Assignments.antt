@@ -22,7 +22,7 @@ use Rattle.scopes.specs.declared.searches.OpenBlock.{OpenBlock}
 use Rattle.scopes.specs.Environment.{Environment, Meaning, named, member, find, kind_of}
 use Rattle.scopes.specs.declared.members.Member.{Member}
 use Rattle.scopes.specs.Members.{narrow}
-use Rattle.well_formed.specs.Fits.{definition}
+use Rattle.type_fits.specs.Fits.{definition}
 use Rattle.typing_rules.specs.declared.faults.Rule.TheVariants as rules
 use Rattle.typing_rules.specs.Faults.{broken}
 use Rattle.typing_rules.specs.Judgements.{Judgement, makes, refuses, either, part}

@@ -16,7 +16,7 @@ use Rattle.typed_tree.specs.Expressions.{Expression, type_of, view_expr}
 use Rattle.scopes.specs.declared.entries.Entry.{Entry}
 use Rattle.scopes.specs.declared.entries.Entry.TheVariants as entry
 use Rattle.scopes.specs.Environment.{Environment, Meaning, named, member, find}
-use Rattle.well_formed.specs.Fits.{definition}
+use Rattle.type_fits.specs.Fits.{definition}
 use Rattle.typing_rules.specs.declared.faults.Rule.TheVariants as rules
 use Rattle.typing_rules.specs.Faults.{broken, undeclared}
 use Rattle.typing_rules.specs.Judgements.{Judgement, makes, refuses, rule, part, parts}

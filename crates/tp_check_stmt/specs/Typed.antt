@@ -15,7 +15,7 @@ use Rattle.typed_tree.specs.Expressions.{Expression}
 use Rattle.typed_tree.specs.Statements.{Statement, Statements, Arms, If, While, Repeat, Block, Case, For, With, NoStatements, Then, NoArms, Branch, view_stmt}
 use Rattle.scopes.specs.declared.entries.BlockKind.TheVariants as block
 use Rattle.scopes.specs.Environment.{Environment, with_block}
-use Rattle.well_formed.specs.Fits.{definition}
+use Rattle.type_fits.specs.Fits.{definition}
 use Rattle.typing_rules.specs.declared.faults.Fault.{Fault}
 use Rattle.typing_rules.specs.declared.faults.Rule.TheVariants as rules
 use Rattle.typing_rules.specs.declared.sorts.Sort.{Sort}

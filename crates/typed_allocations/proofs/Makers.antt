@@ -1,6 +1,7 @@
 -- New gives typed nodes.
-use Rattle.std.proofs.Common.{◌≡◌, ℕ, zero, suc, Bool, true, false, cond, List, [], length, Option, Some, None, refl, sym, subst, ap, ◌∙◌}
+use Rattle.std.proofs.Common.{◌≡◌, ℕ, Bool, true, false, cond, List, [], length, Option, Some, None, refl, sym, subst, ap, ◌∙◌}
 use Rattle.type_layout.specs.declared.definitions.TypeId.{TypeId}
+use Rattle.type_layout.specs.declared.definitions.RoutineId.{RoutineId}
 use Rattle.type_layout.specs.declared.definitions.Kind.{Kind}
 use Rattle.type_layout.specs.declared.definitions.Kind.TheVariants as kind
 use Rattle.type_layout.specs.declared.definitions.Header.{Header}
@@ -9,10 +10,10 @@ use Rattle.type_layout.specs.declared.definitions.TypeDef.{TypeDef}
 use Rattle.type_layout.specs.declared.definitions.TypeDef.TheVariants as type
 use Rattle.type_layout.specs.declared.texts.Place.{Place}
 use Rattle.typed_tree.specs.Expressions.{Expression, Arguments, Make}
-use Rattle.well_formed.specs.Fits.{definition, IsSome, IsPointer, Descends}
-use Rattle.well_formed.specs.Scopes.{Scope, IsRoutineAt}
-use Rattle.well_formed.specs.Typed.{IsTyped, MakeFits, AreTypedArguments, TakeEach}
-use Rattle.well_formed.specs.Standard.{Link, new_block}
+use Rattle.type_fits.specs.Fits.{definition, IsSome, IsPointer, Descends}
+use Rattle.well_formed.specs.Scopes.{Prototype, Scope, HasRoutine}
+use Rattle.well_formed.specs.Typed.{IsTyped, IsConstructorOf, MakeFits, TakeEach}
+use Rattle.type_fits.specs.Standard.{Link, new_block}
 use Rattle.scopes.specs.Environment.{Environment}
 use Rattle.typing_rules.specs.Selectors.{target_by, target_in}
 use Rattle.call_rules.specs.Given.{arguments_of}
@@ -20,7 +21,8 @@ use Rattle.method_rules.specs.Methods.{method_in}
 use Rattle.allocation_rules.specs.Allocations.{is_constructor, of_kind, member_at, blank_by, blank, Maker, constructor_by, constructor, made, newly_made}
 use Rattle.typed_nodes.specs.Tables.{IsSound}
 use Rattle.typed_calls.specs.Laws.{AreOperands}
-use Rattle.typed_calls.proofs.Given.{taken_typed, taken_alike, given_taken}
+use Rattle.typed_calls.proofs.Given.{taken_alike, given_taken}
+use Rattle.typed_calls.proofs.Calls.{routine_as}
 use Rattle.typed_methods.specs.Declared.{IsMethod, HasMethods}
 use Rattle.typed_methods.proofs.Lines.{member_object}
 use Rattle.typed_methods.proofs.Bound.{here, header_in, named_callee}
@@ -102,13 +104,17 @@ module _ (s : Scope) (sound : IsSound s.types) where
   unfolding blank
   blank_typed place ty e h = blank_at place ty e (definition s.types ty) refl h
 
-  make_fits : (class owner : TypeId) (header : Header) (unit number : ℕ) (args : Arguments) → header.kind ≡ kind.Constructor → IsRoutineAt (IsMethod owner header) s unit number
-      → Descends s.types class owner → TakeEach s header.params args → MakeFits s class unit number (λ params. TakeEach s params args) (AreTypedArguments s args)
-  make_fits class owner header zero number args k declared line h =
-      let r = declared.0 in
-      let same = declared.2.same in
-      (r, declared.1, record { kind = sym same.kind ∙ k; owner = owner; owned = declared.2.owned; inherited = line }, taken_alike s header.params r.header.params args same.params h)
-  make_fits class owner header (suc unit) number args k declared line h = (declared, taken_typed s header.params args h)
+  maker_seen : (class owner : TypeId) (header : Header) (args : Arguments) → header.kind ≡ kind.Constructor → Descends s.types class owner → TakeEach s header.params args
+      → (one : Prototype) → IsMethod owner header one → IsConstructorOf s.types class one × TakeEach s one.header.params args
+  maker_seen class owner header args k line h one is =
+      let same = is.same in
+      (record { kind = sym same.kind ∙ k; owner = owner; owned = is.owned; inherited = line }, taken_alike s header.params one.header.params args same.params h)
+
+  make_fits : (class owner : TypeId) (header : Header) (routine : RoutineId) (args : Arguments) → header.kind ≡ kind.Constructor → HasRoutine (IsMethod owner header) s routine
+      → Descends s.types class owner → TakeEach s header.params args → MakeFits s class routine (λ params. TakeEach s params args)
+  make_fits class owner header routine args k declared line h =
+      routine_as s (IsMethod owner header) (λ one. IsConstructorOf s.types class one × TakeEach s one.header.params args) (maker_seen class owner header args k line h)
+      routine.unit routine.number declared
 
   pub made_typed : (place : Place) (checked : Bool) (ty : TypeId) (one : Maker) (es : List Expression) (e : Expression) → IsMaker s ty one → AreOperands s es
       → (made s.types place checked ty one es).holds e → IsTyped s e
@@ -116,7 +122,7 @@ module _ (s : Scope) (sound : IsSound s.types) where
   made_typed place checked ty one es e maker oes h =
       let taken = given_taken s sound place checked one.header.params es h.part maker.header.params oes h.holds in
       subst (λ (x : Expression). IsTyped s x) (sym h.made)
-      (maker.class, maker.points, maker.object, make_fits maker.class maker.owner one.header one.routine.unit one.routine.number (arguments_of h.part) maker.kind maker.declared maker.inherited taken)
+      (maker.class, maker.points, maker.object, make_fits maker.class maker.owner one.header one.routine (arguments_of h.part) maker.kind maker.declared maker.inherited taken)
 
   pub newly_typed : (place : Place) (a e : Expression) → IsTyped s a → (newly_made place a).holds e → IsTyped s e
   newly_typed place (Make ty routine args) e typed h = subst (λ (x : Expression). IsTyped s x) (sym h) typed

@@ -1,5 +1,5 @@
 -- Dispose gives well-formed statements.
-use Rattle.std.proofs.Common.{◌≡◌, inl, inr, ℕ, zero, suc, Bool, true, List, length, Option, Some, None, refl, sym, subst, ap, ◌∙◌}
+use Rattle.std.proofs.Common.{◌≡◌, inl, inr, ℕ, Bool, true, List, length, Option, Some, None, refl, sym, subst, ap, ◌∙◌}
 use Rattle.std.specs.Option.{option_and_then}
 use Rattle.type_layout.specs.declared.definitions.TypeId.{TypeId}
 use Rattle.type_layout.specs.declared.definitions.Kind.{Kind}
@@ -11,10 +11,10 @@ use Rattle.type_layout.specs.declared.definitions.TypeDef.TheVariants as type
 use Rattle.type_layout.specs.declared.texts.Place.{Place}
 use Rattle.typed_tree.specs.Expressions.{Expression, Arguments, type_of}
 use Rattle.typed_tree.specs.Statements.{Statement}
-use Rattle.well_formed.specs.Fits.{definition, Descends}
-use Rattle.well_formed.specs.Scopes.{Scope, IsRoutineAt}
+use Rattle.type_fits.specs.Fits.{definition, Descends}
+use Rattle.well_formed.specs.Scopes.{Prototype, Scope}
 use Rattle.well_formed.specs.Typed.{IsTyped, TakeEach, sort_of}
-use Rattle.well_formed.specs.WellFormed.{IsDestructorAt, IsDestructor, IsStatement}
+use Rattle.well_formed.specs.WellFormed.{IsDestructorOf, IsDestructor, IsStatement}
 use Rattle.scopes.specs.Environment.{Environment}
 use Rattle.typing_rules.specs.Wanted.{nil}
 use Rattle.typing_rules.specs.Selectors.{target_by, target_in, target_of}
@@ -27,7 +27,8 @@ use Rattle.typed_nodes.specs.Tables.{IsSound}
 use Rattle.typed_nodes.specs.Laws.{IsOperand}
 use Rattle.typed_nodes.proofs.Wanting.{no_type}
 use Rattle.typed_calls.specs.Laws.{AreOperands}
-use Rattle.typed_calls.proofs.Given.{taken_typed, taken_alike, given_taken}
+use Rattle.typed_calls.proofs.Given.{taken_alike, given_taken}
+use Rattle.typed_calls.proofs.Calls.{routine_as}
 use Rattle.typed_methods.specs.Declared.{IsMethod, HasMethods, IsCallee}
 use Rattle.typed_methods.proofs.Lines.{member_object}
 use Rattle.typed_methods.proofs.Bound.{here, header_in, callee_bound}
@@ -84,18 +85,19 @@ module _ (g : Environment) (s : Scope) (has : HasMethods g s) (sound : IsSound s
   destructor_found place a name one oa h = by_target place a name one oa (target_of g.types.types a) refl h
 
 module _ (s : Scope) (sound : IsSound s.types) where
-  destructor_at : (class owner : TypeId) (header : Header) (unit number : ℕ) (args : Arguments) → header.kind ≡ kind.Destructor → IsRoutineAt (IsMethod owner header) s unit number
-      → Descends s.types class owner → TakeEach s header.params args → IsDestructorAt s class unit number args
-  destructor_at class owner header zero number args k declared line h =
-      let r = declared.0 in
-      let same = declared.2.same in
-      (r, declared.1, record { kind = sym same.kind ∙ k; owner = owner; owned = declared.2.owned; inherited = line }, taken_alike s header.params r.header.params args same.params h)
-  destructor_at class owner header (suc unit) number args k declared line h = (declared, taken_typed s header.params args h)
+  unmaker_seen : (class owner : TypeId) (header : Header) (args : Arguments) → header.kind ≡ kind.Destructor → Descends s.types class owner → TakeEach s header.params args
+      → (one : Prototype) → IsMethod owner header one → IsDestructorOf s.types class one × TakeEach s one.header.params args
+  unmaker_seen class owner header args k line h one is =
+      let same = is.same in
+      (record { kind = sym same.kind ∙ k; owner = owner; owned = is.owned; inherited = line }, taken_alike s header.params one.header.params args same.params h)
 
   destructor_by_callee : (class : TypeId) (header : Header) (one : Callee) (checked : Bool) (args : Arguments) → header.kind ≡ kind.Destructor → IsCallee s class header one → TakeEach s header.params args
       → IsDestructor s class (destructor_as checked one) args
-  destructor_by_callee class header (callee.Routine routine) checked args k declared h = destructor_at class declared.0 header routine.unit routine.number args k declared.1 declared.2 h
-  destructor_by_callee class header (callee.Slot slot) checked args k declared h = taken_typed s header.params args h
+  destructor_by_callee class header (callee.Routine routine) checked args k declared h =
+      routine_as s (IsMethod declared.0 header) (λ one. IsDestructorOf s.types class one × TakeEach s one.header.params args)
+      (unmaker_seen class declared.0 header args k declared.2 h) routine.unit routine.number declared.1
+  destructor_by_callee class header (callee.Slot slot) checked args k declared h =
+      (declared.0, declared.1, subst (λ (one : Header). TakeEach s one.params args) (sym declared.2) h)
 
   pub unmade_well : (place : Place) (checked : Bool) (a : Expression) (one : Unmaker) (es : List Expression) (statement : Statement) → IsUnmaker s a one → AreOperands s es
       → (unmade s.types place checked a one es).holds statement → IsStatement s statement

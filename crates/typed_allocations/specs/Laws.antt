@@ -8,8 +8,8 @@ use Rattle.type_layout.specs.declared.definitions.TypeDef.TheVariants as type
 use Rattle.type_layout.specs.declared.texts.Place.{Place}
 use Rattle.typed_tree.specs.Expressions.{Expression}
 use Rattle.typed_tree.specs.Statements.{Statement}
-use Rattle.well_formed.specs.Fits.{definition, IsObject, Descends}
-use Rattle.well_formed.specs.Scopes.{Scope, HasRoutine}
+use Rattle.type_fits.specs.Fits.{definition, IsObject, Descends}
+use Rattle.well_formed.specs.Scopes.{Scope, IsNamed, HasRoutine}
 use Rattle.well_formed.specs.Typed.{IsTyped, IsRoutineValue, sort_of}
 use Rattle.well_formed.specs.WellFormed.{IsStatement}
 use Rattle.scopes.specs.Environment.{Environment}
@@ -21,9 +21,9 @@ use Rattle.typed_nodes.specs.Laws.{IsOperand}
 use Rattle.typed_calls.specs.Laws.{AreOperands}
 use Rattle.typed_methods.specs.Declared.{IsMethod, HasMethods, IsCallee}
 
--- where a routine is far and nested in no other, it may stand as a value
+-- where a routine is far and nested in no other, it may stand as a value, unless it is one of the unit Overlay
 abbrev pub MayBeValue : Scope → RoutineId → ℕ → Header → Bool → Type 0
-MayBeValue s routine level header far = far ≡ true → level ≡ 0 → HasRoutine (IsRoutineValue header) s routine
+MayBeValue s routine level header far = far ≡ true → level ≡ 0 → HasRoutine (IsRoutineValue header) s routine × IsNamed s routine.unit
 
 -- a constructor for what a pointer type points to
 pub record IsMaker (s : Scope) (ty : TypeId) (one : Maker) : Type 0 where

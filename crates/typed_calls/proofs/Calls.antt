@@ -5,22 +5,32 @@ use Rattle.type_layout.specs.declared.definitions.RoutineId.{RoutineId}
 use Rattle.type_layout.specs.declared.definitions.Header.{Header}
 use Rattle.type_layout.specs.declared.texts.Place.{Place}
 use Rattle.typed_tree.specs.Expressions.{Expression, Arguments, Call, NoReceiver}
-use Rattle.well_formed.specs.Scopes.{Scope, HasResult, IsRoutineAt}
-use Rattle.well_formed.specs.Typed.{IsTyped, CallFits, IsOwn, IsTypedReceiver, AreTypedArguments, TakeEach}
+use Rattle.well_formed.specs.Scopes.{Prototype, prototype, Scope, HasResult, IsRoutineAt, IsWithin}
+use Rattle.well_formed.specs.Typed.{IsTyped, CallFits, IsOwn, TakeEach}
 use Rattle.call_rules.specs.Given.{Handed, arguments_of, result_called, called, result_performed, performed}
 use Rattle.typed_nodes.specs.Tables.{IsResultIn, IsHeaderIn, IsSound}
 use Rattle.typed_calls.specs.Laws.{AreOperands, IsFree, IsDeclared}
-use Rattle.typed_calls.proofs.Given.{taken_typed, taken_alike, given_taken}
+use Rattle.typed_calls.proofs.Given.{taken_alike, given_taken}
+
+-- what is known of a routine may be told otherwise
+pub routine_as : (s : Scope) (A B : Prototype → Type 0) → ((one : Prototype) → A one → B one) → (unit number : ℕ) → IsRoutineAt A s unit number → IsRoutineAt B s unit number
+routine_as s A B f zero number h = (h.0, h.1, f (prototype h.0) h.2)
+routine_as s A B f (suc unit) number h = (h.0, h.1, f h.0 h.2)
 
 module _ (s : Scope) where
-  call_fits : (unit number : ℕ) (header : Header) (args : Arguments) → IsRoutineAt (IsFree header) s unit number → TakeEach s header.params args
-      → CallFits s unit number header.result (λ owner. IsOwn s owner NoReceiver) (λ params. TakeEach s params args) (IsTypedReceiver s NoReceiver × AreTypedArguments s args)
-  call_fits zero number header args declared h =
-      let r = declared.0 in
-      let free = declared.2.free in
-      let same = declared.2.same in
-      (r, declared.1, sym same.result, subst (λ (o : Option TypeId). IsOwn s o NoReceiver) (sym free) tt, taken_alike s header.params r.header.params args same.params h)
-  call_fits (suc unit) number header args declared h = (declared, (tt, taken_typed s header.params args h))
+  call_seen : (header : Header) (args : Arguments) → TakeEach s header.params args → (one : Prototype) → IsFree header one × IsWithin s.around one.outer
+      → (one.header.result ≡ header.result) × (one.owner ≡ None → IsWithin s.around one.outer) × IsOwn s one.owner NoReceiver × TakeEach s one.header.params args
+  call_seen header args h one declared =
+      let free = declared.0.free in
+      let same = declared.0.same in
+      (sym same.result, λ none. declared.1, subst (λ (o : Option TypeId). IsOwn s o NoReceiver) (sym free) tt, taken_alike s header.params one.header.params args same.params h)
+
+  call_fits : (routine : RoutineId) (header : Header) (args : Arguments) → IsDeclared s routine header → TakeEach s header.params args
+      → CallFits s routine header.result (λ owner. IsOwn s owner NoReceiver) (λ params. TakeEach s params args)
+  call_fits routine header args declared h =
+      routine_as s (λ one. IsFree header one × IsWithin s.around one.outer)
+      (λ one. (one.header.result ≡ header.result) × (one.owner ≡ None → IsWithin s.around one.outer) × IsOwn s one.owner NoReceiver × TakeEach s one.header.params args)
+      (call_seen header args h) routine.unit routine.number declared
 
   pub has_result : (o : Option TypeId) → IsResultIn s.types o → HasResult s o
   has_result None h = tt
@@ -29,7 +39,7 @@ module _ (s : Scope) where
   call_typed : (routine : RoutineId) (header : Header) (args : Arguments) → IsDeclared s routine header → IsHeaderIn s.types header → TakeEach s header.params args
       → IsTyped s (Call header.result routine NoReceiver args)
   call_typed routine header args declared there h =
-      (has_result header.result there.result, call_fits routine.unit routine.number header args declared h)
+      (has_result header.result there.result, call_fits routine header args declared h)
 
 module _ (s : Scope) (sound : IsSound s.types) (place : Place) (checked : Bool) (routine : RoutineId) (header : Header) (es : List Expression) (e : Expression)
     (declared : IsDeclared s routine header) (there : IsHeaderIn s.types header) (oes : AreOperands s es) where

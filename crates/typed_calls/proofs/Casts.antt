@@ -8,10 +8,10 @@ use Rattle.type_layout.specs.declared.definitions.TypeDef.TheVariants as type
 use Rattle.type_layout.specs.declared.texts.Place.{Place}
 use Rattle.type_layout.specs.Storage.{storage_of}
 use Rattle.typed_tree.specs.Expressions.{Expression, Convert}
-use Rattle.well_formed.specs.Fits.{definition, stored_as, IsSome}
+use Rattle.type_fits.specs.Fits.{definition, stored_as, IsSome}
 use Rattle.well_formed.specs.Scopes.{Scope}
 use Rattle.well_formed.specs.Typed.{IsTyped}
-use Rattle.well_formed.specs.Standard.{sort_of}
+use Rattle.type_fits.specs.Standard.{sort_of}
 use Rattle.typing_rules.specs.declared.sorts.Sort.{Sort}
 use Rattle.typing_rules.specs.declared.sorts.Sort.TheVariants as sort
 use Rattle.typing_rules.specs.Judgements.{Meets}

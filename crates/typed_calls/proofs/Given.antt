@@ -1,13 +1,13 @@
 -- Arguments are as their parameters take them.
-use Rattle.std.proofs.Common.{◌≡◌, inl, inr, Bool, true, false, All, List, [], ◌∷◌, map, Option, Some, None, refl, sym, subst, ap, ◌∙◌}
+use Rattle.std.proofs.Common.{◌≡◌, inl, inr, Bool, true, false, All, List, [], ◌∷◌, map, Some, refl, sym, subst, ap, ◌∙◌}
 use Rattle.std.proofs.lemmas.List.Elements.{All-head, All-tail}
 use Rattle.type_layout.specs.declared.definitions.TypeId.{TypeId}
 use Rattle.type_layout.specs.declared.definitions.Param.{Param}
 use Rattle.type_layout.specs.declared.texts.Place.{Place}
-use Rattle.typed_tree.specs.Expressions.{Expression, Arguments, NoArguments, ByValue, ByPlace, Load, type_of}
-use Rattle.well_formed.specs.Fits.{IsSome, Descends, shape_of}
+use Rattle.typed_tree.specs.Expressions.{Expression, Arguments, NoArguments, ByValue, ByPlace, Load}
+use Rattle.type_fits.specs.Fits.{Descends, shape_of}
 use Rattle.well_formed.specs.Scopes.{Scope}
-use Rattle.well_formed.specs.Typed.{IsTyped, HasPlace, Takes, JoinsSome, AreTypedArguments, TakeEach}
+use Rattle.well_formed.specs.Typed.{IsTyped, HasPlace, Takes, TakeEach}
 use Rattle.call_rules.specs.Given.{Handed, value, place_of, onto, arguments_of, IsVariableFor, by_kind, handed, given}
 use Rattle.typed_nodes.specs.Tables.{IsInTable, IsSound}
 use Rattle.typed_nodes.specs.Laws.{IsOperand}
@@ -17,18 +17,6 @@ use Rattle.typed_nodes.proofs.Indexed.{loaded_from}
 use Rattle.typed_calls.specs.Laws.{AreOperands}
 
 -- ---- arguments that are taken
-
-joins_some : (s : Scope) (ty : TypeId) (o : Option TypeId) → JoinsSome s.types ty o → IsSome o
-joins_some s ty None h = absurd h
-joins_some s ty (Some own) h = tt
-
-pub taken_typed : (s : Scope) (params : List Param) (args : Arguments) → TakeEach s params args → AreTypedArguments s args
-taken_typed s [] NoArguments h = tt
-taken_typed s [] (ByValue v rest) h = absurd h
-taken_typed s [] (ByPlace at rest) h = absurd h
-taken_typed s (param ∷ params) NoArguments h = absurd h
-taken_typed s (param ∷ params) (ByValue v rest) h = (h.1, joins_some s param.ty (type_of v) h.2, taken_typed s params rest h.3)
-taken_typed s (param ∷ params) (ByPlace at rest) h = ((h.1.0, h.1.1), taken_typed s params rest h.2)
 
 -- only how and of which type each is taken matters
 pub taken_alike : (s : Scope) (params others : List Param) (args : Arguments) → map shape_of params ≡ map shape_of others → TakeEach s params args → TakeEach s others args

@@ -5,10 +5,9 @@ use Rattle.type_layout.specs.declared.definitions.RoutineId.{RoutineId}
 use Rattle.type_layout.specs.declared.definitions.Param.{Param}
 use Rattle.type_layout.specs.declared.definitions.Header.{Header}
 use Rattle.type_layout.specs.declared.texts.Place.{Place}
-use Rattle.typed_tree.specs.declared.units.Routine.{Routine}
 use Rattle.typed_tree.specs.Expressions.{Expression}
-use Rattle.well_formed.specs.Fits.{AreSameHeaders}
-use Rattle.well_formed.specs.Scopes.{Scope, HasRoutine}
+use Rattle.type_fits.specs.Fits.{AreSameHeaders}
+use Rattle.well_formed.specs.Scopes.{Prototype, Scope, HasRoutine, IsWithin}
 use Rattle.well_formed.specs.Typed.{IsTyped, TakeEach}
 use Rattle.call_rules.specs.Casts.{cast}
 use Rattle.call_rules.specs.Given.{Handed, arguments_of, given, called, performed}
@@ -20,13 +19,13 @@ AreOperands s [] = Unit {0}
 AreOperands s (e ∷ es) = IsOperand s e × AreOperands s es
 
 -- a routine that is no method, with this header
-pub record IsFree (header : Header) (routine : Routine) : Type 0 where
-  pub free : routine.owner ≡ None
-  pub same : AreSameHeaders header routine.header
+pub record IsFree (header : Header) (one : Prototype) : Type 0 where
+  pub free : one.owner ≡ None
+  pub same : AreSameHeaders header one.header
 
--- what is called by this number is declared with this header
+-- what is called by this number is declared with this header, where it may be called from
 abbrev pub IsDeclared : Scope → RoutineId → Header → Type 0
-IsDeclared s routine header = HasRoutine (IsFree header) s routine
+IsDeclared s routine header = HasRoutine (λ one. IsFree header one × IsWithin s.around one.outer) s routine
 
 pub record GiveTyped (s : Scope) : Type 0 where
   pub cast : (place : Place) (ty : TypeId) (es : List Expression) (e : Expression) → AreOperands s es → (cast s.types place ty es).holds e → IsTyped s e

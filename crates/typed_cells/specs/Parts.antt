@@ -2,7 +2,7 @@
 use Rattle.std.specs.Prelude.{ℕ, List, take, get_or, Option}
 use Rattle.type_layout.specs.declared.definitions.TypeId.{TypeId}
 use Rattle.type_layout.specs.declared.definitions.TypeDef.{TypeDef}
-use Rattle.well_formed.specs.Fits.{types_in, field_types_of}
+use Rattle.type_fits.specs.Fits.{types_in, field_types_of}
 use Rattle.typed_cells.specs.declared.parts.Part.{Part}
 use Rattle.typed_cells.specs.declared.parts.Part.TheVariants as part
 use Rattle.meaning.specs.Trees.{Tree, Tip}

@@ -3,7 +3,7 @@
 ghost use Rattle.std.specs.Prelude.{◌≡◌, ◌≤◌, ◌<◌, ◌++◌, map, take, length, slice_get, IfOk, IfSome, OnOk};
 ghost use Rattle.std.specs.Option.{option_copied};
 ghost use Rattle.type_layout.specs.Layouts.{bounds_at};
-ghost use Rattle.well_formed.specs.Fits.{fields_by, field_types_of, field_type};
+ghost use Rattle.type_fits.specs.Fits.{fields_by, field_types_of, field_type};
 ghost use Rattle.meaning.specs.Shapes.{has_class_part, field_parts, class_parts, object_parts, parts_by, parts_of, parts_at, field_place, class_place};
 ghost use Rattle.typed_cells.specs.Parts.{view_part, parts_before, fields_before};
 

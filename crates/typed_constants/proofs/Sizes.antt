@@ -11,7 +11,7 @@ use Rattle.type_layout.specs.declared.layout.Layout.{Layout}
 use Rattle.type_layout.specs.declared.texts.Place.{Place}
 use Rattle.type_layout.specs.Storage.{storage_of}
 use Rattle.type_layout.specs.Layouts.{IsMeasured, layouts_of, layout_by, size_in, fields_size, size_of}
-use Rattle.well_formed.specs.Fits.{definition}
+use Rattle.type_fits.specs.Fits.{definition}
 use Rattle.scopes.specs.Environment.{Environment}
 use Rattle.values.specs.Sets.{set_bytes}
 use Rattle.typing_rules.specs.declared.sorts.Sort.{Sort}

@@ -9,7 +9,7 @@ use Rattle.type_layout.specs.declared.texts.Place.{Place}
 use Rattle.type_layout.specs.Words.{same_bytes}
 use Rattle.type_layout.specs.Storage.{storage_of, count_between}
 use Rattle.type_layout.specs.Layouts.{bounds_at}
-use Rattle.well_formed.specs.Fits.{definition}
+use Rattle.type_fits.specs.Fits.{definition}
 use Rattle.tp_lexer.specs.declared.token.Feature.TheVariants as feature
 use Rattle.scopes.specs.Environment.{Environment}
 use Rattle.values.specs.Sets.{set_bytes}

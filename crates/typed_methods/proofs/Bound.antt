@@ -4,23 +4,25 @@ use Rattle.std.specs.Prelude.{slice_get}
 use Rattle.std.proofs.lemmas.List.Elements.{All-head, All-tail}
 use Rattle.type_layout.specs.declared.definitions.TypeId.{TypeId}
 use Rattle.type_layout.specs.declared.definitions.RoutineId.{RoutineId}
-use Rattle.type_layout.specs.declared.definitions.Header.{Header}
 use Rattle.type_layout.specs.declared.definitions.Method.{Method}
 use Rattle.type_layout.specs.declared.definitions.TypeDef.{TypeDef}
 use Rattle.type_layout.specs.declared.definitions.TypeDef.TheVariants as type
 use Rattle.type_layout.specs.declared.texts.Place.{Place}
 use Rattle.typed_tree.specs.Expressions as tree
 use Rattle.typed_tree.specs.Expressions.{Expression, Load}
-use Rattle.well_formed.specs.Fits.{definition, IsObject, Descends}
+use Rattle.type_fits.specs.Fits.{definition, IsObject, Descends}
 use Rattle.well_formed.specs.Scopes.{Scope}
 use Rattle.well_formed.specs.Typed.{HasPlace}
 use Rattle.scopes.specs.declared.members.Member.{Member}
 use Rattle.scopes.specs.Members.{member_of}
 use Rattle.scopes.specs.Environment.{Environment}
+use Rattle.object_vmt.specs.Members.{members_of, members_in}
+use Rattle.object_vmt.specs.Slots.{method_at}
 use Rattle.method_rules.specs.declared.methods.Callee.{Callee}
 use Rattle.method_rules.specs.declared.methods.Callee.TheVariants as callee
 use Rattle.method_rules.specs.Slots.{methods_of, slot_of}
 use Rattle.method_rules.specs.Methods.{Bound, method_by, method_in, routine_in, routine_at, routine_named, callee_at, callee_of, bound_by, bound_of, bound, inherited_by, inherited}
+use Rattle.virtual_slots.proofs.Slots.{virtual_slot}
 use Rattle.typing_rules.specs.Judgements.{Through}
 use Rattle.typed_nodes.specs.Tables.{IsHeaderIn, IsSound}
 use Rattle.typed_nodes.specs.Laws.{IsOperand}
@@ -32,23 +34,24 @@ use Rattle.typed_methods.proofs.Lines.{member_line, member_object, line_on}
 -- ---- a method by its name
 
 pub record Found (types : List TypeDef) (class : TypeId) (name : List ℕ) (method : Method) : Type 0 where
+  pub found : method_in types class name ≡ Some method
   pub member : Member
   pub is : member_of types (Some class) name ≡ Some member
   pub kind : member.method ≡ true
   pub at : slice_get (methods_of (definition types member.class)) member.number ≡ Some method
 
-found_kind : (types : List TypeDef) (class : TypeId) (name : List ℕ) (method : Method) (one : Member) → member_of types (Some class) name ≡ Some one → (b : Bool) → one.method ≡ b
+found_kind : (types : List TypeDef) (class : TypeId) (name : List ℕ) (method : Method) → method_in types class name ≡ Some method → (one : Member) → member_of types (Some class) name ≡ Some one → (b : Bool) → one.method ≡ b
     → cond b (slice_get (methods_of (definition types one.class)) one.number) None ≡ Some method → Found types class name method
-found_kind types class name method one is true kind e = record { member = one; is = is; kind = kind; at = e }
-found_kind types class name method one is false kind e = let bad : ⊥ = cc in absurd bad
+found_kind types class name method found one is true kind e = record { found = found; member = one; is = is; kind = kind; at = e }
+found_kind types class name method found one is false kind e = let bad : ⊥ = cc in absurd bad
 
-found_by : (types : List TypeDef) (class : TypeId) (name : List ℕ) (method : Method) (o : Option Member) → member_of types (Some class) name ≡ o → method_by types o ≡ Some method → Found types class name method
-found_by types class name method None is e = let bad : ⊥ = cc in absurd bad
-found_by types class name method (Some one) is e = found_kind types class name method one is one.method refl e
+found_by : (types : List TypeDef) (class : TypeId) (name : List ℕ) (method : Method) → method_in types class name ≡ Some method → (o : Option Member) → member_of types (Some class) name ≡ o → method_by types o ≡ Some method → Found types class name method
+found_by types class name method found None is e = let bad : ⊥ = cc in absurd bad
+found_by types class name method found (Some one) is e = found_kind types class name method found one is one.method refl e
 
 found : (types : List TypeDef) (class : TypeId) (name : List ℕ) (method : Method) → method_in types class name ≡ Some method → Found types class name method
 unfolding method_in
-found types class name method e = found_by types class name method (member_of types (Some class) name) refl e
+found types class name method e = found_by types class name method e (member_of types (Some class) name) refl e
 
 all_at : (P : Method → Type 0) (xs : List Method) (k : ℕ) (x : Method) → All P xs → slice_get xs k ≡ Some x → P x
 all_at P [] zero x all e = let bad : ⊥ = cc in absurd bad
@@ -85,14 +88,22 @@ module _ (g : Environment) (s : Scope) (has : HasMethods g s) (sound : IsSound s
     line_on s.types class top f.member.class line (member_line s.types name f.member (length s.types) top f.is),
   )
 
-  slot_callee : (place : Place) (class : TypeId) (header : Header) (o : Option ℕ) (one : Callee) → (callee_at place o).holds one → IsCallee s class header one
-  slot_callee place class header None one h = absurd h
-  slot_callee place class header (Some slot) one h = subst (λ (c : Callee). IsCallee s class header c) (sym h) tt
+  -- a virtual method, in its slot
+  slot_callee : (place : Place) (class : TypeId) (name : List ℕ) (method : Method) → Found s.types class name method → method.is_virtual ≡ true → (o : Option ℕ) → slot_of s.types class name ≡ o
+      → (one : Callee) → (callee_at place o).holds one → IsCallee s class method.header one
+  slot_callee place class name method f virtual None is one h = absurd h
+  slot_callee place class name method f virtual (Some slot) is one h =
+      let at = virtual_slot s.types sound.defined sound.numbered class name method f.found virtual in
+      let known = at.1.is in
+      let same : at.0 ≡ slot = cc in
+      let answers = subst (λ (k : ℕ). method_at (members_in (members_of s.types) class) k ≡ Some method) same at.1.answers in
+      subst (λ (c : Callee). IsCallee s class method.header c) (sym h) (method, answers, refl)
 
   callee_by : (place : Place) (class : TypeId) (name : List ℕ) (method : Method) → Found s.types class name method → (one : Callee) → (b : Bool) → method.is_virtual ≡ b
       → cond b ((callee_at place (slot_of g.types.types class name)).holds one) (Through (routine_named g place method).holds (λ routine o. o ≡ callee.Routine routine) one)
       → IsCallee s class method.header one
-  callee_by place class name method f one true is h = slot_callee place class method.header (slot_of g.types.types class name) one h
+  callee_by place class name method f one true is h =
+      slot_callee place class name method f is (slot_of g.types.types class name) (ap (λ (t : List TypeDef). slot_of t class name) has.types) one h
   callee_by place class name method f one false is h =
       subst (λ (c : Callee). IsCallee s class method.header c) (sym h.made) (named_callee place class class name method f (0, refl) h.part h.holds)
 

@@ -1,13 +1,14 @@
 -- Calls of methods are typed.
-use Rattle.std.proofs.Common.{◌≡◌, ℕ, zero, suc, Bool, List, Option, Some, None, refl, sym, subst}
+use Rattle.std.proofs.Common.{◌≡◌, ℕ, Bool, List, Option, Some, None, refl, sym, subst}
 use Rattle.type_layout.specs.declared.definitions.TypeId.{TypeId}
+use Rattle.type_layout.specs.declared.definitions.RoutineId.{RoutineId}
 use Rattle.type_layout.specs.declared.definitions.Header.{Header}
 use Rattle.type_layout.specs.declared.texts.Place.{Place}
 use Rattle.typed_tree.specs.Expressions as tree
 use Rattle.typed_tree.specs.Expressions.{Expression, Arguments, Own}
-use Rattle.well_formed.specs.Fits.{definition, IsObject, Descends}
-use Rattle.well_formed.specs.Scopes.{Scope, IsRoutineAt}
-use Rattle.well_formed.specs.Typed.{IsTyped, HasPlace, CallFits, IsOwn, IsTypedReceiver, AreTypedArguments, TakeEach}
+use Rattle.type_fits.specs.Fits.{definition, IsObject, Descends}
+use Rattle.well_formed.specs.Scopes.{Prototype, Scope, HasRoutine, IsWithin}
+use Rattle.well_formed.specs.Typed.{IsTyped, HasPlace, CallFits, SlotFits, IsOwn, TakeEach}
 use Rattle.call_rules.specs.Given.{arguments_of}
 use Rattle.method_rules.specs.declared.methods.Callee.{Callee}
 use Rattle.method_rules.specs.declared.methods.Callee.TheVariants as callee
@@ -15,26 +16,45 @@ use Rattle.method_rules.specs.Methods.{Bound}
 use Rattle.method_rules.specs.Calls.{node_of, call_of, result_called, called_on, result_performed, performed_on}
 use Rattle.typed_nodes.specs.Tables.{IsResultIn, IsSound}
 use Rattle.typed_calls.specs.Laws.{AreOperands}
-use Rattle.typed_calls.proofs.Given.{taken_typed, taken_alike, given_taken}
-use Rattle.typed_calls.proofs.Calls.{has_result}
+use Rattle.typed_calls.proofs.Given.{taken_alike, given_taken}
+use Rattle.typed_calls.proofs.Calls.{has_result, routine_as}
 use Rattle.typed_methods.specs.Declared.{IsMethod, IsCallee, IsBound}
 
 module _ (s : Scope) (class : TypeId) (own : tree.Place) (object : IsObject (definition s.types class)) (there : HasPlace s own class) where
-  method_fits : (unit number : ℕ) (header : Header) (owner : TypeId) (args : Arguments) → IsRoutineAt (IsMethod owner header) s unit number → Descends s.types class owner → TakeEach s header.params args
-      → CallFits s unit number header.result (λ o. IsOwn s o (Own own)) (λ params. TakeEach s params args) (IsTypedReceiver s (Own own) × AreTypedArguments s args)
-  method_fits zero number header owner args declared line h =
-      let r = declared.0 in
-      let owned = declared.2.owned in
-      let same = declared.2.same in
-      (r, declared.1, sym same.result, subst (λ (o : Option TypeId). IsOwn s o (Own own)) (sym owned) (class, there, line), taken_alike s header.params r.header.params args same.params h)
-  method_fits (suc unit) number header owner args declared line h = (declared, ((class, object, there), taken_typed s header.params args h))
+  -- a method that is known by its header is called as that says
+  method_seen : (header : Header) (owner : TypeId) (args : Arguments) → Descends s.types class owner → TakeEach s header.params args → (one : Prototype) → IsMethod owner header one
+      → (one.header.result ≡ header.result) × (one.owner ≡ None → IsWithin s.around one.outer) × IsOwn s one.owner (Own own) × TakeEach s one.header.params args
+  method_seen header owner args line h one is =
+      let owned = is.owned in
+      let same = is.same in (
+        sym same.result,
+        λ free. (let bad : ⊥ = cc in absurd bad),
+        subst (λ (o : Option TypeId). IsOwn s o (Own own)) (sym owned) (class, there, line),
+        taken_alike s header.params one.header.params args same.params h,
+      )
+
+  method_fits : (routine : RoutineId) (header : Header) (owner : TypeId) (args : Arguments) → HasRoutine (IsMethod owner header) s routine → Descends s.types class owner → TakeEach s header.params args
+      → CallFits s routine header.result (λ o. IsOwn s o (Own own)) (λ params. TakeEach s params args)
+  method_fits routine header owner args declared line h =
+      routine_as s (IsMethod owner header)
+      (λ one. (one.header.result ≡ header.result) × (one.owner ≡ None → IsWithin s.around one.outer) × IsOwn s one.owner (Own own) × TakeEach s one.header.params args)
+      (method_seen header owner args line h) routine.unit routine.number declared
+
+  -- so is one in a slot
+  slot_fits : (slot : ℕ) (header : Header) (args : Arguments) → IsCallee s class header (callee.Slot slot) → TakeEach s header.params args
+      → SlotFits s.types class slot (λ one. (one.result ≡ header.result) × TakeEach s one.params args)
+  slot_fits slot header args declared h = (
+    declared.0,
+    declared.1,
+    subst (λ (one : Header). (one.result ≡ header.result) × TakeEach s one.params args) (sym declared.2) (refl, h),
+  )
 
   node_typed : (header : Header) (one : Callee) (checked : Bool) (args : Arguments) → IsCallee s class header one → IsResultIn s.types header.result → TakeEach s header.params args
       → IsTyped s (node_of one own header.result checked args)
   node_typed header (callee.Routine routine) checked args declared result h =
-      (has_result s header.result result, method_fits routine.unit routine.number header declared.0 args declared.1 declared.2 h)
+      (has_result s header.result result, method_fits routine header declared.0 args declared.1 declared.2 h)
   node_typed header (callee.Slot slot) checked args declared result h =
-      (has_result s header.result result, (class, object, there), taken_typed s header.params args h)
+      (has_result s header.result result, (class, object, there, slot_fits slot header args declared h))
 
 module _ (s : Scope) (sound : IsSound s.types) (place : Place) (checked : Bool) (one : Bound) (es : List Expression) (e : Expression) (bound : IsBound s one) (oes : AreOperands s es) where
   by_result : (o : Option TypeId) → one.header.result ≡ o → (call_of s.types place checked one o es).holds e → IsTyped s e

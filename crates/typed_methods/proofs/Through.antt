@@ -6,7 +6,7 @@ use Rattle.type_layout.specs.declared.definitions.TypeDef.TheVariants as type
 use Rattle.type_layout.specs.declared.texts.Place.{Place}
 use Rattle.typed_tree.specs.Expressions as tree
 use Rattle.typed_tree.specs.Expressions.{Expression, Arguments, Load, CallThrough}
-use Rattle.well_formed.specs.Fits.{definition}
+use Rattle.type_fits.specs.Fits.{definition}
 use Rattle.well_formed.specs.Scopes.{Scope}
 use Rattle.well_formed.specs.Typed.{IsTyped, HasPlace, TakeEach}
 use Rattle.call_rules.specs.Given.{arguments_of}

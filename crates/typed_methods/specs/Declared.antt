@@ -5,10 +5,9 @@ use Rattle.type_layout.specs.declared.definitions.RoutineId.{RoutineId}
 use Rattle.type_layout.specs.declared.definitions.Header.{Header}
 use Rattle.type_layout.specs.declared.definitions.Method.{Method}
 use Rattle.type_layout.specs.declared.definitions.TypeDef.TheVariants as type
-use Rattle.typed_tree.specs.declared.units.Routine.{Routine}
-use Rattle.well_formed.specs.Fits.{definition, IsObject, Descends, AreSameHeaders}
-use Rattle.well_formed.specs.Scopes.{Scope, HasRoutine}
-use Rattle.well_formed.specs.Typed.{HasPlace}
+use Rattle.type_fits.specs.Fits.{definition, IsObject, Descends, AreSameHeaders}
+use Rattle.well_formed.specs.Scopes.{IsOneOf, OtherUnit, Prototype, Scope, HasRoutine}
+use Rattle.well_formed.specs.Typed.{HasPlace, SlotFits}
 use Rattle.scopes.specs.Environment.{Environment}
 use Rattle.method_rules.specs.declared.methods.Callee.{Callee}
 use Rattle.method_rules.specs.declared.methods.Callee.TheVariants as callee
@@ -18,20 +17,21 @@ use Rattle.procedural_rules.specs.Through.{Held}
 use Rattle.typed_nodes.specs.Tables.{IsHeaderIn}
 
 -- the routine of a method that a class declares
-pub record IsMethod (class : TypeId) (header : Header) (routine : Routine) : Type 0 where
-  pub owned : routine.owner ≡ Some class
-  pub same : AreSameHeaders header routine.header
+pub record IsMethod (class : TypeId) (header : Header) (one : Prototype) : Type 0 where
+  pub owned : one.owner ≡ Some class
+  pub same : AreSameHeaders header one.header
 
--- Scope and trees have the same types, and each method of a class is a routine of the unit, or of another.
+-- Scope and trees have the same types and names of units, and each method of a class is a routine of the unit, or of another.
 pub record HasMethods (g : Environment) (s : Scope) : Type 0 where
   pub types : s.types ≡ g.types.types
+  pub units : (one : OtherUnit) → IsOneOf one s.others.units → slice_get g.units one.number ≡ Some one.name
   pub methods : (class : TypeId) (number : ℕ) (method : Method) (routine : RoutineId) → slice_get (methods_of (definition s.types class)) number ≡ Some method
       → routine_in g method.routine ≡ Some routine → HasRoutine (IsMethod class method.header) s routine
 
--- a method with this header that an object's line has, or one in a slot
+-- a method with this header that an object's line has, or the one of the object's type in a slot
 abbrev pub IsCallee : Scope → TypeId → Header → Callee → Type 0
 IsCallee s class header (callee.Routine routine) = (owner : TypeId) × HasRoutine (IsMethod owner header) s routine × Descends s.types class owner
-IsCallee s class header (callee.Slot slot) = Unit {0}
+IsCallee s class header (callee.Slot slot) = SlotFits s.types class slot (λ one. one ≡ header)
 
 -- a method with the object that it is called on
 pub record IsBound (s : Scope) (one : Bound) : Type 0 where

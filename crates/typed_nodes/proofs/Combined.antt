@@ -18,10 +18,11 @@ use Rattle.typed_tree.specs.declared.expressions.UnaryOp.TheVariants.{Plus, Minu
 use Rattle.typed_tree.specs.declared.expressions.BinaryOp.{BinaryOp}
 use Rattle.typed_tree.specs.declared.expressions.BinaryOp.TheVariants as op
 use Rattle.typed_tree.specs.Expressions.{Expression, Const, type_of}
-use Rattle.well_formed.specs.Fits.{definition, stored_as, held_as, IsPointer, IsWide, IsValue}
+use Rattle.type_fits.specs.Fits.{definition, stored_as, held_as, IsPointer, IsWide, IsValue}
 use Rattle.well_formed.specs.Scopes.{Scope}
-use Rattle.well_formed.specs.Typed.{IsTyped, IsArithmetic, FitsUnary}
-use Rattle.well_formed.specs.Standard.{sort_of}
+use Rattle.type_fits.specs.Operators.{IsArithmetic, FitsUnary}
+use Rattle.well_formed.specs.Typed.{IsTyped}
+use Rattle.type_fits.specs.Standard.{sort_of}
 use Rattle.typing_rules.specs.declared.sorts.Sort.{Sort}
 use Rattle.typing_rules.specs.declared.sorts.Sort.TheVariants as sort
 use Rattle.typing_rules.specs.declared.plans.Operation.{Operation}

@@ -11,7 +11,7 @@ use Rattle.type_layout.specs.Table.{IsDefinedOver, AllDefined}
 use Rattle.type_layout.specs.Layouts.{given_by}
 use Rattle.type_layout.proofs.Given.{get_or-given_by-middle, get_or-given_by-front}
 use Rattle.type_layout.proofs.Local.{within_if_object}
-use Rattle.well_formed.specs.Fits.{definition, IsSome, types_in, fields_by, field_types_of}
+use Rattle.type_fits.specs.Fits.{definition, IsSome, types_in, fields_by, field_types_of}
 use Rattle.typed_nodes.specs.Tables.{IsInTable, IsSound}
 
 -- ---- a type among those before and after it

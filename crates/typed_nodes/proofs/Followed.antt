@@ -6,7 +6,7 @@ use Rattle.type_layout.specs.declared.definitions.TypeDef.{TypeDef}
 use Rattle.type_layout.specs.declared.definitions.TypeDef.TheVariants as type
 use Rattle.type_layout.specs.declared.texts.Place.{Place}
 use Rattle.typed_tree.specs.Expressions.{Expression, Load, Deref, type_of}
-use Rattle.well_formed.specs.Fits.{definition}
+use Rattle.type_fits.specs.Fits.{definition}
 use Rattle.well_formed.specs.Scopes.{Scope}
 use Rattle.well_formed.specs.Typed.{IsTyped, PointsTo}
 use Rattle.typing_rules.specs.Wanted.{nil}

@@ -10,10 +10,10 @@ use Rattle.type_layout.specs.declared.texts.Place.{Place}
 use Rattle.type_layout.specs.Storage.{integer_storage}
 use Rattle.typed_tree.specs.Expressions as tree
 use Rattle.typed_tree.specs.Expressions.{Expression, Load, Index}
-use Rattle.well_formed.specs.Fits.{definition, stored_as, family_of, IsSome, IsInteger, AreOfOneFamily}
+use Rattle.type_fits.specs.Fits.{definition, stored_as, family_of, IsSome, IsInteger, AreOfOneFamily}
 use Rattle.well_formed.specs.Scopes.{Scope, HasType}
 use Rattle.well_formed.specs.Typed.{IsTyped, HasPlace, IsElement}
-use Rattle.well_formed.specs.Standard.{sort_of}
+use Rattle.type_fits.specs.Standard.{sort_of}
 use Rattle.typing_rules.specs.declared.sorts.Sort.{Sort}
 use Rattle.typing_rules.specs.declared.sorts.Sort.TheVariants as sort
 use Rattle.typing_rules.specs.Sorts as sorts

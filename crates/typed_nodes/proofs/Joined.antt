@@ -11,11 +11,11 @@ use Rattle.type_layout.specs.declared.texts.Place.{Place}
 use Rattle.type_layout.specs.Storage.{storage_of}
 use Rattle.typed_tree.specs.declared.expressions.Value.TheVariants as value
 use Rattle.typed_tree.specs.Expressions.{Expression, Const, SetOf, NoElements, type_of}
-use Rattle.well_formed.specs.Fits.{definition, stored_as, family_of, IsSome, IsChar, IsString, IsSet, IsPointer, IsObject, Joins, JoinBy, IsValue}
-use Rattle.well_formed.specs.Fits as fits
+use Rattle.type_fits.specs.Fits.{definition, stored_as, family_of, IsSome, IsChar, IsString, IsSet, IsPointer, IsObject, Joins, JoinBy, IsValue}
+use Rattle.type_fits.specs.Fits as fits
 use Rattle.well_formed.specs.Scopes.{Scope}
 use Rattle.well_formed.specs.Typed.{IsTyped, Takes, JoinsSome}
-use Rattle.well_formed.specs.Standard.{sort_of}
+use Rattle.type_fits.specs.Standard.{sort_of}
 use Rattle.typing_rules.specs.declared.sorts.Sort.{Sort}
 use Rattle.typing_rules.specs.declared.sorts.Sort.TheVariants as sort
 use Rattle.typing_rules.specs.Sorts as sorts

@@ -9,10 +9,11 @@ use Rattle.type_layout.specs.declared.definitions.TypeDef.TheVariants as type
 use Rattle.typed_tree.specs.declared.expressions.BinaryOp.{BinaryOp}
 use Rattle.typed_tree.specs.declared.expressions.BinaryOp.TheVariants as op
 use Rattle.typed_tree.specs.Expressions.{Expression, type_of}
-use Rattle.well_formed.specs.Fits.{definition, stored_as, family_of, IsSome, IsBoolean, IsChar, IsString, IsSet, AreStoredAlike, IsWide}
+use Rattle.type_fits.specs.Fits.{definition, stored_as, family_of, IsSome, IsBoolean, IsChar, IsString, IsSet, AreStoredAlike, IsWide}
 use Rattle.well_formed.specs.Scopes.{Scope}
-use Rattle.well_formed.specs.Typed.{IsTyped, IsArithmetic, AreNumbers, AreOrdered, MayBeEarly}
-use Rattle.well_formed.specs.Standard.{sort_of}
+use Rattle.type_fits.specs.Operators.{IsArithmetic, AreNumbers, AreOrdered, MayBeEarly}
+use Rattle.well_formed.specs.Typed.{IsTyped}
+use Rattle.type_fits.specs.Standard.{sort_of}
 use Rattle.typing_rules.specs.declared.sorts.Range.{Range}
 use Rattle.typing_rules.specs.declared.sorts.SetBase.{SetBase}
 use Rattle.typing_rules.specs.declared.sorts.SetBase.TheVariants as over

@@ -12,7 +12,7 @@ use Rattle.type_layout.specs.declared.definitions.TypeDef.TheVariants as type
 use Rattle.type_layout.specs.Storage.{least_of, greatest_of, holds, integer_storage, storage_of}
 use Rattle.typed_tree.specs.declared.expressions.Value.TheVariants as value
 use Rattle.scopes.specs.Predeclared.{type_id, type_list, whole}
-use Rattle.well_formed.specs.Fits.{definition, stored_as, held_as, IsWide, IsValue}
+use Rattle.type_fits.specs.Fits.{definition, stored_as, held_as, IsWide, IsValue}
 use Rattle.typing_rules.specs.declared.sorts.Range.{Range}
 use Rattle.typing_rules.specs.Sorts.{integer, word, long_int, char, boolean, string, is_within, are_within, holding_type, common_type}
 use Rattle.typing_rules.specs.Wanted.{predefined}

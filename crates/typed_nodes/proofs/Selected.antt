@@ -13,7 +13,7 @@ use Rattle.type_layout.specs.Table as table
 use Rattle.type_layout.proofs.Local.{slice_get-append, within_if_object}
 use Rattle.typed_tree.specs.Expressions as tree
 use Rattle.typed_tree.specs.Expressions.{Expression, Load, FieldOf}
-use Rattle.well_formed.specs.Fits.{definition, IsSome, IsObject, types_in, field_types_of, field_type}
+use Rattle.type_fits.specs.Fits.{definition, IsSome, IsObject, types_in, field_types_of, field_type}
 use Rattle.well_formed.specs.Scopes.{Scope}
 use Rattle.well_formed.specs.Typed.{IsTyped, HasPlace}
 use Rattle.scopes.specs.declared.members.Member.{Member}

@@ -11,10 +11,10 @@ use Rattle.type_layout.specs.Storage.{integer_storage}
 use Rattle.typed_tree.specs.declared.expressions.Value.{Value}
 use Rattle.typed_tree.specs.declared.expressions.Value.TheVariants as value
 use Rattle.typed_tree.specs.Expressions.{Expression, Const, SetOf, NoElements, type_of}
-use Rattle.well_formed.specs.Fits.{definition, stored_as, family_of, IsSome, IsInteger, IsBoolean, IsChar, IsString, IsSet, IsPointer, IsValue}
+use Rattle.type_fits.specs.Fits.{definition, stored_as, family_of, IsSome, IsInteger, IsBoolean, IsChar, IsString, IsSet, IsPointer, IsValue}
 use Rattle.well_formed.specs.Scopes.{Scope}
 use Rattle.well_formed.specs.Typed.{IsTyped}
-use Rattle.well_formed.specs.Standard.{sort_of}
+use Rattle.type_fits.specs.Standard.{sort_of}
 use Rattle.typing_rules.specs.declared.sorts.Sort.{Sort}
 use Rattle.typing_rules.specs.declared.sorts.Sort.TheVariants as sort
 use Rattle.typing_rules.specs.Sorts as rules

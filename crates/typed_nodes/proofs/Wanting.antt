@@ -1,8 +1,10 @@
 -- Values where a type is wanted are typed, and are stored as the type asks.
-use Rattle.std.proofs.Common.{◌≡◌, ◌⊎◌, inl, inr, ℕ, Bool, true, false, cond, List, [], ◌∷◌, Option, Some, None, refl, sym, ap, ◌∙◌, subst, arith, rules}
+use Rattle.std.proofs.Common.{◌≡◌, ◌⊎◌, inl, inr, ℕ, ◌<◌, ◌≤◌, Bool, true, false, cond, List, [], ◌∷◌, Option, Some, None, refl, sym, ap, ◌∙◌, subst, arith, rules}
 use Rattle.std.proofs.Math.IntN.{ℤ}
+use Rattle.std.proofs.lemmas.Int.{ints}
 use Rattle.std.specs.Option.{option_and_then}
 use Rattle.std.specs.Prelude.{unsigned_abs}
+use Rattle.std.proofs.lemmas.List.Elements.{All-nil, All-cons}
 use Rattle.std.proofs.lemmas.Option.{slice_get_past}
 use denote.Enum.Bare.{same_true}
 use Rattle.type_layout.specs.contracts.definitions.Host.{the_type}
@@ -14,14 +16,14 @@ use Rattle.type_layout.specs.declared.definitions.TypeDef.TheVariants as type
 use Rattle.type_layout.specs.Storage.{storage_of, holds}
 use Rattle.typed_tree.specs.declared.expressions.Value.TheVariants as value
 use Rattle.typed_tree.specs.Expressions.{Expression, Const, Convert, type_of}
-use Rattle.well_formed.specs.Fits.{definition, stored_as, IsSome, IsChar, IsString, IsPointer, IsValue}
+use Rattle.type_fits.specs.Fits.{definition, stored_as, IsSome, IsChar, IsString, IsPointer, IsValue}
 use Rattle.well_formed.specs.Scopes.{Scope}
 use Rattle.well_formed.specs.Typed.{IsTyped}
-use Rattle.well_formed.specs.Standard.{sort_of}
+use Rattle.type_fits.specs.Standard.{sort_of}
 use Rattle.typing_rules.specs.Sorts.{string}
 use Rattle.typing_rules.specs.Wanted.{same_host, predefined, stored_of_type, stored_of, converted, as_ordinal, as_text, as_pointer, wanted_by, wanted, wanted_in, untyped, nil}
 use Rattle.typed_nodes.specs.Tables.{IsSound}
-use Rattle.typed_nodes.proofs.Ordinals.{value_held, IsStoredAs, predefined_stored, text_type}
+use Rattle.typed_nodes.proofs.Ordinals.{within, value_held, IsStoredAs, predefined_stored, text_type}
 
 stored_by : (types : List TypeDef) (o : Option TypeId) → stored_of_type types o ≡ stored_as (option_and_then (definition types) o)
 stored_by types None = refl
@@ -83,6 +85,14 @@ module _ (s : Scope) (sound : IsSound s.types) (ty : TypeId) (w : Host) (at : Is
 abbrev pub IsText : Scope → Expression → Type 0
 IsText s e = IsTyped s e × IsString (sort_of s.types e)
 
+-- a Char is a byte
+byte_of : (n : ℤ) → holds host.Char n n ≡ true → unsigned_abs n < 256
+byte_of n h =
+    let bounds = within host.Char n h in
+    let low = bounds.0 in
+    let high = bounds.1 in
+    omega (arith, ints)
+
 string_by : (stored : Option Host) (one : Option TypeDef) → stored ≡ stored_as one → IsChar one ⊎ IsString one → (stored ≡ Some host.Char → ⊥) → IsString one
 string_by stored one same (inl c) differs = absurd (differs (same ∙ c))
 string_by stored one same (inr h) differs = h
@@ -91,19 +101,21 @@ module _ (s : Scope) (sound : IsSound s.types) where
   pub string_type : IsString (definition s.types string)
   string_type = subst (λ (o : Option TypeDef). IsString o) (sym (text_type s.types sound)) tt
 
-  one_byte : (c : ℕ) → IsValue s.types (value.Chars (c ∷ [])) (definition s.types string)
-  one_byte c = subst (λ (o : Option TypeDef). IsValue s.types (value.Chars (c ∷ [])) o) (sym (text_type s.types sound)) (omega arith)
+  one_byte : (c : ℕ) → c < 256 → IsValue s.types (value.Chars (c ∷ [])) (definition s.types string)
+  one_byte c below =
+      let short : 1 ≤ 255 = omega arith in
+      subst (λ (o : Option TypeDef). IsValue s.types (value.Chars (c ∷ [])) o) (sym (text_type s.types sound)) (short, All-cons (λ (byte : ℕ). byte < 256) c [] below (All-nil (λ (byte : ℕ). byte < 256)))
 
   converted_text : (e : Expression) → IsTyped s e → IsChar (sort_of s.types e) → IsText s (Convert string e)
   converted_text e typed c = ((typed, inr (string_type, c)), string_type)
 
-  char_by : (own : TypeId) (n : ℤ) → IsText s (Convert string (Const own (value.Number n))) → (b : Bool)
+  char_by : (own : TypeId) (n : ℤ) → IsText s (Convert string (Const own (value.Number n))) → (b : Bool) → holds host.Char n n ≡ b
       → IsText s (cond b (Const string (value.Chars (unsigned_abs n ∷ []))) (Convert string (Const own (value.Number n))))
-  char_by own n h true = (one_byte (unsigned_abs n), string_type)
-  char_by own n h false = h
+  char_by own n h true holding = (one_byte (unsigned_abs n) (byte_of n holding), string_type)
+  char_by own n h false holding = h
 
   char_text : (e : Expression) → IsText s (Convert string e) → IsText s (as_text (Some host.Char) e)
-  char_text (Const own (value.Number n)) h = char_by own n h (holds host.Char n n)
+  char_text (Const own (value.Number n)) h = char_by own n h (holds host.Char n n) refl
   char_text e h = h
 
   -- a Char or a string as a string

@@ -8,7 +8,7 @@ use Rattle.typed_tree.specs.declared.expressions.UnaryOp.{UnaryOp}
 use Rattle.typed_tree.specs.declared.expressions.BinaryOp.{BinaryOp}
 use Rattle.typed_tree.specs.declared.expressions.Value.TheVariants as value
 use Rattle.typed_tree.specs.Expressions.{Expression, Const}
-use Rattle.well_formed.specs.Fits.{definition, IsValue}
+use Rattle.type_fits.specs.Fits.{definition, IsValue}
 use Rattle.well_formed.specs.Scopes.{Scope}
 use Rattle.well_formed.specs.Typed.{IsTyped, Takes}
 use Rattle.typing_rules.specs.Sorts.{number_type}

@@ -9,9 +9,10 @@ use Rattle.type_layout.specs.declared.definitions.TypeDef.TheVariants as type
 use Rattle.type_layout.specs.declared.layout.Layout.{Layout}
 use Rattle.type_layout.specs.Layouts.{layouts_of}
 use Rattle.type_layout.specs.Table.{AllDefined}
-use Rattle.well_formed.specs.Fits.{definition, IsSome}
+use Rattle.type_fits.specs.Fits.{definition, IsSome}
 use Rattle.scopes.specs.Predeclared.{type_list}
 use Rattle.scopes.specs.Lines.{fields_of}
+use Rattle.virtual_slots.specs.Laws.{IsNumbered}
 
 abbrev pub IsInTable : List TypeDef → TypeId → Type 0
 IsInTable types ty = IsSome (definition types ty)
@@ -34,8 +35,8 @@ NamesWithin types (type.ObjectOf parent dynamic fields methods) = All (λ (metho
 NamesWithin types _ = Unit {0}
 
 -- A table of types whose declarations are complete: the predeclared types come first; the parts by value of each type stand before
--- it, and no size passes the limit; what else a type names is in the table too; there are fewer than 2^32 types, and no line has
--- more fields.
+-- it, and no size passes the limit; what else a type names is in the table too; there are fewer than 2^32 types, no line has
+-- more fields, and methods and slots are numbered.
 pub record IsSound (types : List TypeDef) : Type 0 where
   pub begins : (rest : List TypeDef) × (types ≡ type_list ++ rest)
   pub defined : AllDefined [] types
@@ -43,3 +44,4 @@ pub record IsSound (types : List TypeDef) : Type 0 where
   pub names : (ty : TypeId) (one : TypeDef) → definition types ty ≡ Some one → NamesWithin types one
   pub room : length types < 2 ^ 32
   pub few : (ty : TypeId) → fields_of types (Some ty) ≤ 2 ^ 32
+  pub numbered : IsNumbered types

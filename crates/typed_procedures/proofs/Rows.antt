@@ -6,7 +6,7 @@ use Rattle.type_layout.specs.declared.texts.Place.{Place}
 use Rattle.typed_tree.specs.Expressions.{Expression, Std}
 use Rattle.well_formed.specs.Scopes.{Scope}
 use Rattle.well_formed.specs.Typed.{IsTyped}
-use Rattle.well_formed.specs.Standard.{Nothing, IsStandard, inc, inc_by, dec, dec_by, delete, insert, number, new, dispose}
+use Rattle.type_fits.specs.Standard.{Nothing, IsStandard, inc, inc_by, dec, dec_by, delete, insert, number, new, dispose}
 use Rattle.call_rules.specs.Given.{arguments_of}
 use Rattle.procedure_rules.specs.declared.rows.Slot.{Slot}
 use Rattle.procedure_rules.specs.declared.rows.Slots.{Slots}

@@ -5,11 +5,11 @@ use Rattle.type_layout.specs.declared.definitions.TypeDef.{TypeDef}
 use Rattle.type_layout.specs.declared.texts.Place.{Place}
 use Rattle.typed_tree.specs.Expressions as tree
 use Rattle.typed_tree.specs.Expressions.{Expression, Arguments, Load}
-use Rattle.well_formed.specs.Fits.{definition, IsString, IsPointer}
+use Rattle.type_fits.specs.Fits.{definition, IsString, IsPointer}
 use Rattle.well_formed.specs.Scopes.{Scope}
 use Rattle.well_formed.specs.Typed.{IsTyped, HasPlace, FillEach}
-use Rattle.well_formed.specs.Standard as trees
-use Rattle.well_formed.specs.Standard.{sort_of, FitsValue, FitsVariable}
+use Rattle.type_fits.specs.Standard as trees
+use Rattle.type_fits.specs.Standard.{sort_of, FitsValue, FitsVariable}
 use Rattle.typing_rules.specs.declared.sorts.Sort.{Sort}
 use Rattle.typing_rules.specs.declared.sorts.Sort.TheVariants as sort
 use Rattle.typing_rules.specs.Sorts as sorts

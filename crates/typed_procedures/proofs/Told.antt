@@ -5,7 +5,7 @@ use Rattle.typed_tree.specs.Expressions.{Expression, Std}
 use Rattle.typed_tree.specs.Statements.{Written}
 use Rattle.well_formed.specs.Scopes.{Scope}
 use Rattle.well_formed.specs.Typed.{IsTyped}
-use Rattle.well_formed.specs.Standard.{Integer, TextVariable, Nothing, text, text_in}
+use Rattle.type_fits.specs.Standard.{Integer, TextVariable, Nothing, text, text_in}
 use Rattle.call_rules.specs.Given.{Handed, arguments_of}
 use Rattle.standard_rules.specs.declared.signatures.Want.TheVariants as want
 use Rattle.procedure_rules.specs.declared.rows.Slot.TheVariants as slot

@@ -17,7 +17,8 @@ use Rattle.typed_tree.specs.declared.units.Routine.{Routine}
 use Rattle.typed_tree.specs.declared.units.Unit.{Unit as TypedUnit}
 use Rattle.typed_tree.specs.declared.units.Program.{Program}
 use Rattle.typed_tree.specs.Statements.{view_stmt}
-use Rattle.well_formed.specs.Fits.{IsStructured, definition}
+use Rattle.type_fits.specs.Fits.{IsStructured, definition}
+use Rattle.well_formed.specs.Scopes.{Others}
 use Rattle.well_formed.specs.WellFormed.{IsStatement, IsOfUnit, IsRoutine, IsWellFormed, scope_in}
 use Rattle.meaning.specs.Trees.{Key}
 use Rattle.meaning.specs.Programs.{Sort, sort_in}
@@ -31,8 +32,12 @@ use Rattle.typed_programs.specs.Statements.{RefersStatement}
 use Rattle.typed_programs.specs.WellTyped.{IsSoundRoutine, slot_method, HasFirst, IsSoundUnit, IsWellTyped}
 use Rattle.typed_programs.specs.Example.{integer, table, counter, main_part, counting, counting_program}
 
-one_element : {X : Type 0} (P : X → Type 0) (x : X) → P x → All P (x ∷ [])
+pub one_element : {X : Type 0} (P : X → Type 0) (x : X) → P x → All P (x ∷ [])
 one_element P x h = All-cons P x [] h (All-nil P)
+
+-- it supposes nothing of others
+abbrev pub no_others : Others
+no_others = record { units = []; globals = []; routines = [] }
 
 -- ---- the table
 
@@ -94,12 +99,12 @@ module _ (b : Boxed) where
     by true e = sym (same_Some (counting b) other e)
     by false e = absurd cc
 
-  simple : IsStructured (definition table.types integer) → ⊥
+  pub simple : IsStructured (definition table.types integer) → ⊥
   simple (inl h) = h
   simple (inr (inl h)) = h
   simple (inr (inr h)) = h
 
-  body : IsStatement (scope_in (counting b) 0) (view_stmt (main_part b).body)
+  pub body : IsStatement (scope_in no_others (counting b) 0) (view_stmt (main_part b).body)
   body = record {
     ty = integer;
     place = (tt, refl);
@@ -108,7 +113,7 @@ module _ (b : Boxed) where
     takes = record { ordinal = tt; same = refl };
   }
 
-  routine_typed : IsRoutine (counting b) 0 (main_part b)
+  pub routine_typed : IsRoutine no_others (counting b) 0 (main_part b)
   routine_typed = record {
     params = All-nil _;
     result = tt;
@@ -119,18 +124,23 @@ module _ (b : Boxed) where
     body = body;
   }
 
-  the_routine : (P : ℕ → Routine → Type 0) → P 0 (main_part b) → (number : ℕ) (routine : Routine) → slice_get (counting b).routines number ≡ Some routine → P number routine
+  pub the_routine : (P : ℕ → Routine → Type 0) → P 0 (main_part b) → (number : ℕ) (routine : Routine) → slice_get (counting b).routines number ≡ Some routine → P number routine
   the_routine P h zero routine e = subst (P 0) (same_Some (main_part b) routine e) h
   the_routine P h (suc number) routine e = absurd cc
 
-  typed : IsWellFormed (counting b)
+  pub typed : IsWellFormed (counting b)
   typed = record {
+    others = no_others;
     named = refl;
     globals = one_element (IsOfUnit (counting b)) _ (record { has = tt; first = tt });
-    routines = the_routine (IsRoutine (counting b)) routine_typed;
+    routines = the_routine (IsRoutine no_others (counting b)) routine_typed;
     items = All-nil _;
     initial = (main_part b, refl, record { kind = refl; bare = refl; far = refl; free = refl; outermost = refl });
   }
+
+  pub supposes_nothing : typed.others ≡ no_others
+  unfolding typed
+  supposes_nothing = refl
 
   known : IsKnown (counting_program b) (sort_in (counting b) integer)
   known = record { unit = counting b; listed = refl; table = refl; one = _; is = refl }
@@ -140,13 +150,13 @@ module _ (b : Boxed) where
       (record { key = record { unit = (counting b).name; number = 0 }; names = refl; sort = sort_in (counting b) integer; is = refl; seen = Shared known known refl })
 
   -- however the body is typed
-  body_refers : (h : IsStatement (scope_in (counting b) 0) (view_stmt (main_part b).body))
-      → RefersStatement (record { program = counting_program b; unit = counting b; number = 0 }) (scope_in (counting b) 0) (view_stmt (main_part b).body) h
-  body_refers h = (names h.ty (same_Some integer h.ty h.place.1), (names integer refl, tt))
+  body_refers : (others : Others) (h : IsStatement (scope_in others (counting b) 0) (view_stmt (main_part b).body))
+      → RefersStatement (record { program = counting_program b; unit = counting b; number = 0 }) (scope_in others (counting b) 0) (view_stmt (main_part b).body) h
+  body_refers others h = (names h.ty (same_Some integer h.ty h.place.1), (names integer refl, tt))
 
   abbrev AnyRefers : ℕ → Routine → Type 0
-  AnyRefers number routine = (h : IsStatement (scope_in (counting b) number) (view_stmt routine.body))
-      → RefersStatement (record { program = counting_program b; unit = counting b; number = number }) (scope_in (counting b) number) (view_stmt routine.body) h
+  AnyRefers number routine = (others : Others) (h : IsStatement (scope_in others (counting b) number) (view_stmt routine.body))
+      → RefersStatement (record { program = counting_program b; unit = counting b; number = number }) (scope_in others (counting b) number) (view_stmt routine.body) h
 
   sound_routine : IsSoundRoutine (counting b) (main_part b)
   sound_routine = record { few = omega arith; method = λ e. refl; class = λ e. tt }
@@ -157,7 +167,7 @@ module _ (b : Boxed) where
     well_formed = typed;
     globals = one_element (HasFirst (counting b)) _ tt;
     routines = the_routine (λ number routine. IsSoundRoutine (counting b) routine) sound_routine;
-    refers = λ number routine is. the_routine AnyRefers body_refers number routine is (typed.routines number routine is).body;
+    refers = λ number routine is. the_routine AnyRefers body_refers number routine is typed.others (typed.routines number routine is).body;
   }
 
   the_table : (sort : Sort) → IsKnown (counting_program b) sort → sort.table ≡ table

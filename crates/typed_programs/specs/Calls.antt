@@ -7,7 +7,7 @@ use Rattle.type_layout.specs.declared.definitions.Method.{Method}
 use Rattle.type_layout.specs.Table.{IsObject}
 use Rattle.typed_tree.specs.declared.units.Unit.{Unit as TypedUnit}
 use Rattle.typed_tree.specs.declared.units.Program.{Program}
-use Rattle.well_formed.specs.Standard.{Slot}
+use Rattle.type_fits.specs.Standard.{Slot}
 use Rattle.meaning.specs.Trees.{Key, Spot, Value}
 use Rattle.meaning.specs.Shapes.{parts_at, class_place}
 use Rattle.meaning.specs.Programs.{Sort, definition, sort_in, class_key}

@@ -1,19 +1,17 @@
 -- What the trees of a unit refer to beyond what its own tables say: routines and globals of other units, methods that are called by
 -- class, and routines that are declared inside others.
-use Rattle.std.specs.Prelude.{◌≡◌, ◌⊎◌, ℕ, ◌<◌, true, false, List, [], ◌∷◌, Option, Some, None, is_some, All, Ok}
+use Rattle.std.specs.Prelude.{◌≡◌, ◌⊎◌, ℕ, true, false, List, [], ◌∷◌, Option, Some, None, is_some, Ok}
 use Rattle.type_layout.specs.declared.definitions.TypeId.{TypeId}
 use Rattle.type_layout.specs.declared.definitions.RoutineId.{RoutineId}
 use Rattle.type_layout.specs.declared.definitions.Param.{Param}
 use Rattle.type_layout.specs.declared.definitions.Header.{Header}
 use Rattle.type_layout.specs.declared.definitions.Method.{Method}
 use Rattle.type_layout.specs.Table.{IsObject}
-use Rattle.typed_tree.specs.declared.expressions.Value.{Value}
-use Rattle.typed_tree.specs.declared.expressions.Value.TheVariants as constant
 use Rattle.typed_tree.specs.declared.units.Unit.{Unit as TypedUnit}
 use Rattle.typed_tree.specs.declared.units.Program.{Program}
 use Rattle.typed_tree.specs.Expressions.{Expression, Place, Receiver, Elements, Arguments, Const, RoutineValue, Load, Unary, Binary, Convert, Range, SetOf, Call, CallVirtual, CallThrough, Std, Make, Var, Deref, Index, FieldOf, NoReceiver, Own, NoElements, One, Span, NoArguments, ByValue, ByPlace}
 use Rattle.well_formed.specs.Scopes.{Scope}
-use Rattle.well_formed.specs.Standard.{Slot, Text, Integer}
+use Rattle.type_fits.specs.Standard.{Slot, Text, Integer}
 use Rattle.well_formed.specs.Typed.{IsTyped, HasPlace, TakeEach, FillEach, AreTypedElements}
 use Rattle.meaning.specs.Trees.{Key}
 use Rattle.meaning.specs.Shapes.{parts_at, class_place}
@@ -93,11 +91,6 @@ pub record CallsSlot (site : Site) (class : TypeId) (slot : ℕ) (Takes : Header
 
 -- ---- expressions
 
--- a text is of bytes
-abbrev pub IsOfBytes : Value → Type 0
-IsOfBytes (constant.Chars bytes) = All (λ byte. byte < 256) bytes
-IsOfBytes _ = Unit {0}
-
 pub record NamesCode (site : Site) (routine : RoutineId) (header : Header) : Type 0 where
   pub key : Key
   pub is : routine_key site.unit routine ≡ Some key
@@ -106,7 +99,7 @@ pub record NamesCode (site : Site) (routine : RoutineId) (header : Header) : Typ
 -- Each node beside how it is typed.
 abbrev mutual
   pub Refers : (site : Site) (s : Scope) (e : Expression) → IsTyped s e → Type 0
-  Refers site s (Const ty value) h = IsOfBytes value
+  Refers site s (Const ty value) h = Unit {0}
   Refers site s (RoutineValue ty routine) h = NamesCode site routine h.0
   Refers site s (Load ty from) h = RefersPlace site s from ty h.1
   Refers site s (Unary ty op operand) h = Refers site s operand h.0

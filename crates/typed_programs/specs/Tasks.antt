@@ -4,8 +4,8 @@ use Rattle.type_layout.specs.declared.definitions.TypeId.{TypeId}
 use Rattle.typed_tree.specs.declared.expressions.Variable.{Variable}
 use Rattle.typed_tree.specs.declared.units.Program.{Program}
 use Rattle.typed_tree.specs.Statements.{Statement}
-use Rattle.well_formed.specs.Fits.{IsSome, definition, stored_as}
-use Rattle.well_formed.specs.Scopes.{Scope, HasVariable}
+use Rattle.type_fits.specs.Fits.{IsSome, definition, stored_as}
+use Rattle.well_formed.specs.Scopes.{Others, Scope, HasVariable}
 use Rattle.well_formed.specs.WellFormed.{IsStatement, scope_in}
 use Rattle.meaning.specs.Outcomes.{State}
 use Rattle.meaning.specs.Activations.{Activation}
@@ -16,19 +16,21 @@ use Rattle.typed_programs.specs.Outcomes.{IsTypedState, world, Ends}
 use Rattle.typed_programs.specs.References.{Site}
 use Rattle.typed_programs.specs.Statements.{RefersStatement}
 
--- what a routine's body may name inside `with`s
-abbrev pub scope_with : Site → List TypeId → Scope
-scope_with site withs = record (scope_in site.unit site.number) { withs = withs }
+-- what a routine's body may name inside `with`s, where its unit supposes this of others
+abbrev pub scope_with : Others → Site → List TypeId → Scope
+scope_with others site withs = record (scope_in others site.unit site.number) { withs = withs }
 
 pub record IsBody (site : Site) (withs : List TypeId) (statement : Statement) : Type 0 where
-  pub typed : IsStatement (scope_with site withs) statement
-  pub refers : RefersStatement site (scope_with site withs) statement typed
+  pub others : Others
+  pub typed : IsStatement (scope_with others site withs) statement
+  pub refers : RefersStatement site (scope_with others site withs) statement typed
 
 -- the variable of a `for`
 pub record IsCounter (site : Site) (withs : List TypeId) (variable : Variable) (ty : TypeId) : Type 0 where
-  pub has : HasVariable (scope_with site withs) variable ty
+  pub others : Others
+  pub has : HasVariable (scope_with others site withs) variable ty
   pub names : NamesGlobal site.program site.unit variable ty
-  pub ordinal : IsSome (stored_as (definition (scope_with site withs).types ty))
+  pub ordinal : IsSome (stored_as (definition site.unit.types.types ty))
 
 abbrev pub IsTask : Site → List TypeId → Task → Type 0
 IsTask site withs (Do statement) = IsBody site withs statement

@@ -3,6 +3,7 @@ use Rattle.std.specs.Prelude.{◌≡◌, ℕ, ◌<◌, ◌^◌, Bool, true, fals
 use Rattle.std.specs.List.{list_all}
 use Rattle.type_layout.specs.declared.definitions.TypeId.{TypeId}
 use Rattle.type_layout.specs.declared.definitions.Field.{Field}
+use Rattle.type_layout.specs.declared.definitions.Kind.{Kind}
 use Rattle.type_layout.specs.declared.definitions.Kind.TheVariants as kind
 use Rattle.type_layout.specs.declared.definitions.Method.{Method}
 use Rattle.type_layout.specs.declared.definitions.TypeDef.{TypeDef}
@@ -14,7 +15,7 @@ use Rattle.typed_tree.specs.declared.units.Routine.{Routine}
 use Rattle.typed_tree.specs.declared.units.Unit.{Unit as TypedUnit}
 use Rattle.typed_tree.specs.declared.units.Program.{Program}
 use Rattle.typed_tree.specs.Statements.{view_stmt}
-use Rattle.well_formed.specs.Scopes.{variables_of}
+use Rattle.type_fits.specs.Routines.{variables_of}
 use Rattle.well_formed.specs.WellFormed.{IsWellFormed, scope_in}
 use Rattle.meaning.specs.Trees.{Key}
 use Rattle.meaning.specs.Shapes.{parts_at, class_place}
@@ -34,12 +35,19 @@ abbrev pub HasClassPart : Table → Option TypeId → Type 0
 HasClassPart table None = Unit {0}
 HasClassPart table (Some owner) = is_some (class_place (parts_at table.types owner)) ≡ true
 
--- Variables that `with`s are told apart from, methods that are declared in no other routine, and constructors of types whose instances
--- have a class.
+-- what is called for an instance with a class: a constructor or a destructor
+abbrev pub NeedsClass : Kind → Type 0
+NeedsClass kind.Constructor = Unit {0}
+NeedsClass kind.Destructor = Unit {0}
+NeedsClass kind.Procedure = ⊥
+NeedsClass kind.Function = ⊥
+
+-- Variables that `with`s are told apart from, methods that are declared in no other routine, and constructors and destructors of types
+-- whose instances have a class.
 pub record IsSoundRoutine (unit : TypedUnit) (routine : Routine) : Type 0 where
   pub few : length (variables_of routine) < 2 ^ 31
   pub method : is_some routine.owner ≡ true → routine.outer ≡ None
-  pub class : routine.header.kind ≡ kind.Constructor → HasClassPart unit.types routine.owner
+  pub class : NeedsClass routine.header.kind → HasClassPart unit.types routine.owner
 
 -- ---- methods by class
 
@@ -100,7 +108,7 @@ pub record IsSoundUnit (program : Program) (unit : TypedUnit) : Type 0 where
   pub routines : (number : ℕ) (routine : Routine) → slice_get unit.routines number ≡ Some routine → IsSoundRoutine unit routine
   -- what its trees refer to is as they say
   pub refers : (number : ℕ) (routine : Routine) (is : slice_get unit.routines number ≡ Some routine)
-      → RefersStatement (record { program = program; unit = unit; number = number }) (scope_in unit number) (view_stmt routine.body) (well_formed.routines number routine is).body
+      → RefersStatement (record { program = program; unit = unit; number = number }) (scope_in well_formed.others unit number) (view_stmt routine.body) (well_formed.routines number routine is).body
 
 -- Each unit is well-formed, and what it says of the others is so.
 pub record IsWellTyped (program : Program) : Type 0 where

@@ -11,10 +11,10 @@ use Rattle.type_layout.specs.declared.definitions.TypeDef.{TypeDef}
 use Rattle.type_layout.specs.declared.definitions.TypeDef.TheVariants as type
 use Rattle.type_layout.specs.declared.texts.Place.{Place}
 use Rattle.typed_tree.specs.Expressions.{Expression, Elements, type_of}
-use Rattle.well_formed.specs.Fits.{definition, stored_as, family_of, IsSome, AreOfOneFamily}
+use Rattle.type_fits.specs.Fits.{definition, stored_as, family_of, IsSome, AreOfOneFamily}
 use Rattle.well_formed.specs.Scopes.{Scope}
 use Rattle.well_formed.specs.Typed.{IsTyped, IsMember, AreTypedElements}
-use Rattle.well_formed.specs.Standard.{sort_of}
+use Rattle.type_fits.specs.Standard.{sort_of}
 use Rattle.scopes.specs.Predeclared.{type_id, whole}
 use Rattle.typing_rules.specs.declared.sorts.Range.{Range as Bounds}
 use Rattle.typing_rules.specs.declared.sorts.Sort.{Sort}

@@ -4,10 +4,10 @@ use Rattle.type_layout.specs.declared.definitions.Host.{Host}
 use Rattle.type_layout.specs.declared.definitions.Host.TheVariants as host
 use Rattle.type_layout.specs.declared.definitions.TypeDef.{TypeDef}
 use Rattle.typed_tree.specs.Expressions.{Expression}
-use Rattle.well_formed.specs.Fits.{stored_as, family_of, IsSome, IsInteger, IsChar, IsString}
+use Rattle.type_fits.specs.Fits.{stored_as, family_of, IsSome, IsInteger, IsChar, IsString}
 use Rattle.well_formed.specs.Scopes.{Scope}
 use Rattle.well_formed.specs.Typed.{IsTyped}
-use Rattle.well_formed.specs.Standard.{sort_of}
+use Rattle.type_fits.specs.Standard.{sort_of}
 use Rattle.typing_rules.specs.declared.sorts.Sort.{Sort}
 use Rattle.typing_rules.specs.declared.sorts.Sort.TheVariants as sort
 use Rattle.typing_rules.specs.Sorts as sorts

@@ -11,10 +11,10 @@ use Rattle.type_layout.specs.declared.definitions.TypeDef.TheVariants as type
 use Rattle.type_layout.specs.Storage.{holds, integer_storage, storage_of}
 use Rattle.typed_tree.specs.declared.expressions.Value.TheVariants as value
 use Rattle.typed_tree.specs.Expressions.{Expression, Const, SetOf, NoElements, type_of}
-use Rattle.well_formed.specs.Fits.{definition, stored_as, held_as, IsValue}
+use Rattle.type_fits.specs.Fits.{definition, stored_as, held_as, IsValue}
 use Rattle.well_formed.specs.Scopes.{Scope}
 use Rattle.well_formed.specs.Typed.{IsTyped}
-use Rattle.well_formed.specs.Standard.{sort_of, HoldsAll, HoldsValue}
+use Rattle.type_fits.specs.Standard.{sort_of, HoldsAll, HoldsValue}
 use Rattle.typing_rules.specs.declared.sorts.Sort.{Sort}
 use Rattle.typing_rules.specs.declared.sorts.Sort.TheVariants as sort
 use Rattle.typing_rules.specs.Sorts as sorts

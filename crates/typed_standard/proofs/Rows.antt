@@ -9,10 +9,10 @@ use Rattle.type_layout.specs.declared.definitions.Host.TheVariants as host
 use Rattle.type_layout.specs.declared.definitions.TypeDef.{TypeDef}
 use Rattle.type_layout.specs.declared.texts.Place.{Place}
 use Rattle.typed_tree.specs.Expressions.{Expression, Arguments, NoArguments, ByValue, Std, type_of}
-use Rattle.well_formed.specs.Fits.{definition, stored_as, IsSome, IsString, IsWide, AreStoredAlike}
+use Rattle.type_fits.specs.Fits.{definition, stored_as, IsSome, IsString, IsWide, AreStoredAlike}
 use Rattle.well_formed.specs.Scopes.{Scope}
 use Rattle.well_formed.specs.Typed.{IsTyped, FillEach}
-use Rattle.well_formed.specs.Standard.{Slot, Integer, Ordinal, Char, Text, Outcome, Wide, Holding, Alike, Truth, Letter, Byte, Small, Line, Gives, IsText, IsStandard, abs, sqr, odd, ord, chr, succ, pred, hi, lo, swap, up_case, length_of, copy, concat, position, end_of_file, end_of_line}
+use Rattle.type_fits.specs.Standard.{Slot, Integer, Ordinal, Char, Text, Outcome, Wide, Holding, Alike, Truth, Letter, Byte, Small, Line, Gives, IsText, IsStandard, abs, sqr, odd, ord, chr, succ, pred, hi, lo, swap, up_case, length_of, copy, concat, position, end_of_file, end_of_line}
 use Rattle.scopes.specs.Predeclared.{type_id}
 use Rattle.typing_rules.specs.Sorts as sorts
 use Rattle.typing_rules.specs.Sorts.{integer, char, boolean, string}

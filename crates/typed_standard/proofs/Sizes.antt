@@ -11,10 +11,10 @@ use Rattle.type_layout.specs.Layouts.{plain, layouts_of, size_of}
 use Rattle.type_layout.specs.Storage.{holds}
 use Rattle.typed_tree.specs.Expressions as tree
 use Rattle.typed_tree.specs.Expressions.{Expression, Load, Std, NoArguments, ByPlace}
-use Rattle.well_formed.specs.Fits.{definition, stored_as}
+use Rattle.type_fits.specs.Fits.{definition, stored_as}
 use Rattle.well_formed.specs.Scopes.{Scope, HasType}
 use Rattle.well_formed.specs.Typed.{IsTyped, HasPlace}
-use Rattle.well_formed.specs.Standard.{Variable, Size, size}
+use Rattle.type_fits.specs.Standard.{Variable, Size, size}
 use Rattle.typing_rules.specs.Sorts.{word, only, number_type}
 use Rattle.standard_rules.specs.Sizes.{has_class, sized, variable_sized}
 use Rattle.typed_nodes.specs.Tables.{IsSound}

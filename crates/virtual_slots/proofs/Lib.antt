@@ -1,3 +1,3 @@
 mod Taken
 mod Lines
-mod Slots
+pub mod Slots

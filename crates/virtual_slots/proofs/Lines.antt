@@ -12,7 +12,7 @@ use Rattle.type_layout.specs.declared.definitions.Method.{Method}
 use Rattle.type_layout.specs.declared.definitions.TypeDef.{TypeDef}
 use Rattle.type_layout.specs.declared.definitions.TypeDef.TheVariants as type
 use Rattle.type_layout.specs.Words.{same_bytes}
-use Rattle.well_formed.specs.Fits.{definition, parent_of}
+use Rattle.type_fits.specs.Fits.{definition, parent_of}
 use Rattle.scopes.specs.declared.members.Member.{Member}
 use Rattle.scopes.specs.Members as members
 use Rattle.scopes.specs.Members.{first_of, narrow, field_of, method_of, own_member, fields_within, member_within, member_of}

@@ -9,7 +9,7 @@ use Rattle.type_layout.specs.declared.definitions.TypeDef.{TypeDef}
 use Rattle.type_layout.specs.declared.definitions.TypeDef.TheVariants as type
 use Rattle.type_layout.specs.Words.{same_bytes}
 use Rattle.type_layout.specs.Table.{AllDefined}
-use Rattle.well_formed.specs.Fits.{definition, parent_of, ancestor}
+use Rattle.type_fits.specs.Fits.{definition, parent_of, ancestor}
 use Rattle.scopes.specs.Members.{narrow}
 use Rattle.object_vmt.specs.Members.{members_of, members_in, nearest}
 use Rattle.object_vmt.specs.Slots.{slots_of, method_at}

@@ -6,7 +6,7 @@ use Rattle.type_layout.specs.declared.definitions.Method.{Method}
 use Rattle.type_layout.specs.declared.definitions.TypeDef.{TypeDef}
 use Rattle.type_layout.specs.Words.{same_bytes}
 use Rattle.type_layout.specs.Table.{AllDefined}
-use Rattle.well_formed.specs.Fits.{definition, Descends}
+use Rattle.type_fits.specs.Fits.{definition, Descends}
 use Rattle.object_vmt.specs.Members.{members_of, members_in, nearest}
 use Rattle.object_vmt.specs.Slots.{slots_of, method_at}
 use Rattle.method_rules.specs.Slots.{methods_of, methods_in, slot_of}

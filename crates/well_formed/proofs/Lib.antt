@@ -1,4 +1,2 @@
 mod TypedLaws
-mod FieldLaws
-mod StandardLaws
 mod ExampleLaws

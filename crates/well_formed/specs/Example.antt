@@ -22,9 +22,10 @@ boolean = record { 0 = 1 }
 abbrev pub counting : Scope
 counting = record {
   types = type.Ordinal host.Integer (negsuc 32767) (pos 32767) ∷ type.Ordinal host.Boolean (pos 0) (pos 1) ∷ [];
-  units = 1;
+  others = record { units = []; globals = []; routines = [] };
   globals = [];
   routines = [];
+  around = [];
   levels = (integer ∷ []) ∷ [];
   withs = [];
 }

@@ -1,91 +1,21 @@
 -- When each number in a tree names something, and each node has the type that its parts give it.
-use Rattle.std.specs.Prelude.{◌≡◌, ◌⊎◌, ℕ, zero, suc, ◌<◌, ◌≤ℤ◌, Bool, true, false, List, [], ◌∷◌, Option, Some, None, slice_get}
+use Rattle.std.specs.Prelude.{◌≡◌, ◌⊎◌, ℕ, ◌≤ℤ◌, true, false, List, [], ◌∷◌, Option, Some, None}
 use Rattle.type_layout.specs.declared.definitions.TypeId.{TypeId}
+use Rattle.type_layout.specs.declared.definitions.RoutineId.{RoutineId}
 use Rattle.type_layout.specs.declared.definitions.Param.{Param}
 use Rattle.type_layout.specs.declared.definitions.Header.{Header}
+use Rattle.type_layout.specs.declared.definitions.Method.{Method}
 use Rattle.type_layout.specs.declared.definitions.Kind.TheVariants as kind
 use Rattle.type_layout.specs.declared.definitions.TypeDef.{TypeDef}
 use Rattle.type_layout.specs.declared.definitions.TypeDef.TheVariants as type
-use Rattle.typed_tree.specs.declared.expressions.UnaryOp.{UnaryOp}
-use Rattle.typed_tree.specs.declared.expressions.UnaryOp.TheVariants.{Plus, Minus, Not}
-use Rattle.typed_tree.specs.declared.expressions.BinaryOp.{BinaryOp}
-use Rattle.typed_tree.specs.declared.expressions.BinaryOp.TheVariants.{Add, Subtract, Multiply, Divide, Modulo, ShiftLeft, ShiftRight, And, Or, Xor, Equal, NotEqual, Less, LessOrEqual, Greater, GreaterOrEqual, In}
-use Rattle.typed_tree.specs.declared.units.Routine.{Routine}
 use Rattle.typed_tree.specs.Expressions.{type_of, Expression, Place, Receiver, Elements, Arguments, Const, RoutineValue, Load, Unary, Binary, Convert, Range, SetOf, Call, CallVirtual, CallThrough, Std, Make, Var, Deref, Index, FieldOf, NoReceiver, Own, NoElements, One, Span, NoArguments, ByValue, ByPlace}
-use Rattle.well_formed.specs.Fits.{definition, stored_as, family_of, IsSome, IsInteger, IsBoolean, IsChar, AreOfOneFamily, AreStoredAlike, IsWide, IsString, IsSet, IsPointer, IsObject, Descends, field_type, AreSameHeaders, Joins, IsValue}
-pub use Rattle.well_formed.specs.Standard.{sort_of}
-use Rattle.well_formed.specs.Standard.{Slot, FitsValue, FitsVariable, Outcome, Gives, IsStandard}
-use Rattle.well_formed.specs.Scopes.{Scope, HasType, HasResult, HasVariable, HasRoutine}
-
--- ---- operators: the types of the operands and of the result
-
--- integers of the width of the result
-abbrev pub IsArithmetic : Option TypeDef → Option TypeDef → Type 0
-IsArithmetic ty operand = IsWide (stored_as ty) × (stored_as operand ≡ stored_as ty)
-
-abbrev pub IsLogic : Option TypeDef → Option TypeDef → Type 0
-IsLogic ty operand = IsBoolean ty × IsBoolean operand
-
-abbrev pub FitsUnary : UnaryOp → Option TypeDef → Option TypeDef → Type 0
-FitsUnary Plus ty operand = IsArithmetic ty operand
-FitsUnary Minus ty operand = IsArithmetic ty operand
-FitsUnary Not ty operand = IsArithmetic ty operand ⊎ IsLogic ty operand
-
-abbrev pub AreNumbers : Option TypeDef → Option TypeDef → Option TypeDef → Type 0
-AreNumbers ty left right = IsArithmetic ty left × IsArithmetic ty right
-
-abbrev pub AreSets : Option TypeDef → Option TypeDef → Option TypeDef → Type 0
-AreSets ty left right = IsSet ty × IsSet left × IsSet right
-
-abbrev pub AreStrings : Option TypeDef → Option TypeDef → Option TypeDef → Type 0
-AreStrings ty left right = IsString ty × IsString left × IsString right
-
-abbrev pub AreTruths : Option TypeDef → Option TypeDef → Option TypeDef → Type 0
-AreTruths ty left right = IsLogic ty left × IsLogic ty right
-
--- a shift has the width of what is shifted
-abbrev pub IsShift : Option TypeDef → Option TypeDef → Option TypeDef → Type 0
-IsShift ty left right = IsArithmetic ty left × IsInteger right
-
--- ordinals that are stored alike, or strings
-abbrev pub AreOrdered : Option TypeDef → Option TypeDef → Type 0
-AreOrdered left right = AreStoredAlike left right ⊎ (IsString left × IsString right)
-
-abbrev pub AreSetsBoth : Option TypeDef → Option TypeDef → Type 0
-AreSetsBoth left right = IsSet left × IsSet right
-
-abbrev pub ArePointers : Option TypeDef → Option TypeDef → Type 0
-ArePointers left right = IsPointer left × IsPointer right
-
-abbrev pub FitsBinary : BinaryOp → Option TypeDef → Option TypeDef → Option TypeDef → Type 0
-FitsBinary Add ty left right = AreNumbers ty left right ⊎ AreSets ty left right ⊎ AreStrings ty left right
-FitsBinary Subtract ty left right = AreNumbers ty left right ⊎ AreSets ty left right
-FitsBinary Multiply ty left right = AreNumbers ty left right ⊎ AreSets ty left right
-FitsBinary Divide ty left right = AreNumbers ty left right
-FitsBinary Modulo ty left right = AreNumbers ty left right
-FitsBinary ShiftLeft ty left right = IsShift ty left right
-FitsBinary ShiftRight ty left right = IsShift ty left right
-FitsBinary And ty left right = AreNumbers ty left right ⊎ AreTruths ty left right
-FitsBinary Or ty left right = AreNumbers ty left right ⊎ AreTruths ty left right
-FitsBinary Xor ty left right = AreNumbers ty left right ⊎ AreTruths ty left right
-FitsBinary Equal ty left right = IsBoolean ty × (AreOrdered left right ⊎ AreSetsBoth left right ⊎ ArePointers left right)
-FitsBinary NotEqual ty left right = IsBoolean ty × (AreOrdered left right ⊎ AreSetsBoth left right ⊎ ArePointers left right)
-FitsBinary Less ty left right = IsBoolean ty × AreOrdered left right
-FitsBinary LessOrEqual ty left right = IsBoolean ty × (AreOrdered left right ⊎ AreSetsBoth left right)
-FitsBinary Greater ty left right = IsBoolean ty × AreOrdered left right
-FitsBinary GreaterOrEqual ty left right = IsBoolean ty × (AreOrdered left right ⊎ AreSetsBoth left right)
-FitsBinary In ty left right = IsBoolean ty × IsSome (family_of left) × IsSet right
-
--- only an `and` or `or` of Booleans may leave out its right side
-abbrev pub MayBeEarly : BinaryOp → Bool → Option TypeDef → Type 0
-MayBeEarly op false ty = Unit {0}
-MayBeEarly And true ty = IsBoolean ty
-MayBeEarly Or true ty = IsBoolean ty
-MayBeEarly op true ty = ⊥
-
--- an ordinal by the low bytes of another, or a Char as a string
-abbrev pub IsConversion : Option TypeDef → Option TypeDef → Type 0
-IsConversion ty operand = (IsSome (stored_as ty) × IsSome (stored_as operand)) ⊎ (IsString ty × IsChar operand)
+use Rattle.type_fits.specs.Fits.{definition, stored_as, IsSome, IsInteger, IsChar, AreOfOneFamily, IsObject, Descends, field_type, AreSameHeaders, Joins, IsValue}
+pub use Rattle.type_fits.specs.Standard.{sort_of}
+use Rattle.type_fits.specs.Standard.{Slot, FitsValue, FitsVariable, Outcome, Gives, IsStandard}
+use Rattle.type_fits.specs.Operators.{FitsUnary, FitsBinary, MayBeEarly, IsConversion}
+use Rattle.object_vmt.specs.Members.{members_of, members_in}
+use Rattle.object_vmt.specs.Slots.{method_at}
+use Rattle.well_formed.specs.Scopes.{Prototype, Scope, HasType, HasResult, IsOfSource, HasVariable, HasRoutine, IsWithin}
 
 -- ---- the parts of places and calls
 
@@ -108,42 +38,44 @@ abbrev pub Takes : List TypeDef → TypeId → Expression → Type 0
 Takes types ty e = JoinsSome types ty (type_of e)
 
 -- a routine that may stand as a value of a procedural type: far, no method and not nested
-pub record IsRoutineValue (header : Header) (routine : Routine) : Type 0 where
-  pub far : routine.far ≡ true
-  pub free : routine.owner ≡ None
-  pub outermost : routine.outer ≡ None
-  pub same : AreSameHeaders header routine.header
+pub record IsRoutineValue (header : Header) (one : Prototype) : Type 0 where
+  pub far : one.far ≡ true
+  pub free : one.owner ≡ None
+  pub outermost : one.outer ≡ None
+  pub same : AreSameHeaders header one.header
 
 -- a constructor of the type, or of an ancestor
-pub record IsConstructorOf (types : List TypeDef) (class : TypeId) (routine : Routine) : Type 0 where
-  pub kind : routine.header.kind ≡ kind.Constructor
+pub record IsConstructorOf (types : List TypeDef) (class : TypeId) (one : Prototype) : Type 0 where
+  pub kind : one.header.kind ≡ kind.Constructor
   pub owner : TypeId
-  pub owned : routine.owner ≡ Some owner
+  pub owned : one.owner ≡ Some owner
   pub inherited : Descends types class owner
 
 -- a base holds ordinals of the family of an element
 abbrev pub IsMember : List TypeDef → TypeId → Expression → Type 0
 IsMember types base e = AreOfOneFamily (definition types base) (sort_of types e)
 
--- A routine of the unit itself gives the result, takes the arguments, and a method its instance. Of a routine of another
--- unit these are not known here.
-abbrev pub CallFits : Scope → ℕ → ℕ → Option TypeId → (Option TypeId → Type 0) → (List Param → Type 0) → Type 0 → Type 0
-CallFits s zero number ty OwnFits Take parts =
-    (routine : Routine) × (slice_get s.routines number ≡ Some routine) × (routine.header.result ≡ ty) × OwnFits routine.owner
-    × Take routine.header.params
-CallFits s (suc unit) number ty OwnFits Take parts = (suc unit < s.units) × parts
+-- A routine gives the result and takes the arguments; a method takes its instance, and any other is declared in no routine or in one that
+-- is round the call.
+abbrev pub CallFits : Scope → RoutineId → Option TypeId → (Option TypeId → Type 0) → (List Param → Type 0) → Type 0
+CallFits s routine ty OwnFits Take =
+    HasRoutine
+    (λ one. (one.header.result ≡ ty) × (one.owner ≡ None → IsWithin s.around one.outer) × OwnFits one.owner × Take one.header.params)
+    s routine
 
-abbrev pub MakeFits : Scope → TypeId → ℕ → ℕ → (List Param → Type 0) → Type 0 → Type 0
-MakeFits s class zero number Take parts =
-    (routine : Routine) × (slice_get s.routines number ≡ Some routine) × IsConstructorOf s.types class routine
-    × Take routine.header.params
-MakeFits s class (suc unit) number Take parts = (suc unit < s.units) × parts
+abbrev pub MakeFits : Scope → TypeId → RoutineId → (List Param → Type 0) → Type 0
+MakeFits s class routine Take = HasRoutine (λ one. IsConstructorOf s.types class one × Take one.header.params) s routine
+
+-- the method of a class in a slot is as asked
+abbrev pub SlotFits : List TypeDef → TypeId → ℕ → (Header → Type 0) → Type 0
+SlotFits types class slot Asked =
+    (method : Method) × (method_at (members_in (members_of types) class) slot ≡ Some method) × Asked method.header
 
 abbrev mutual
   pub IsTyped : Scope → Expression → Type 0
   IsTyped s (Const ty value) = IsValue s.types value (definition s.types ty)
   IsTyped s (RoutineValue ty routine) =
-      (header : Header) × (definition s.types ty ≡ Some (type.Procedural header)) × HasRoutine (IsRoutineValue header) s routine
+      (header : Header) × (definition s.types ty ≡ Some (type.Procedural header)) × HasRoutine (IsRoutineValue header) s routine × IsOfSource s routine.unit
   IsTyped s (Load ty from) = HasType s ty × HasPlace s from ty
   IsTyped s (Unary ty op operand) = IsTyped s operand × FitsUnary op (definition s.types ty) (sort_of s.types operand)
   IsTyped s (Binary ty op left right early) =
@@ -154,11 +86,12 @@ abbrev mutual
       IsTyped s operand × (type_of operand ≡ Some ty) × IsSome (stored_as (definition s.types ty)) × (low ≤ℤ high)
   IsTyped s (SetOf ty elements) =
       (base : TypeId) × (definition s.types ty ≡ Some (type.SetOf base)) × AreTypedElements s base elements
-  IsTyped s (Call ty routine own args) = HasResult s ty
-      × CallFits s routine.unit routine.number ty (λ owner. IsOwn s owner own) (λ params. TakeEach s params args)
-      (IsTypedReceiver s own × AreTypedArguments s args)
+  IsTyped s (Call ty routine own args) =
+      HasResult s ty × CallFits s routine ty (λ owner. IsOwn s owner own) (λ params. TakeEach s params args)
   IsTyped s (CallVirtual ty own slot checked args) =
-      HasResult s ty × ((class : TypeId) × IsObject (definition s.types class) × HasPlace s own class) × AreTypedArguments s args
+      HasResult s ty
+      × ((class : TypeId) × IsObject (definition s.types class) × HasPlace s own class
+      × SlotFits s.types class slot (λ header. (header.result ≡ ty) × TakeEach s header.params args))
   IsTyped s (CallThrough ty through args) =
       HasResult s ty
       × ((of : TypeId) × (header : Header) × (definition s.types of ≡ Some (type.Procedural header)) × (header.result ≡ ty)
@@ -167,7 +100,7 @@ abbrev mutual
       HasResult s ty × ((slots : List Slot) × (outcome : Outcome) × IsStandard number slots outcome × FillEach s slots args × Gives s.types outcome ty args)
   IsTyped s (Make ty routine args) =
       (class : TypeId) × (definition s.types ty ≡ Some (type.PointerTo class)) × IsObject (definition s.types class)
-      × MakeFits s class routine.unit routine.number (λ params. TakeEach s params args) (AreTypedArguments s args)
+      × MakeFits s class routine (λ params. TakeEach s params args)
 
   -- a place holds values of the type
   pub HasPlace : Scope → Place → TypeId → Type 0
@@ -181,16 +114,6 @@ abbrev mutual
   IsOwn s None NoReceiver = Unit {0}
   IsOwn s (Some owner) (Own own) = (class : TypeId) × HasPlace s own class × Descends s.types class owner
   IsOwn s _ _ = ⊥
-
-  pub IsTypedReceiver : Scope → Receiver → Type 0
-  IsTypedReceiver s NoReceiver = Unit {0}
-  IsTypedReceiver s (Own own) = (class : TypeId) × IsObject (definition s.types class) × HasPlace s own class
-
-  -- each argument by itself
-  pub AreTypedArguments : Scope → Arguments → Type 0
-  AreTypedArguments s NoArguments = Unit {0}
-  AreTypedArguments s (ByValue value rest) = IsTyped s value × IsSome (type_of value) × AreTypedArguments s rest
-  AreTypedArguments s (ByPlace at rest) = ((ty : TypeId) × HasPlace s at ty) × AreTypedArguments s rest
 
   -- as many arguments as parameters, and each of the type of its parameter; a place may be a descendant's
   pub TakeEach : Scope → List Param → Arguments → Type 0

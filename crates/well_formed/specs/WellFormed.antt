@@ -19,9 +19,10 @@ use Rattle.typed_tree.specs.declared.units.Routine.{Routine}
 use Rattle.typed_tree.specs.declared.units.Unit.{Unit as TypedUnit}
 use Rattle.typed_tree.specs.Expressions.{Expression, Place, Arguments, Call, CallVirtual, CallThrough, Std}
 use Rattle.typed_tree.specs.Statements.{Statement, Statements, Arms, Written, Taken, Assign, CopyAll, Run, If, While, Repeat, Block, Case, For, With, WriteItems, ReadItems, Halt, Exit, Unmake, NoStatements, Then, NoArms, Branch, view_stmt}
-use Rattle.well_formed.specs.Fits.{definition, family_of, IsSome, IsInteger, IsBoolean, IsObject, IsRecord, IsStructured, IsReadable, IsWritable, AreStoredAlike, AreSameHeaders, Descends, IsValue}
-use Rattle.well_formed.specs.Scopes.{Scope, HasType, HasResult, HasVariable, levels_from}
-use Rattle.well_formed.specs.Typed.{IsTyped, HasPlace, Takes, TakeEach, AreTypedArguments, sort_of}
+use Rattle.type_fits.specs.Fits.{definition, family_of, IsSome, IsInteger, IsBoolean, IsObject, IsRecord, IsStructured, IsReadable, IsWritable, AreStoredAlike, AreSameHeaders, Descends, IsValue}
+use Rattle.type_fits.specs.Routines.{HasInitial}
+use Rattle.well_formed.specs.Scopes.{Prototype, Others, Scope, HasType, HasResult, HasVariable, HasRoutine, around_from, levels_from}
+use Rattle.well_formed.specs.Typed.{IsTyped, HasPlace, Takes, TakeEach, SlotFits, sort_of}
 
 -- ---- statements
 
@@ -79,22 +80,17 @@ pub record IsCounted (s : Scope) (variable : Variable) (ty : TypeId) (from to : 
 abbrev pub IsLabelled : LabelRange → Type 0
 IsLabelled label = label.low ≤ℤ label.high
 
-pub record IsDestructorOf (types : List TypeDef) (class : TypeId) (routine : Routine) : Type 0 where
-  pub kind : routine.header.kind ≡ kind.Destructor
+pub record IsDestructorOf (types : List TypeDef) (class : TypeId) (one : Prototype) : Type 0 where
+  pub kind : one.header.kind ≡ kind.Destructor
   pub owner : TypeId
-  pub owned : routine.owner ≡ Some owner
+  pub owned : one.owner ≡ Some owner
   pub inherited : Descends types class owner
 
-abbrev pub IsDestructorAt : Scope → TypeId → ℕ → ℕ → Arguments → Type 0
-IsDestructorAt s class zero number args =
-    (routine : Routine) × (slice_get s.routines number ≡ Some routine) × IsDestructorOf s.types class routine
-    × TakeEach s routine.header.params args
-IsDestructorAt s class (suc unit) number args = (suc unit < s.units) × AreTypedArguments s args
-
--- a destructor of the type or of an ancestor, or one in a slot of the class
+-- a destructor of the type or of an ancestor, or one in a slot of the class, which takes the arguments
 abbrev pub IsDestructor : Scope → TypeId → Destructor → Arguments → Type 0
-IsDestructor s class (destructor.Routine routine) args = IsDestructorAt s class routine.unit routine.number args
-IsDestructor s class (destructor.Slot slot checked) args = AreTypedArguments s args
+IsDestructor s class (destructor.Routine routine) args =
+    HasRoutine (λ one. IsDestructorOf s.types class one × TakeEach s one.header.params args) s routine
+IsDestructor s class (destructor.Slot slot checked) args = SlotFits s.types class slot (λ header. TakeEach s header.params args)
 
 pub record IsUnmade (s : Scope) (pointer : Expression) (with : Destructor) (args : Arguments) : Type 0 where
   pub class : TypeId
@@ -137,19 +133,24 @@ abbrev mutual
 
 -- ---- routines and units
 
--- what a node outside all routines may name
+-- what a node outside all routines may name, which is of no other unit
 abbrev pub scope_of : TypedUnit → Scope
 scope_of unit = record {
   types = unit.types.types;
-  units = length unit.names;
+  others = record { units = []; globals = []; routines = [] };
   globals = map (λ (global : Global). global.ty) unit.globals;
   routines = unit.routines;
+  around = [];
   levels = [];
   withs = [];
 }
 
-abbrev pub scope_in : TypedUnit → ℕ → Scope
-scope_in unit number = record (scope_of unit) { levels = levels_from unit.routines (suc number) (Some number) }
+abbrev pub scope_in : Others → TypedUnit → ℕ → Scope
+scope_in others unit number = record (scope_of unit) {
+  others = others;
+  around = around_from unit.routines (suc number) (Some number);
+  levels = levels_from unit.routines (suc number) (Some number);
+}
 
 -- a routine that is declared inside another has a greater number
 abbrev pub IsInside : ℕ → Option ℕ → Type 0
@@ -160,14 +161,14 @@ abbrev pub IsOwner : Scope → Option TypeId → Type 0
 IsOwner s None = Unit {0}
 IsOwner s (Some owner) = IsObject (definition s.types owner)
 
-pub record IsRoutine (unit : TypedUnit) (number : ℕ) (routine : Routine) : Type 0 where
+pub record IsRoutine (others : Others) (unit : TypedUnit) (number : ℕ) (routine : Routine) : Type 0 where
   pub params : All (λ (param : Param). HasType (scope_of unit) param.ty) routine.header.params
   pub result : HasResult (scope_of unit) routine.header.result
   pub function : is_some routine.header.result ≡ true → routine.header.kind ≡ kind.Function
   pub owner : IsOwner (scope_of unit) routine.owner
   pub outer : IsInside number routine.outer
   pub locals : All (HasType (scope_of unit)) routine.locals
-  pub body : IsStatement (scope_in unit number) (view_stmt routine.body)
+  pub body : IsStatement (scope_in others unit number) (view_stmt routine.body)
 
 -- the bytes of a first value are as many as the type's size
 abbrev pub IsFirst : ℕ → Option (List ℕ) → Type 0
@@ -189,22 +190,12 @@ IsItem unit (item.Ty name ty) = HasType (scope_of unit) ty
 IsItem unit (item.Var name ty number) = slice_get (scope_of unit).globals number ≡ Some ty
 IsItem unit (item.Code name header number) = (routine : Routine) × (slice_get unit.routines number ≡ Some routine) × IsHeaderOf header routine
 
--- a main or initialisation part: a far procedure without parameters
-pub record IsInitial (routine : Routine) : Type 0 where
-  pub kind : routine.header.kind ≡ kind.Procedure
-  pub bare : routine.header.params ≡ []
-  pub far : routine.far ≡ true
-  pub free : routine.owner ≡ None
-  pub outermost : routine.outer ≡ None
-
-abbrev pub HasInitial : List Routine → Option ℕ → Type 0
-HasInitial routines None = Unit {0}
-HasInitial routines (Some number) = (routine : Routine) × (slice_get routines number ≡ Some routine) × IsInitial routine
-
+-- A unit whose trees name what is there, where other units have what it supposes of them.
 pub record IsWellFormed (unit : TypedUnit) : Type 0 where
+  pub others : Others
   -- the first name is that of the unit
   pub named : slice_get unit.names 0 ≡ Some unit.name
   pub globals : All (IsOfUnit unit) unit.globals
-  pub routines : (number : ℕ) (routine : Routine) → slice_get unit.routines number ≡ Some routine → IsRoutine unit number routine
+  pub routines : (number : ℕ) (routine : Routine) → slice_get unit.routines number ≡ Some routine → IsRoutine others unit number routine
   pub items : All (IsItem unit) unit.items
   pub initial : HasInitial unit.routines unit.initial

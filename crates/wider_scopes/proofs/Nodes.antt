@@ -1,5 +1,5 @@
 -- Expressions and places stay typed.
-use Rattle.std.proofs.Common.{◌≡◌, inl, inr, ℕ, zero, suc, ◌-◌, ◌<◌, List, [], ◌∷◌, ◌++◌, Option, Some, None, refl, sym, subst, ◌∙◌, arith}
+use Rattle.std.proofs.Common.{◌≡◌, inl, inr, ℕ, zero, suc, ◌-◌, List, [], ◌∷◌, ◌++◌, Option, Some, None, refl, sym, subst, ◌∙◌}
 use Rattle.std.specs.Prelude.{slice_get}
 use Rattle.std.specs.Option.{option_and_then}
 use Rattle.type_layout.specs.declared.definitions.TypeId.{TypeId}
@@ -7,7 +7,6 @@ use Rattle.type_layout.specs.declared.definitions.RoutineId.{RoutineId}
 use Rattle.type_layout.specs.declared.definitions.Host.{Host}
 use Rattle.type_layout.specs.declared.definitions.Host.TheVariants as host
 use Rattle.type_layout.specs.declared.definitions.Param.{Param}
-use Rattle.type_layout.specs.declared.definitions.Kind.TheVariants as kind
 use Rattle.type_layout.specs.declared.definitions.Header.{Header}
 use Rattle.type_layout.specs.declared.definitions.TypeDef.{TypeDef}
 use Rattle.type_layout.specs.declared.definitions.TypeDef.TheVariants as type
@@ -15,21 +14,24 @@ use Rattle.typed_tree.specs.declared.expressions.Variable.{Variable}
 use Rattle.typed_tree.specs.declared.expressions.Value.TheVariants as value
 use Rattle.typed_tree.specs.declared.units.Routine.{Routine}
 use Rattle.typed_tree.specs.Expressions.{type_of, Expression, Place, Receiver, Elements, Arguments, Const, RoutineValue, Load, Unary, Binary, Convert, Range, SetOf, Call, CallVirtual, CallThrough, Std, Make, Var, Deref, Index, FieldOf, NoReceiver, Own, NoElements, One, Span, NoArguments, ByValue, ByPlace}
-use Rattle.well_formed.specs.Fits.{definition, stored_as, family_of, IsSome, IsBoolean, IsChar, AreOfOneFamily, AreStoredAlike, IsWide, IsString, IsPointer, IsObject, Descends, field_type, AreSameHeaders, IsValue}
-use Rattle.well_formed.specs.Standard.{Slot, FitsValue, FitsVariable, Outcome, Gives, HoldsAll, HoldsValue, HoldsFirst, IsLikeFirst, Nothing, Wide, Holding, Alike, Truth, Letter, Byte, Small, Size, Line, Link}
-use Rattle.well_formed.specs.Scopes.{Scope, HasType, HasResult, HasVariable, IsGlobal, IsVariableAt, IsRoutineAt, HasRoutine}
-use Rattle.well_formed.specs.Typed.{IsTyped, HasPlace, IsOwn, IsTypedReceiver, AreTypedArguments, TakeEach, FillEach, AreTypedElements, sort_of, FitsUnary, FitsBinary, MayBeEarly, IsConversion, PointsTo, IsElement, JoinsSome, Takes, IsRoutineValue, IsConstructorOf, IsMember, CallFits, MakeFits}
+use Rattle.type_fits.specs.Fits.{definition, stored_as, family_of, IsSome, IsBoolean, IsChar, AreOfOneFamily, AreStoredAlike, IsWide, IsString, IsPointer, IsObject, Descends, field_type, IsValue}
+use Rattle.type_fits.specs.Standard.{Slot, FitsValue, FitsVariable, Outcome, Gives, HoldsAll, HoldsValue, HoldsFirst, IsLikeFirst, Nothing, Wide, Holding, Alike, Truth, Letter, Byte, Small, Size, Line, Link}
+use Rattle.well_formed.specs.Scopes.{Prototype, prototype, Scope, HasType, HasResult, HasVariable, IsOfSource, IsGlobal, IsVariableAt, IsRoutineAt, HasRoutine, IsWithin}
+use Rattle.type_fits.specs.Operators.{FitsUnary, FitsBinary, MayBeEarly, IsConversion}
+use Rattle.well_formed.specs.Typed.{IsTyped, HasPlace, IsOwn, TakeEach, FillEach, AreTypedElements, sort_of, PointsTo, IsElement, JoinsSome, Takes, IsRoutineValue, IsConstructorOf, IsMember, CallFits, MakeFits, SlotFits}
+use Rattle.object_vmt.specs.Members.{Members, members_of, members_in}
+use Rattle.object_vmt.specs.Slots.{method_at}
 use Rattle.well_formed.specs.Laws.{HaveTypes}
 use Rattle.wider_scopes.specs.Wider.{IsSame, Widens}
-use Rattle.wider_scopes.proofs.Types.{within_some, some_of, more_kept, more_descends, more_field, more_value, more_joins}
+use Rattle.wider_scopes.proofs.Types.{within_some, some_of, more_kept, more_descends, more_field, more_members, more_value, more_joins}
 
-value_same : (header : Header) (one other : Routine) → IsSame one other → IsRoutineValue header one → IsRoutineValue header other
-value_same header one other same h = record {
-  far = sym same.far ∙ h.far;
-  free = sym same.owner ∙ h.free;
-  outermost = sym same.outer ∙ h.outermost;
-  same = subst (λ (x : Header). AreSameHeaders header x) same.header h.same;
-}
+same_prototype : (one other : Routine) → IsSame one other → prototype one ≡ prototype other
+same_prototype one other same =
+    let header = same.header in
+    let owner = same.owner in
+    let outer = same.outer in
+    let far = same.far in
+    cc
 
 module _ (have : HaveTypes) (s t : Scope) (w : Widens s t) where
   -- what holds over the types of the first and others holds over those of the second
@@ -90,7 +92,7 @@ module _ (have : HaveTypes) (s t : Scope) (w : Widens s t) where
 
   global : (unit number : ℕ) (ty : TypeId) → IsGlobal s unit number ty → IsGlobal t unit number ty
   global zero number ty h = w.globals number ty h
-  global (suc unit) number ty h = let more = w.units in omega (arith, h, more)
+  global (suc unit) number ty h = w.others.globals (record { unit = suc unit; number = number; ty = ty }) h
 
   variable_at : (level unit number : ℕ) (ty : TypeId) → IsVariableAt s level unit number ty → IsVariableAt t level unit number ty
   variable_at zero unit number ty h = global unit number ty h
@@ -101,22 +103,22 @@ module _ (have : HaveTypes) (s t : Scope) (w : Widens s t) where
   pub variable : (v : Variable) (ty : TypeId) → HasVariable s v ty → HasVariable t v ty
   variable v ty h = (has_type ty h.0, variable_at v.level v.unit v.number ty h.1)
 
-  routine_at : (Asked : Routine → Type 0) (unit number : ℕ) → ((one other : Routine) → IsSame one other → Asked one → Asked other) → IsRoutineAt Asked s unit number → IsRoutineAt Asked t unit number
-  routine_at Asked zero number f h =
+  routine_at : (A B : Prototype → Type 0) (unit number : ℕ) → ((seen : Prototype) → A seen → B seen) → IsRoutineAt A s unit number → IsRoutineAt B t unit number
+  routine_at A B zero number f h =
       let other = w.routines number h.0 h.1 in
-      (other.0, other.1, f h.0 other.0 other.2 h.2)
-  routine_at Asked (suc unit) number f h = let more = w.units in omega (arith, h, more)
+      (other.0, other.1, subst (λ (x : Prototype). B x) (same_prototype h.0 other.0 other.2) (f (prototype h.0) h.2))
+  routine_at A B (suc unit) number f h =
+      (h.0, w.others.routines (record { routine = record { unit = suc unit; number = number }; seen = h.0 }) h.1, f h.0 h.2)
 
-  pub routine : (Asked : Routine → Type 0) (one : RoutineId) → ((a b : Routine) → IsSame a b → Asked a → Asked b) → HasRoutine Asked s one → HasRoutine Asked t one
-  routine Asked one f h = routine_at Asked one.unit one.number f h
+  pub routine : (A B : Prototype → Type 0) (one : RoutineId) → ((seen : Prototype) → A seen → B seen) → HasRoutine A s one → HasRoutine B t one
+  routine A B one f h = routine_at A B one.unit one.number f h
 
-  constructor_of : (class : TypeId) (one other : Routine) → IsSame one other → IsConstructorOf s.types class one → IsConstructorOf t.types class other
-  constructor_of class one other same h = record {
-    kind = subst (λ (x : Header). x.kind ≡ kind.Constructor) same.header h.kind;
-    owner = h.owner;
-    owned = sym same.owner ∙ h.owned;
-    inherited = descends class h.owner h.inherited;
-  }
+  of_source : (unit : ℕ) → IsOfSource s unit → IsOfSource t unit
+  of_source zero h = tt
+  of_source (suc unit) h = (h.0, w.others.units (record { number = suc unit; name = h.0 }) h.1, h.2)
+
+  constructor_of : (class : TypeId) (one : Prototype) → IsConstructorOf s.types class one → IsConstructorOf t.types class one
+  constructor_of class one h = record { kind = h.kind; owner = h.owner; owned = h.owned; inherited = descends class h.owner h.inherited }
 
   -- ---- what standard routines give
 
@@ -160,28 +162,32 @@ module _ (have : HaveTypes) (s t : Scope) (w : Widens s t) where
 
   -- ---- what calls ask
 
-  call_fits : (unit number : ℕ) (ty : Option TypeId) (O P : Option TypeId → Type 0) (T U : List Param → Type 0) (A B : Type 0) → ((o : Option TypeId) → O o → P o) → ((params : List Param) → T params → U params) → (A → B)
-      → CallFits s unit number ty O T A → CallFits t unit number ty P U B
-  call_fits zero number ty O P T U A B own take parts h =
-      let other = w.routines number h.0 h.1 in
-      let same = other.2 in
-      (other.0, other.1, subst (λ (x : Header). x.result ≡ ty) same.header h.2, subst P same.owner (own h.0.owner h.3), subst (λ (x : Header). U x.params) same.header (take h.0.header.params h.4))
-  call_fits (suc unit) number ty O P T U A B own take parts h =
-      let below = h.0 in
-      let more = w.units in
-      let there : suc unit < t.units = omega (arith, below, more) in
-      (there, parts h.1)
+  is_within : (outer : Option ℕ) → IsWithin s.around outer → IsWithin t.around outer
+  is_within None h = tt
+  is_within (Some outer) h = w.around outer h
 
-  make_fits : (class : TypeId) (unit number : ℕ) (T U : List Param → Type 0) (A B : Type 0) → ((params : List Param) → T params → U params) → (A → B) → MakeFits s class unit number T A → MakeFits t class unit number U B
-  make_fits class zero number T U A B take parts h =
-      let other = w.routines number h.0 h.1 in
-      let same = other.2 in
-      (other.0, other.1, constructor_of class h.0 other.0 same h.2, subst (λ (x : Header). U x.params) same.header (take h.0.header.params h.3))
-  make_fits class (suc unit) number T U A B take parts h =
-      let below = h.0 in
-      let more = w.units in
-      let there : suc unit < t.units = omega (arith, below, more) in
-      (there, parts h.1)
+  call_fits : (one : RoutineId) (ty : Option TypeId) (O P : Option TypeId → Type 0) (T U : List Param → Type 0) → ((o : Option TypeId) → O o → P o) → ((params : List Param) → T params → U params)
+      → CallFits s one ty O T → CallFits t one ty P U
+  call_fits one ty O P T U own take h =
+      let A : Prototype → Type 0 = λ (seen : Prototype). (seen.header.result ≡ ty) × (seen.owner ≡ None → IsWithin s.around seen.outer) × O seen.owner × T seen.header.params in
+      let B : Prototype → Type 0 = λ (seen : Prototype). (seen.header.result ≡ ty) × (seen.owner ≡ None → IsWithin t.around seen.outer) × P seen.owner × U seen.header.params in
+      routine A B one (λ seen k. (k.0, λ free. is_within seen.outer (k.1 free), own seen.owner k.2, take seen.header.params k.3)) h
+
+  make_fits : (class : TypeId) (one : RoutineId) (T U : List Param → Type 0) → ((params : List Param) → T params → U params) → MakeFits s class one T → MakeFits t class one U
+  make_fits class one T U take h =
+      let A : Prototype → Type 0 = λ (seen : Prototype). IsConstructorOf s.types class seen × T seen.header.params in
+      let B : Prototype → Type 0 = λ (seen : Prototype). IsConstructorOf t.types class seen × U seen.header.params in
+      routine A B one (λ seen k. (constructor_of class seen k.0, take seen.header.params k.1)) h
+
+  members : (class : TypeId) → IsObject (definition s.types class) → members_in (members_of t.types) class ≡ members_in (members_of s.types) class
+  members class h =
+      over (λ (x : List TypeDef). members_in (members_of x) class ≡ members_in (members_of s.types) class)
+      (more_members s.types w.types.0 class (within_some s.types class.0 (object_some (definition s.types class) h)))
+
+  pub slot_fits : (class : TypeId) (slot : ℕ) (T U : Header → Type 0) → IsObject (definition s.types class) → ((header : Header) → T header → U header) → SlotFits s.types class slot T → SlotFits t.types class slot U
+  slot_fits class slot T U object f h =
+      let there = subst (λ (m : Members). method_at m slot ≡ Some h.0) (sym (members class object)) h.1 in
+      (h.0, there, f h.0.header h.2)
 
   -- ---- parts of places and sets
 
@@ -218,7 +224,7 @@ module _ (have : HaveTypes) (s t : Scope) (w : Widens s t) where
   mutual
     pub typed : (e : Expression) → IsTyped s e → IsTyped t e
     typed (Const ty v) h = over (λ (x : List TypeDef). IsValue x v (definition x ty)) (more_value s.types w.types.0 w.defined v ty h)
-    typed (RoutineValue ty one) h = (h.0, defined ty (type.Procedural h.0) h.1, routine (IsRoutineValue h.0) one (value_same h.0) h.2)
+    typed (RoutineValue ty one) h = (h.0, defined ty (type.Procedural h.0) h.1, routine (IsRoutineValue h.0) (IsRoutineValue h.0) one (λ seen k. k) h.2, of_source one.unit h.3)
     typed (Load ty from) h = (has_type ty h.0, place from ty h.1)
     typed (Unary ty op a) h =
         let some = have s (Unary ty op a) h tt in
@@ -237,12 +243,14 @@ module _ (have : HaveTypes) (s t : Scope) (w : Widens s t) where
     typed (SetOf ty es) h = (h.0, defined ty (type.SetOf h.0) h.1, elements es h.0 h.2)
     typed (Call ty one own args) h = (
       has_result ty h.0,
-      call_fits one.unit one.number ty (λ o. IsOwn s o own) (λ o. IsOwn t o own) (λ params. TakeEach s params args) (λ params. TakeEach t params args)
-          (IsTypedReceiver s own × AreTypedArguments s args) (IsTypedReceiver t own × AreTypedArguments t args) (λ o k. instance own o k) (λ params k. taken args params k) (λ k. (receiver own k.0, arguments args k.1)) h.1,
+      call_fits one ty (λ o. IsOwn s o own) (λ o. IsOwn t o own) (λ params. TakeEach s params args) (λ params. TakeEach t params args)
+          (λ o k. instance own o k) (λ params k. taken args params k) h.1,
     )
     typed (CallVirtual ty own slot checked args) h =
         let on = h.1 in
-        (has_result ty h.0, (on.0, is_object on.0 on.1, place own on.0 on.2), arguments args h.2)
+        let T : Header → Type 0 = λ (header : Header). (header.result ≡ ty) × TakeEach s header.params args in
+        let U : Header → Type 0 = λ (header : Header). (header.result ≡ ty) × TakeEach t header.params args in
+        (has_result ty h.0, (on.0, is_object on.0 on.1, place own on.0 on.2, slot_fits on.0 slot T U on.1 (λ header k. (k.0, taken args header.params k.1)) on.3))
     typed (CallThrough ty through args) h =
         let on = h.1 in
         let header : Header = on.1 in
@@ -254,8 +262,7 @@ module _ (have : HaveTypes) (s t : Scope) (w : Widens s t) where
       h.0,
       defined ty (type.PointerTo h.0) h.1,
       is_object h.0 h.2,
-      make_fits h.0 one.unit one.number (λ params. TakeEach s params args) (λ params. TakeEach t params args) (AreTypedArguments s args) (AreTypedArguments t args)
-          (λ params k. taken args params k) (λ k. arguments args k) h.3,
+      make_fits h.0 one (λ params. TakeEach s params args) (λ params. TakeEach t params args) (λ params k. taken args params k) h.3,
     )
 
     pub place : (at : Place) (ty : TypeId) → HasPlace s at ty → HasPlace t at ty
@@ -273,17 +280,6 @@ module _ (have : HaveTypes) (s t : Scope) (w : Widens s t) where
     instance (Own at) (Some owner) h = (h.0, place at h.0 h.1, descends h.0 owner h.2)
     instance NoReceiver (Some owner) h = absurd h
     instance (Own at) None h = absurd h
-
-    receiver : (own : Receiver) → IsTypedReceiver s own → IsTypedReceiver t own
-    receiver NoReceiver h = tt
-    receiver (Own at) h = (h.0, is_object h.0 h.1, place at h.0 h.2)
-
-    pub arguments : (args : Arguments) → AreTypedArguments s args → AreTypedArguments t args
-    arguments NoArguments h = tt
-    arguments (ByValue v rest) h = (typed v h.0, h.1, arguments rest h.2)
-    arguments (ByPlace at rest) h =
-        let first = h.0 in
-        ((first.0, place at first.0 first.1), arguments rest h.1)
 
     pub taken : (args : Arguments) (params : List Param) → TakeEach s params args → TakeEach t params args
     taken NoArguments [] h = tt

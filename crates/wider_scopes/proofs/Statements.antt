@@ -1,32 +1,31 @@
 -- Statements stay well formed.
-use Rattle.std.proofs.Common.{◌≡◌, ◌⊎◌, ℕ, zero, suc, ◌<◌, List, [], ◌∷◌, ◌++◌, get_or, Option, Some, None, sym, subst, ap, ◌∙◌, arith}
+use Rattle.std.proofs.Common.{◌≡◌, ◌⊎◌, List, [], ◌∷◌, ◌++◌, get_or, Option, Some, None, ap}
 use Rattle.type_layout.specs.declared.definitions.TypeId.{TypeId}
-use Rattle.type_layout.specs.declared.definitions.Kind.TheVariants as kind
 use Rattle.type_layout.specs.declared.definitions.Header.{Header}
 use Rattle.type_layout.specs.declared.definitions.TypeDef.{TypeDef}
 use Rattle.type_layout.specs.declared.definitions.TypeDef.TheVariants as type
 use Rattle.typed_tree.specs.declared.expressions.Variable.{Variable}
 use Rattle.typed_tree.specs.declared.statements.Destructor.{Destructor}
 use Rattle.typed_tree.specs.declared.statements.Destructor.TheVariants as destructor
-use Rattle.typed_tree.specs.declared.units.Routine.{Routine}
 use Rattle.typed_tree.specs.Expressions.{Expression, Place, Arguments}
 use Rattle.typed_tree.specs.Statements.{Statement, Statements, Arms, Written, Taken, Assign, CopyAll, Run, If, While, Repeat, Block, Case, For, With, WriteItems, ReadItems, Halt, Exit, Unmake, NoStatements, Then, NoArms, Branch}
-use Rattle.well_formed.specs.Fits.{definition, family_of, IsSome, IsInteger, IsBoolean, IsRecord, IsObject, IsStructured, IsReadable, IsWritable, AreStoredAlike}
-use Rattle.well_formed.specs.Scopes.{Scope}
+use Rattle.type_fits.specs.Fits.{definition, family_of, IsSome, IsInteger, IsBoolean, IsRecord, IsObject, IsStructured, IsReadable, IsWritable, AreStoredAlike}
+use Rattle.well_formed.specs.Scopes.{Prototype, Scope}
 use Rattle.well_formed.specs.Typed.{IsTyped, HasPlace, TakeEach, sort_of}
-use Rattle.well_formed.specs.WellFormed.{IsCondition, IsCount, IsWidth, IsWritten, IsTaken, IsAssignment, IsCopy, IsCounted, IsDestructorOf, IsDestructorAt, IsDestructor, IsUnmade, within, IsStatement, AreStatements, AreArms}
+use Rattle.well_formed.specs.WellFormed.{IsCondition, IsCount, IsWidth, IsWritten, IsTaken, IsAssignment, IsCopy, IsCounted, IsDestructorOf, IsDestructor, IsUnmade, within, IsStatement, AreStatements, AreArms}
 use Rattle.well_formed.specs.Laws.{HaveTypes}
-use Rattle.wider_scopes.specs.Wider.{IsSame, Widens}
-use Rattle.wider_scopes.proofs.Nodes.{asked, descends, is_object, sorted, takes, variable, place_type, typed, place, arguments, taken}
+use Rattle.wider_scopes.specs.Wider.{Widens}
+use Rattle.wider_scopes.proofs.Nodes.{asked, descends, is_object, sorted, takes, variable, routine, slot_fits, place_type, typed, place, taken}
 
 -- inside a `with` too
 within_widens : (s t : Scope) (ty : TypeId) → Widens s t → Widens (within s ty) (within t ty)
 within_widens s t ty w = record {
   defined = w.defined;
   types = w.types;
-  units = w.units;
+  others = w.others;
   globals = w.globals;
   routines = w.routines;
+  around = w.around;
   levels = w.levels;
   withs = ap (λ (all : List TypeId). all ++ ty ∷ []) w.withs;
 }
@@ -87,28 +86,18 @@ module _ (have : HaveTypes) (s t : Scope) (w : Widens s t) where
         last_like = like to h.last h.last_like;
       }
 
-  freed_by : (class : TypeId) (one other : Routine) → IsSame one other → IsDestructorOf s.types class one → IsDestructorOf t.types class other
-  freed_by class one other same h = record {
-    kind = subst (λ (x : Header). x.kind ≡ kind.Destructor) same.header h.kind;
-    owner = h.owner;
-    owned = sym same.owner ∙ h.owned;
-    inherited = descends have s t w class h.owner h.inherited;
-  }
+  freed_by : (class : TypeId) (one : Prototype) → IsDestructorOf s.types class one → IsDestructorOf t.types class one
+  freed_by class one h = record { kind = h.kind; owner = h.owner; owned = h.owned; inherited = descends have s t w class h.owner h.inherited }
 
-  freed_at : (class : TypeId) (unit number : ℕ) (args : Arguments) → IsDestructorAt s class unit number args → IsDestructorAt t class unit number args
-  freed_at class zero number args h =
-      let other = w.routines number h.0 h.1 in
-      let same = other.2 in
-      (other.0, other.1, freed_by class h.0 other.0 same h.2, subst (λ (x : Header). TakeEach t x.params args) same.header (taken have s t w args h.0.header.params h.3))
-  freed_at class (suc unit) number args h =
-      let below = h.0 in
-      let more = w.units in
-      let there : suc unit < t.units = omega (arith, below, more) in
-      (there, arguments have s t w args h.1)
-
-  freed : (class : TypeId) (with : Destructor) (args : Arguments) → IsDestructor s class with args → IsDestructor t class with args
-  freed class (destructor.Routine routine) args h = freed_at class routine.unit routine.number args h
-  freed class (destructor.Slot slot checked) args h = arguments have s t w args h
+  freed : (class : TypeId) (with : Destructor) (args : Arguments) → IsObject (definition s.types class) → IsDestructor s class with args → IsDestructor t class with args
+  freed class (destructor.Routine one) args object h =
+      let A : Prototype → Type 0 = λ (seen : Prototype). IsDestructorOf s.types class seen × TakeEach s seen.header.params args in
+      let B : Prototype → Type 0 = λ (seen : Prototype). IsDestructorOf t.types class seen × TakeEach t seen.header.params args in
+      routine have s t w A B one (λ seen k. (freed_by class seen k.0, taken have s t w args seen.header.params k.1)) h
+  freed class (destructor.Slot slot checked) args object h =
+      let T : Header → Type 0 = λ (header : Header). TakeEach s header.params args in
+      let U : Header → Type 0 = λ (header : Header). TakeEach t header.params args in
+      slot_fits have s t w class slot T U object (λ header k. taken have s t w args header.params k) h
 
   unmade : (pointer : Expression) (with : Destructor) (args : Arguments) → IsUnmade s pointer with args → IsUnmade t pointer with args
   unmade pointer with args h = record {
@@ -116,7 +105,7 @@ module _ (have : HaveTypes) (s t : Scope) (w : Widens s t) where
     typed = typed have s t w pointer h.typed;
     points = sorted have s t w (λ (d : Option TypeDef). d ≡ Some (type.PointerTo h.class)) pointer h.typed h.points;
     object = is_object have s t w h.class h.object;
-    destructor = freed h.class with args h.destructor;
+    destructor = freed h.class with args h.object h.destructor;
   }
 
   chosen : (e : Expression) → IsTyped s e → IsSome (family_of (sort_of s.types e)) → IsSome (family_of (sort_of t.types e))

@@ -12,7 +12,8 @@ use Rattle.type_layout.proofs.Local.{slice_get-append}
 use Rattle.type_layout.proofs.Given.{get_or-given_by-front}
 use Rattle.typed_tree.specs.declared.expressions.Value.{Value}
 use Rattle.typed_tree.specs.declared.expressions.Value.TheVariants as value
-use Rattle.well_formed.specs.Fits.{definition, IsSome, parent_of, ancestor, Descends, fields_by, field_type, JoinBy, Joins, AreElements, IsValue}
+use Rattle.type_fits.specs.Fits.{definition, IsSome, parent_of, ancestor, Descends, fields_by, field_type, JoinBy, Joins, AreElements, IsValue}
+use Rattle.object_vmt.specs.Members.{no_members, members_rule, members_of, members_in}
 
 -- ---- the base of a set stands in the table
 
@@ -75,6 +76,10 @@ module _ (front back : List TypeDef) where
   -- fields are those that they were
   pub more_field : (of ty : TypeId) (number : ℕ) → of.0 < length front → field_type front of number ≡ Some ty → field_type (front ++ back) of number ≡ Some ty
   more_field of ty number h e = ap (λ (all : List TypeId). slice_get all number) (get_or-given_by-front fields_by front back of.0 [] h) ∙ e
+
+  -- so are the members of a class
+  pub more_members : (class : TypeId) → class.0 < length front → members_in (members_of (front ++ back)) class ≡ members_in (members_of front) class
+  more_members class h = get_or-given_by-front members_rule front back class.0 no_members h
 
   -- a value of a type is one
   value_by : AllDefined [] front → (v : Value) (ty : TypeId) (d : Option TypeDef) → definition front ty ≡ d → IsValue front v d → IsValue (front ++ back) v d

@@ -17,8 +17,8 @@ use Rattle.source_tree.specs.declared.declaration.Declaration.{Declaration}
 use Rattle.source_tree.specs.declared.declaration.Declaration.TheVariants as d
 use Rattle.source_tree.specs.Declarations.{of_constant, next_items, constants_of, Words, in_block, of_part, routine_of, method_of, block_with, of_routine, of_declarations, declarations_of}
 use Rattle.routines.specs.Trees.{view_routine, view_declaration_row, view_declarations}
-use Rattle.declared_values.specs.Literals.{AreWritten, HasLiterals}
-use Rattle.checked_routines.specs.Trees.{HasBodies, HaveBodies}
+use Rattle.checked_units.specs.BelowMore.{HasLiterals}
+use Rattle.checked_units.specs.Below.{AreWritten, HasBodies, HaveBodies}
 use Rattle.written_sources.specs.Variables.{HasFewInside, EachHasFew}
 use Rattle.written_sources.proofs.Full.{IsFull}
 use Rattle.written_sources.proofs.Expressions.{simple_written}

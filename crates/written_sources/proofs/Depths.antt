@@ -19,8 +19,7 @@ use Rattle.syntax_tree.specs.Expressions.{of}
 use Rattle.syntax_tree.specs.Statements.{of_statement, of_statements, more_statements, of_else, of_case_else, of_with, first_arm, other_arms, more_arms, next_statements, statements_of, compound_of}
 use Rattle.statement_tree.specs.Trees.{view_statement, view_statement_row, view_else, view_case_else, view_with, view_arm_row, view_statements}
 use Rattle.tp_parser.specs.Parsing.{limit}
-use Rattle.checked_statements.specs.Trees.{depth_of, depth_in, depth_among}
-use Rattle.checked_routines.specs.Trees.{IsKept}
+use Rattle.checked_units.specs.Below.{depth_of, depth_in, depth_among, IsKept}
 use Rattle.written_sources.proofs.Full.{IsFull}
 use Rattle.written_sources.proofs.Statements.{list_written}
 

@@ -35,9 +35,9 @@ no_selectors = of p.no_selectors []
 
 -- what a name of one byte is a control character of is a byte
 letter_written : (letter : List ℕ) → IsText letter → IsLetter letter
-letter_written [] h = h.short
+letter_written [] h = h
 letter_written (a ∷ []) h = xor_lt 8 a 64 (h.each 0 0 (lit< tt)) (lit< tt)
-letter_written (a ∷ b ∷ rest) h = h.short
+letter_written (a ∷ b ∷ rest) h = h
 
 -- A chain is taken apart from its end: what comes behind it is full as well.
 mutual

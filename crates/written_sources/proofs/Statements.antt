@@ -17,7 +17,7 @@ use Rattle.syntax_tree.specs.Statements.{next_arguments, arguments_of, of_statem
 use Rattle.expression_tree.specs.Trees.{view_designator, view_arguments}
 use Rattle.statement_tree.specs.Trees.{view_statement, view_statement_row, view_else, view_case_else, view_with, view_arm_row, view_statements}
 use Rattle.checked_expressions.specs.Literals.{AreLiterals, AreInOperands}
-use Rattle.checked_statements.specs.Trees.{HasLiterals, HaveLiterals, HaveInBranches}
+use Rattle.checked_units.specs.Below.{HasLiterals, HaveLiterals, HaveInBranches}
 use Rattle.written_sources.proofs.Full.{IsFull}
 use Rattle.written_sources.proofs.Expressions.{expression_written, selectors_written, argument_written}
 

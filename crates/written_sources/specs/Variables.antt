@@ -3,7 +3,7 @@ use Rattle.std.specs.Prelude.{◌<◌, ◌^◌}
 use Rattle.source_tree.specs.declared.source.Tree.{Tree}
 use Rattle.source_tree.specs.declared.source.Tree.TheVariants as t
 use Rattle.routines.specs.Trees.{Work, Works, forward, plain, method, no_works, and_part, and_work, view_declarations}
-use Rattle.checked_routines.specs.Trees.{variables_in}
+use Rattle.checked_units.specs.Below.{variables_in}
 use Rattle.checked_units.specs.Begun.{interface_variables}
 
 abbrev mutual

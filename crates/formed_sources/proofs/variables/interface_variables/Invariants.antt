@@ -1,6 +1,6 @@
 use Rattle.std.proofs.Common.{◌≡◌, ◌≤◌, ◌+◌}
 use Rattle.std.specs.Prelude.{min, drop}
-use Rattle.checked_units.specs.Begun.{interface_variables}
+use Rattle.well_typed_programs.specs.Below.{interface_variables}
 use Rattle.formed_sources.proofs.variables.interface_variables.Given as goal
 
 abbrev pub invariant-loop-one : goal.invariant-loop-one

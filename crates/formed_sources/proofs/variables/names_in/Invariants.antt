@@ -1,6 +1,6 @@
 use Rattle.std.proofs.Common.{◌≡◌, ◌≤◌, ◌+◌}
 use Rattle.std.specs.Prelude.{min, drop}
-use Rattle.checked_routines.specs.Trees.{names_in}
+use Rattle.well_typed_programs.specs.Below.{names_in}
 use Rattle.formed_sources.proofs.variables.names_in.Given as goal
 
 abbrev pub invariant-loop-one : goal.invariant-loop-one

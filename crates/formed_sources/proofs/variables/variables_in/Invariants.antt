@@ -1,7 +1,7 @@
 use Rattle.std.proofs.Common.{◌≡◌, ◌≤◌, ◌+◌}
 use Rattle.std.specs.Prelude.{min, drop}
 use Rattle.routines.specs.Trees.{view_declarations}
-use Rattle.checked_routines.specs.Trees.{variables_in}
+use Rattle.well_typed_programs.specs.Below.{variables_in}
 use Rattle.formed_sources.proofs.variables.variables_in.Given as goal
 
 abbrev pub invariant-loop-one : goal.invariant-loop-one

@@ -1,7 +1,7 @@
 use Rattle.std.proofs.Common.{◌≡◌, ℕ, suc, ◌-◌, IfOk, List, Option, Some, ap, sym, ◌∙◌, subst, arith}
 use Rattle.type_layout.specs.declared.definitions.TypeId.{TypeId}
 use Rattle.type_layout.specs.declared.definitions.Method.{Method}
-use Rattle.well_formed.specs.Fits.{definition, parent_of}
+use Rattle.type_fits.specs.Fits.{definition, parent_of}
 use Rattle.object_vmt.specs.Slots.{slots_from, slots_of}
 use Rattle.method_rules.specs.Slots.{methods_of, methods_within}
 use Rattle.method_rules.proofs.SlotSteps.{next_slots}

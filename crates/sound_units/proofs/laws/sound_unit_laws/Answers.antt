@@ -1,6 +1,5 @@
 use Rattle.sound_units.proofs.Units.{unit_sound}
 use Rattle.sound_units.proofs.Programs.{program_sound}
-use Rattle.sound_units.proofs.Together.{all_together}
 use Rattle.sound_units.proofs.laws.sound_unit_laws.Goals as goal
 
 pub returns-clause-unit : goal.returns-clause-unit
@@ -8,6 +7,3 @@ returns-clause-unit c = unit_sound
 
 pub returns-clause-program : goal.returns-clause-program
 returns-clause-program c = program_sound
-
-pub returns-clause-together : goal.returns-clause-together
-returns-clause-together c = all_together

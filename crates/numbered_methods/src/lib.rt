@@ -1,0 +1,6 @@
+//! Object types of checked programs have methods as their declarations make them.
+#![tactic(auto)]
+
+mod laws;
+
+pub use laws::numbered_method_laws;
