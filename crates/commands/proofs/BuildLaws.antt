@@ -68,7 +68,7 @@ built_by held name bytes found is formed does =
     record { program = found.program; is = here; formed = formed; does = λ one there. does_too found.program one bytes (one_folder held name found.program one here there) does }
 
 pub built_from : (known : Option Folder) (name : List ℕ) (found : TypedSources) (result : Result (List ℕ) Outcome) → IfSome known (λ held. IsFoundIn held name found)
-    → IfSome known (λ held. AreFormed found.program) → IfOk result (DoesSoon found.program) → IfSome known (λ held. IfOk result (IsBuiltFrom held name))
+    → AreFormed found.program → IfOk result (DoesSoon found.program) → IfSome known (λ held. IfOk result (IsBuiltFrom held name))
 built_from None name found result is formed does = tt
 built_from (Some held) name found (Err error) is formed does = tt
 built_from (Some held) name found (Ok bytes) is formed does = built_by held name bytes found is formed does

@@ -15,7 +15,7 @@ use Rattle.outcomes.specs.declared.refusal.What.TheVariants as what
 use Rattle.outcomes.specs.declared.outcome.Outcome.{Outcome}
 use Rattle.outcomes.specs.declared.outcome.Outcome.TheVariants as outcome
 use Rattle.outcomes.specs.Line.{line_of}
-use Rattle.mean_program.specs.Shown.{outcome_of, IsUnread, Writes, Shows}
+use Rattle.mean_program.specs.Shown.{Stands, IsUnread, Writes, Shows}
 use Rattle.front_end.specs.Typed.{IsProgramIn}
 use Rattle.front_end.specs.Untyped.{IsDeclining}
 use Rattle.one_program.specs.Folder.{IsExempt, FoundNone}
@@ -44,14 +44,13 @@ abbrev IsEnd : Outcome → Type 0
 IsEnd (outcome.Program code) = Unit {0}
 IsEnd (outcome.Undefined act) = Unit {0}
 IsEnd outcome.TurnLimit = Unit {0}
-IsEnd outcome.Stuck = Unit {0}
 IsEnd other = ⊥
 
-is_end : (standing : Standing) → IsEnd (outcome_of standing)
-is_end (Ended code) = tt
-is_end Going = tt
-is_end (Undefined act) = tt
-is_end Stopped = tt
+is_end : (standing : Standing) (result : Outcome) → Stands standing result → IsEnd result
+is_end (Ended code) result is = subst IsEnd (sym is) tt
+is_end Going result is = subst IsEnd (sym is) tt
+is_end (Undefined act) result is = subst IsEnd (sym is) tt
+is_end Stopped result is = absurd is
 
 -- ---- faults
 
@@ -66,7 +65,6 @@ end_fault : (result : Outcome) (old new : World) → IsEnd result → Faults old
 end_fault (outcome.Program code) old new is = tt
 end_fault (outcome.Undefined act) old new is = tt
 end_fault outcome.TurnLimit old new is = tt
-end_fault outcome.Stuck old new is = tt
 end_fault other old new is = absurd is
 
 unread_fault : (result : Outcome) (input input' : Option (List ℕ)) (old mid : World) (errors : Option (List ℕ)) (faults : ℕ) → IsUnread input input' old.streams.input_faults mid.streams.input_faults result
@@ -82,7 +80,7 @@ showed_fault : (program : Program) (turns : ℕ) (result : Outcome) (old mid : W
 showed_fault program turns result old mid errors faults (inl means) rises = by means.writes
   where
     by : Writes (mean program means.bytes turns) result (sinks_of old.streams) (sinks_of mid.streams) → Faults old (told mid errors faults) result
-    by (inl all) = end_fault result old (told mid errors faults) (subst IsEnd (sym all.stands) (is_end (mean program means.bytes turns).end))
+    by (inl all) = end_fault result old (told mid errors faults) (is_end (mean program means.bytes turns).end result all.stands)
     by (inr (inl out)) = subst (λ (o : Outcome). Faults old (told mid errors faults) o) (sym out.is) out.rose
     by (inr (inr err)) = subst (λ (o : Outcome). Faults old (told mid errors faults) o) (sym err.is) (still_risen old.streams.errors_faults mid.streams.errors_faults faults err.rose rises)
 showed_fault program turns result old mid errors faults (inr declines) rises = unread_fault result old.streams.input mid.streams.input old mid errors faults declines.cause
@@ -103,7 +101,7 @@ end_refuses_not other ends is = is
 
 writes_refuses_not : (program : Program) (bytes : List ℕ) (turns : ℕ) (r : Refusal) (old mid : World) → Writes (mean program bytes turns) (outcome.Refused r) (sinks_of old.streams) (sinks_of mid.streams) → ⊥
 writes_refuses_not program bytes turns r old mid (inl all) =
-    end_refuses_not (outcome.Refused r) (subst IsEnd (sym all.stands) (is_end (mean program bytes turns).end)) tt
+    end_refuses_not (outcome.Refused r) (is_end (mean program bytes turns).end (outcome.Refused r) all.stands) tt
 writes_refuses_not program bytes turns r old mid (inr (inl out)) = let bad = out.is in cc
 writes_refuses_not program bytes turns r old mid (inr (inr err)) = let bad = err.is in cc
 
@@ -145,13 +143,18 @@ reason r name turns old mid (inr showed) = by showed.shows
 
 -- ---- how it ends
 
+ended : (held : Folder) (name : List ℕ) (turns : Option ℕ) (input input' : Option (List ℕ)) (result end : Outcome) → result ≡ end → StandsSo held name turns result input input'
+    → (StandsSo held name turns end input input' → IsMeanEnd held name turns end input input') → IsMeanEnd held name turns result input input'
+ended held name turns input input' result end is so f =
+    subst (λ (o : Outcome). IsMeanEnd held name turns o input input') (sym is) (f (subst (λ (o : Outcome). StandsSo held name turns o input input') is so))
+
 -- how a meaning stands is neither a refusal nor a fault
-end_so : (held : Folder) (name : List ℕ) (turns : Option ℕ) (input input' : Option (List ℕ)) (standing : Standing) → StandsSo held name turns (outcome_of standing) input input'
-    → IsMeanEnd held name turns (outcome_of standing) input input'
-end_so held name turns input input' (Ended code) so = so
-end_so held name turns input input' Going so = so
-end_so held name turns input input' (Undefined act) so = so
-end_so held name turns input input' Stopped so = so
+end_so : (held : Folder) (name : List ℕ) (turns : Option ℕ) (input input' : Option (List ℕ)) (standing : Standing) (result : Outcome) → Stands standing result → StandsSo held name turns result input input'
+    → IsMeanEnd held name turns result input input'
+end_so held name turns input input' (Ended code) result is so = ended held name turns input input' result (outcome.Program code) is so (λ s. s)
+end_so held name turns input input' Going result is so = ended held name turns input input' result outcome.TurnLimit is so (λ s. s)
+end_so held name turns input input' (Undefined act) result is so = ended held name turns input input' result (outcome.Undefined act) is so (λ s. s)
+end_so held name turns input input' Stopped result is so = absurd is
 
 none_complete : (folder : Option Folder) (result : Outcome) (name : List ℕ) (turns : Option ℕ) (old mid : World) (errors : Option (List ℕ)) (faults : ℕ) → IfSome folder (λ held. FoundNone held name result) → IsDeclining result
     → (result ≡ outcome.FilesFault → HasRisen old.files_faults mid.files_faults)
@@ -173,7 +176,7 @@ unread_complete held outcome.NoMemory name turns program old mid errors faults i
 unread_complete held other name turns program old mid errors faults is why = absurd why
 
 showed_complete : (folder : Option Folder) (result : Outcome) (name : List ℕ) (turns : Option ℕ) (program : Program) (old mid : World) (errors : Option (List ℕ)) (faults : ℕ) → IfSome folder (λ held. IsProgramIn held name program)
-    → IfSome folder (λ held. AreFormed program)
+    → AreFormed program
     → Shows program (turns_of turns) result old.streams.input mid.streams.input old.streams.input_faults mid.streams.input_faults (sinks_of old.streams) (sinks_of mid.streams) → mid.streams.errors_faults ≤ faults
     → IfSome folder (λ held. IsMeanEnd held name turns result old.streams.input mid.streams.input ⊎ IsFaultOrNoMemory result old (told mid errors faults))
 showed_complete None result name turns program old mid errors faults is formed shows rises = tt
@@ -188,16 +191,16 @@ showed_complete (Some held) result name turns program old mid errors faults is f
 
     by : Writes (mean program means.bytes (turns_of turns)) result (sinks_of old.streams) (sinks_of mid.streams) → IsMeanEnd held name turns result input mid.streams.input ⊎ IsFaultOrNoMemory result old new
     by (inl all) =
-        let so : StandsSo held name turns (outcome_of (mean program means.bytes (turns_of turns)).end) input mid.streams.input =
+        let so : StandsSo held name turns result input mid.streams.input =
         record {
           program = program;
           is = is;
           formed = formed;
           bytes = means.bytes;
           whole = means.whole;
-          stands = λ one here. ap (λ (seen : Seen). outcome_of seen.end) (means_alike program one (one_folder held name program one is here) means.bytes (turns_of turns));
+          stands = λ one here. subst (λ (seen : Seen). Stands seen.end result) (means_alike program one (one_folder held name program one is here) means.bytes (turns_of turns)) all.stands;
         } in
-        inl (subst (λ (o : Outcome). IsMeanEnd held name turns o input mid.streams.input) (sym all.stands) (end_so held name turns input mid.streams.input (mean program means.bytes (turns_of turns)).end so))
+        inl (end_so held name turns input mid.streams.input (mean program means.bytes (turns_of turns)).end result all.stands so)
     by (inr (inl out)) = inr (subst (λ (o : Outcome). IsFaultOrNoMemory o old new) (sym out.is) out.rose)
     by (inr (inr err)) = inr (subst (λ (o : Outcome). IsFaultOrNoMemory o old new) (sym err.is) (still_risen old.streams.errors_faults mid.streams.errors_faults faults err.rose rises))
 
@@ -251,13 +254,12 @@ end_unchanged : (result : Outcome) (words : List (List ℕ)) (old new : World) �
 end_unchanged (outcome.Program code) words old new is = tt
 end_unchanged (outcome.Undefined act) words old new is = tt
 end_unchanged outcome.TurnLimit words old new is = tt
-end_unchanged outcome.Stuck words old new is = tt
 end_unchanged other words old new is = absurd is
 
 wrote_unchanged : (program : Program) (bytes : List ℕ) (turns : ℕ) (result : Outcome) (words : List (List ℕ)) (old mid : World) (errors : Option (List ℕ)) (faults : ℕ)
     → Writes (mean program bytes turns) result (sinks_of old.streams) (sinks_of mid.streams) → Unchanged words old (told mid errors faults) result
 wrote_unchanged program bytes turns result words old mid errors faults (inl all) =
-    end_unchanged result words old (told mid errors faults) (subst IsEnd (sym all.stands) (is_end (mean program bytes turns).end))
+    end_unchanged result words old (told mid errors faults) (is_end (mean program bytes turns).end result all.stands)
 wrote_unchanged program bytes turns result words old mid errors faults (inr (inl out)) = subst (λ (o : Outcome). Unchanged words old (told mid errors faults) o) (sym out.is) tt
 wrote_unchanged program bytes turns result words old mid errors faults (inr (inr err)) = subst (λ (o : Outcome). Unchanged words old (told mid errors faults) o) (sym err.is) tt
 
@@ -300,7 +302,7 @@ no_program_line (Some held) inner result name turns old mid errors faults line u
 }
 
 showed_line : (folder : Option Folder) (inner result : Outcome) (name : List ℕ) (turns : Option ℕ) (program : Program) (old mid : World) (errors : Option (List ℕ)) (faults : ℕ) → AfterLine result inner mid.streams.errors errors
-    → IfSome folder (λ held. IsProgramIn held name program) → IfSome folder (λ held. AreFormed program)
+    → IfSome folder (λ held. IsProgramIn held name program) → AreFormed program
     → Shows program (turns_of turns) inner old.streams.input mid.streams.input old.streams.input_faults mid.streams.input_faults (sinks_of old.streams) (sinks_of mid.streams)
     → IfSome folder (λ held. MeansFiles held result name turns old (told mid errors faults))
 showed_line None inner result name turns program old mid errors faults line is formed shows = tt

@@ -28,7 +28,7 @@ use Rattle.overlay_runner.specs.declared.runner.Runner.{Runner}
 use Rattle.overlay_runner.specs.Event.{Rises}
 use Rattle.overlay_runner.specs.Runner.{with_retry, RunsOn}
 use Rattle.outcomes.specs.declared.outcome.Outcome.TheVariants as outcome
-use Rattle.mean_program.specs.Shown.{WritesAll, outcome_of}
+use Rattle.mean_program.specs.Shown.{WritesAll, Stands}
 use Rattle.command_line.specs.declared.command.RunOptions.{RunOptions}
 use Rattle.commands.specs.declared.names.FileKind.TheVariants.{Executable, Overlays}
 use Rattle.commands.specs.Files.{file_of}
@@ -137,7 +137,7 @@ wrote_all program bytes does limit last old mid errors faults code run line inpu
     record {
       output = all.1 ∙ ap (λ (x : Seen). append_known old.streams.output x.out) (sym meant);
       errors = line ∙ append_known-nil mid.streams.errors ∙ all.2 ∙ ap (λ (x : Seen). append_known old.streams.errors x.err) (sym meant);
-      stands = ap (λ (c : ℕ). outcome.Program c) all.0 ∙ ap (λ (x : Seen). outcome_of x.end) (sym meant);
+      stands = subst (λ (x : Seen). Stands x.end (outcome.Program code)) (sym meant) (ap (λ (c : ℕ). outcome.Program c) all.0);
     }
 
 -- ---- where the folder is told

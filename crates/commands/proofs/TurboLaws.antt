@@ -129,7 +129,6 @@ refused (outcome.InstructionLimit taken) words old mid did = tt
 refused (outcome.Stopped cs ip why) words old mid did = tt
 refused outcome.TurnLimit words old mid did = tt
 refused (outcome.Undefined act) words old mid did = tt
-refused outcome.Stuck words old mid did = tt
 
 pub fronts : (result : Outcome) (words : List (List ℕ)) (old mid : World) (errors : Option (List ℕ)) (faults : ℕ) → Performs result words old mid → Fronts words old (told mid errors faults)
 fronts result words old mid errors faults (inl misused) = λ name options asked. absurd (misused.none.go name options asked)
@@ -155,7 +154,6 @@ ends_with_line (outcome.Stopped cs ip why) words old mid errors faults did line 
 ends_with_line (outcome.Refused r) words old mid errors faults did line = (mid.streams.errors, line, took_errors (outcome.Refused r) words old mid did)
 ends_with_line outcome.TurnLimit words old mid errors faults did line = (mid.streams.errors, line, took_errors outcome.TurnLimit words old mid did)
 ends_with_line (outcome.Undefined act) words old mid errors faults did line = (mid.streams.errors, line, took_errors (outcome.Undefined act) words old mid did)
-ends_with_line outcome.Stuck words old mid errors faults did line = (mid.streams.errors, line, took_errors outcome.Stuck words old mid did)
 ends_with_line outcome.InputFault words old mid errors faults did line = (mid.streams.errors, line, took_errors outcome.InputFault words old mid did)
 ends_with_line outcome.OutputFault words old mid errors faults did line = (mid.streams.errors, line, took_errors outcome.OutputFault words old mid did)
 ends_with_line outcome.ErrorsFault words old mid errors faults did line = tt

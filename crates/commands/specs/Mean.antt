@@ -31,7 +31,7 @@ pub record GaveNoProgram (result : Outcome) (name : List ℕ) (old new : World) 
 pub record ShowedMeaning (result : Outcome) (name : List ℕ) (turns : Option ℕ) (old new : World) : Type 0 where
   pub program : Program
   pub is : IfSome old.folder (λ held. IsProgramIn held name program)
-  pub formed : IfSome old.folder (λ held. AreFormed program)
+  pub formed : AreFormed program
   pub shows : Shows program (turns_of turns) result old.streams.input new.streams.input old.streams.input_faults new.streams.input_faults (sinks_of old.streams) (sinks_of new.streams)
   pub folder : new.folder ≡ old.folder
 

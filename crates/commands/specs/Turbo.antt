@@ -11,7 +11,7 @@ use Rattle.whole_input.specs.Input.{IsWhole, HasMore}
 use Rattle.front_end.specs.Typed.{IsProgramIn}
 use Rattle.one_program.specs.Folder.{FoundNone}
 use Rattle.formed_sources.specs.Formed.{AreFormed}
-use Rattle.mean_program.specs.Shown.{WritesAll, Shows, outcome_of as meant_as}
+use Rattle.mean_program.specs.Shown.{WritesAll, Shows, Stands}
 use Rattle.literal_programs.specs.Literals.{IsLiteral}
 use Rattle.literal_programs.specs.Agrees.{Agrees}
 use Rattle.dos_runner.specs.declared.runner.RunEnd.{RunEnd}
@@ -145,7 +145,7 @@ pub record StandsSo (held : Folder) (name : List ℕ) (turns : Option ℕ) (resu
   pub formed : AreFormed program
   pub bytes : List ℕ
   pub whole : IsWhole input input' bytes
-  pub stands : (one : Program) → IsProgramIn held name one → result ≡ meant_as (mean one bytes (turns_of turns)).end
+  pub stands : (one : Program) → IsProgramIn held name one → Stands (mean one bytes (turns_of turns)).end result
 
 -- How `mean` ends: as the program means that the files hold; or refused, since they hold none or the input is too long.
 abbrev pub IsMeanEnd : Folder → List ℕ → Option ℕ → Outcome → Option (List ℕ) → Option (List ℕ) → Type 0

@@ -7,6 +7,7 @@ ghost use Rattle.commands.specs.World.{world};
 use formed_sources::formed_sources;
 use mean_program::show_meaning;
 use outcomes::Outcome;
+use sound_programs::sound_program_laws;
 use std::alloc::Global;
 use tp_outside::{Files, Sink, Source};
 use type_layout::Name;
@@ -37,6 +38,7 @@ pub fn mean<F: Files, S: Source, K: Sink, E: Sink>(
     match formed_sources(alloc, name, files) {
         Ok(found) => {
             let turns = turns.unwrap_or(TURNS);
+            sound_program_laws();
             show_meaning(alloc, &found.program, turns, input, output, errors)
         }
         Err(outcome) => outcome,

@@ -11,11 +11,9 @@ use Rattle.written_sources.specs.Laws.{SourcesLaw}
 use Rattle.well_typed_programs.specs.Below.{IsSource, IsRoomy, IsHeld, HaveDeclaredMethods, MethodsLaw, WholeLaw}
 use Rattle.well_typed_programs.specs.Laws.{WellTypedLaw}
 use Rattle.front_end.specs.Untyped.{IsNoProgram}
-use Rattle.front_end.specs.declared.program.TypedSources.{TypedSources}
-use Rattle.front_end.specs.Found.{IsFoundIn}
 use Rattle.formed_sources.specs.Known.{IsKept}
 use Rattle.formed_sources.specs.Numbers.{HasRoom, IsRoomyThen}
-use Rattle.formed_sources.specs.Formed.{AreFormed, FormedLaw}
+use Rattle.formed_sources.specs.Formed.{FormedLaw}
 
 -- units whose types have methods as they were declared
 roomy_units : (units : List Unit) → All IsRoomyThen units → All (λ (unit : Unit). HaveDeclaredMethods unit.types.types) units → All IsRoomy units
@@ -36,11 +34,6 @@ formed sources methods whole typed held name found is texts kept numbered roomy 
       units = (whole held name found.texts.items found.sources.items is.gathers program is.is written room).0;
       typed = typed held name found.texts.items found.sources.items is.gathers program is.is written room (held_units program.units kept numbered.units) (λ k d h. (kept k d h).table);
     }
-
-pub formed_there : (known : Option Folder) (name : List ℕ) (found : TypedSources) → ((held : Folder) (name : List ℕ) → IsFoundIn held name found → AreFormed found.program)
-    → IfSome known (λ held. IsFoundIn held name found) → IfSome known (λ held. AreFormed found.program)
-formed_there None name found formed is = tt
-formed_there (Some held) name found formed is = formed held name is
 
 -- want of memory may come in the place of any program
 pub none_for_memory : (known : Option Folder) (name : List ℕ) → IfSome known (λ held. IsNoProgram held name outcome.NoMemory)

@@ -47,7 +47,7 @@ pub fn formed_sources<F: Files>(
     files: &mut F,
 ) -> Result<TypedSources, Outcome>
     ensures found { IfSome (F.folder files.old) (λ held. IfOk result (IsFoundIn held name.now)) }
-    ensures formed { IfSome (F.folder files.old) (λ held. IfOk result (λ found. AreFormed found.program)) }
+    ensures formed { IfOk result (λ found. AreFormed found.program) }
     ensures cause { IfSome (F.folder files.old) (λ held. IfErr result (IsNoProgram held name.now)) }
     ensures declines { IfErr result IsDeclining }
     ensures unchanged { F.folder files.new ≡ F.folder files.old }

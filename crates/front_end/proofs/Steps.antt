@@ -1,22 +1,16 @@
 -- What each step answers, over plain variables.
-use Rattle.std.proofs.Common.{◌≡◌, ◌⊎◌, ℕ, ◌+◌, ◌<◌, ◌≤◌, List, Result, Ok, Err, IfOk, IfErr, Some, Contains, length, get_or, sym, ap, ◌∙◌, subst, inl, inr}
+use Rattle.std.proofs.Common.{◌≡◌, ◌⊎◌, ℕ, ◌+◌, ◌<◌, ◌≤◌, List, Result, Ok, Err, IfOk, IfErr, Some, Contains, length, sym, ap, ◌∙◌, subst, inl, inr}
 use Rattle.std.specs.Prelude.{slice_get}
 use Rattle.std.specs.List.{AllZip}
 use Rattle.std.proofs.lemmas.Option.{slice_get_within, get_or_from_slice_get}
 use Rattle.tp_lexer.specs.declared.token.Text.{Text}
 use Rattle.typed_tree.specs.declared.units.Unit.{Unit}
 use Rattle.typed_tree.specs.declared.units.Program.{Program}
-use Rattle.object_vmt.specs.declared.faults.ClassError.{ClassError}
-use Rattle.object_vmt.specs.Dispatch.{IsCause}
 use Rattle.source_tree.specs.Sources.{used}
 use Rattle.source_gathering.specs.declared.sources.Source.{Source}
 use Rattle.scopes.specs.Environment.{Environment}
-use Rattle.typing_rules.specs.declared.faults.CheckError.{CheckError}
-use Rattle.typing_rules.specs.declared.faults.Fault.{Fault}
-use Rattle.typing_rules.specs.Faults.{error_of}
 use Rattle.unit_interface.specs.declared.interfaces.Interface.{Interface}
-use Rattle.unit_interface.specs.declared.order.OrderError.{OrderError}
-use Rattle.unit_interface.specs.Order.{start_order, IsCause as IsOrderCause}
+use Rattle.unit_interface.specs.Order.{start_order}
 use Rattle.source_order.specs.Orders.{all_uses}
 use Rattle.tp_check_decl.specs.Units.{view_unit}
 use Rattle.tp_check_decl.specs.Checked.{IsTypedAs}
@@ -24,13 +18,12 @@ use Rattle.outcomes.specs.declared.outcome.Outcome.{Outcome}
 use Rattle.outcomes.specs.declared.outcome.Outcome.TheVariants as outcome
 use Rattle.outcomes.specs.declared.refusal.Refusal.TheVariants as refusal
 use Rattle.outcomes.specs.declared.refusal.What.TheVariants as what
-use Rattle.refusals.specs.Outcomes.{order_outcome, check_outcome, class_outcome}
 use Rattle.source_interfaces.specs.Scopes.{outer_units, outer_scope, AreThere, AreFitting}
-use Rattle.source_interfaces.specs.Kinds.{AreOfKinds, IsOfWrongKind}
-use Rattle.source_interfaces.specs.Interfaces.{AreInterfaces, IsAcyclic, LacksInterface}
+use Rattle.source_interfaces.specs.Kinds.{AreOfKinds}
+use Rattle.source_interfaces.specs.Interfaces.{AreInterfaces, IsAcyclic}
 use Rattle.source_interfaces.proofs.Steps.{no_memory_known}
 use Rattle.front_end.specs.Typed.{sources_at, IsUnitOf, AreUnits, AreLawful, IsProgram}
-use Rattle.front_end.specs.Untyped.{IsNoUnit, LacksUnit, HasWrongClass, AreUntyped}
+use Rattle.front_end.specs.Untyped.{IsNoUnit, LacksUnit, AreUntyped}
 
 -- ---- the typed unit of a source
 
@@ -51,25 +44,7 @@ lacks_unit texts sources have place source result at why = record { source = sou
 pub lacks_unit_memory : (texts : List Text) (sources : List Source) (have : List Interface) (place : ℕ) (source : Source) (result : Outcome) → slice_get sources place ≡ Some source → result ≡ outcome.NoMemory → LacksUnit texts sources have result
 lacks_unit_memory texts sources have place source result at memory = lacks_unit texts sources have place source result at (inl (inl (no_memory_known texts have source.name (used source.tree) result memory)))
 
-pub wrong_class : (units : List Unit) (place : ℕ) (unit : Unit) (error : ClassError) (result : Outcome) → place < length units → unit ≡ get_or units place unit → IsCause unit.types.types error → result ≡ class_outcome error
-    → HasWrongClass units result
-wrong_class units place unit error result below is cause told = record { unit = unit; one = (place, below, sym is); error = error; cause = cause; is = told }
-
 -- ---- the whole
-
-pub no_order : (texts : List Text) (sources : List Source) (error : OrderError) (result : Outcome) → IsOrderCause (all_uses sources) error → result ≡ order_outcome error → AreUntyped texts sources result
-no_order texts sources error result cause is = inl (record { error = error; cause = cause; is = is })
-
-pub wrong_kind : (texts : List Text) (sources : List Source) (fault : Fault) (error : CheckError) (result : Outcome) → IsAcyclic sources → IsOfWrongKind sources fault → error ≡ error_of fault → result ≡ check_outcome texts error
-    → AreUntyped texts sources result
-wrong_kind texts sources fault error result acyclic wrong told is = inr (inl (record { acyclic = acyclic; fault = fault; wrong = wrong; is = is ∙ ap (check_outcome texts) told }))
-
-pub no_interfaces : (texts : List Text) (sources : List Source) (result : Outcome) → IsAcyclic sources → AreOfKinds sources → LacksInterface texts sources result → AreUntyped texts sources result
-no_interfaces texts sources result acyclic kinds lacks = inr (inr (inl (record { acyclic = acyclic; kinds = kinds; lacks = lacks })))
-
-pub no_units : (texts : List Text) (sources : List Source) (have : List Interface) (result : Outcome) → IsAcyclic sources → AreOfKinds sources → AreInterfaces sources have → LacksUnit texts sources have result
-    → AreUntyped texts sources result
-no_units texts sources have result acyclic kinds interfaces lacks = inr (inr (inr (inl (record { acyclic = acyclic; kinds = kinds; have = have; interfaces = interfaces; lacks = lacks }))))
 
 pub are_units : (sources : List Source) (have : List Interface) (order : List ℕ) (units : List Unit) → IsAcyclic sources → AreOfKinds sources → AreInterfaces sources have → order ≡ start_order (all_uses sources) 0
     → AllZip (IsUnitOf have) (sources_at sources order) units → AreUnits sources units
@@ -80,11 +55,6 @@ are_units sources have order units acyclic kinds interfaces is typed = record {
   interfaces = interfaces;
   typed = subst (λ (places : List ℕ). AllZip (IsUnitOf have) (sources_at sources places) units) is typed;
 }
-
-pub wrong_classes : (texts : List Text) (sources : List Source) (have : List Interface) (order : List ℕ) (units : List Unit) (result : Outcome) → IsAcyclic sources → AreOfKinds sources → AreInterfaces sources have
-    → order ≡ start_order (all_uses sources) 0 → AllZip (IsUnitOf have) (sources_at sources order) units → HasWrongClass units result → AreUntyped texts sources result
-wrong_classes texts sources have order units result acyclic kinds interfaces is typed wrong =
-    inr (inr (inr (inr (inl (record { units = units; are = are_units sources have order units acyclic kinds interfaces is typed; wrong = wrong })))))
 
 pub program_by : (sources : List Source) (have : List Interface) (order : List ℕ) (units : List Unit) (result : Result Program Outcome) → IsAcyclic sources → AreOfKinds sources → AreInterfaces sources have
     → order ≡ start_order (all_uses sources) 0 → AllZip (IsUnitOf have) (sources_at sources order) units → AreLawful units
@@ -104,6 +74,3 @@ untyped_by texts sources have order units (Ok program) acyclic kinds interfaces 
 untyped_by texts sources have order units (Err error) acyclic kinds interfaces is typed lawful (inl many) =
     inr (inr (inr (inr (inr (inl (record { units = units; are = are_units sources have order units acyclic kinds interfaces is typed; lawful = lawful; many = many.0; is = many.1 }))))))
 untyped_by texts sources have order units (Err error) acyclic kinds interfaces is typed lawful (inr memory) = inr (inr (inr (inr (inr (inr memory)))))
-
-pub untyped_memory : (texts : List Text) (sources : List Source) (result : Outcome) → result ≡ outcome.NoMemory → AreUntyped texts sources result
-untyped_memory texts sources result memory = inr (inr (inr (inr (inr (inr memory)))))

@@ -6,9 +6,8 @@ use Rattle.object_vmt.specs.declared.faults.ClassError.{ClassError}
 use Rattle.object_vmt.specs.declared.faults.ClassError.TheVariants as class
 use Rattle.syntax_tree.specs.declared.identifier.Identifier.{Identifier}
 use Rattle.source_gathering.specs.declared.error.GatherError.{GatherError}
-use Rattle.source_gathering.specs.declared.error.GatherError.TheVariants as gather
 use Rattle.source_gathering.specs.declared.sources.Source.{Source}
-use Rattle.source_gathering.specs.Walk.{Gathers, IsRefused, Unless}
+use Rattle.source_gathering.specs.Walk.{IsRefused, Unless}
 use Rattle.typing_rules.specs.declared.faults.CheckError.{CheckError}
 use Rattle.typing_rules.specs.declared.faults.CheckError.TheVariants as check
 use Rattle.typing_rules.specs.Faults.{error_of}
@@ -22,9 +21,6 @@ use Rattle.outcomes.specs.declared.refusal.Refusal.TheVariants as refusal
 use Rattle.refusals.specs.Outcomes.{gather_outcome, order_outcome, check_outcome, class_outcome}
 use Rattle.source_tree.specs.Sources.{used}
 use Rattle.source_interfaces.specs.Scopes.{outer_units, IsUnresolved, KnowsNothing}
-use Rattle.front_end.specs.declared.program.TypedSources.{TypedSources}
-use Rattle.front_end.specs.Found.{IsFoundIn}
-use Rattle.front_end.specs.Typed.{IsProgram, IsProgramIn}
 use Rattle.front_end.specs.Untyped.{AreUntyped, IsNoProgram, IsRefusing, IsDeclining}
 
 order_refuses : (error : OrderError) → IsRefusing (order_outcome error)
@@ -84,42 +80,8 @@ refuses_declines other is = absurd is
 pub untyped_declines : (texts : List Text) (sources : List Source) (result : Outcome) → AreUntyped texts sources result → IsDeclining result
 untyped_declines texts sources result why = refuses_declines result (untyped_refuses texts sources result why)
 
-pub gather_declines : (error : GatherError) → IsDeclining (gather_outcome error)
-gather_declines (gather.MissingFile name) = tt
-gather_declines (gather.TooLarge bytes) = tt
-gather_declines (gather.BadToken at cause) = tt
-gather_declines (gather.Syntax at) = tt
-gather_declines (gather.NotInProfile at feature) = tt
-gather_declines (gather.TooDeep at) = tt
-gather_declines gather.FilesFault = tt
-gather_declines gather.NoMemory = tt
-
 pub untyped_not : {A : Type 0} (texts : List Text) (sources : List Source) (result : Outcome) → AreUntyped texts sources result → result ≡ outcome.FilesFault → A
 untyped_not texts sources result why is = absurd (subst IsRefusing is (untyped_refuses texts sources result why))
-
-pub fault_of_files : (error : GatherError) → gather_outcome error ≡ outcome.FilesFault → error ≡ gather.FilesFault
-fault_of_files (gather.MissingFile name) is = absurd cc
-fault_of_files (gather.TooLarge bytes) is = absurd cc
-fault_of_files (gather.BadToken at cause) is = absurd cc
-fault_of_files (gather.Syntax at) is = absurd cc
-fault_of_files (gather.NotInProfile at feature) is = absurd cc
-fault_of_files (gather.TooDeep at) is = absurd cc
-fault_of_files gather.FilesFault is = cc
-fault_of_files gather.NoMemory is = absurd cc
-
-pub found_in : (known : Option Folder) (name : List ℕ) (found : TypedSources) → IfSome known (λ held. Gathers held name found.texts.items found.sources.items) → IsProgram found.sources.items found.program
-    → IfSome known (λ held. IsFoundIn held name found)
-found_in None name found gathers is = tt
-found_in (Some held) name found gathers is = record { gathers = gathers; is = is }
-
-pub none_in : (known : Option Folder) (name : List ℕ) (texts : List Text) (sources : List Source) (result : Outcome) → IfSome known (λ held. Gathers held name texts sources) → AreUntyped texts sources result
-    → IfSome known (λ held. IsNoProgram held name result)
-none_in None name texts sources result gathers why = tt
-none_in (Some held) name texts sources result gathers why = inr (record { texts = texts; sources = sources; gathers = gathers; why = why })
-
-pub program_of_found : (known : Option Folder) (name : List ℕ) (found : TypedSources) → IfSome known (λ held. IsFoundIn held name found) → IfSome known (λ held. IsProgramIn held name found.program)
-program_of_found None name found is = tt
-program_of_found (Some held) name found is = record { texts = found.texts.items; sources = found.sources.items; gathers = is.gathers; is = is.is }
 
 pub ungathered : (known : Option Folder) (name : List ℕ) (error : GatherError) (result : Outcome) → IfSome known (λ held. Unless error (IsRefused held name error)) → result ≡ gather_outcome error
     → IfSome known (λ held. IsNoProgram held name result)

@@ -2,6 +2,7 @@
 
 ghost use Rattle.std.specs.Prelude.{◌≡◌, ◌≤◌, ◌<◌, ◌+◌, ◌⊎◌, IfOk, IfErr, IfSome, Err, length};
 ghost use Rattle.tp_outside.specs.Faults.{HasRisen};
+ghost use Rattle.tp_outside.specs.Folder.{Folder};
 ghost use Rattle.outcomes.specs.declared.outcome.Outcome.{Outcome};
 ghost use Rattle.outcomes.specs.declared.refusal.Refusal.{Refusal};
 ghost use Rattle.outcomes.specs.declared.refusal.What.{What};
@@ -86,6 +87,8 @@ pub fn typed_sources<F: Files>(
     files: &mut F,
 ) -> Result<TypedSources, Outcome>
     ensures found { IfSome (F.folder files.old) (λ held. IfOk result (IsFoundIn held name.now)) }
+    // Also where the files don't tell what they hold, it is by what some folder holds.
+    ensures some { IfOk result (λ found. (held : Folder) × IsFoundIn held name.now found) }
     ensures cause { IfSome (F.folder files.old) (λ held. IfErr result (IsNoProgram held name.now)) }
     ensures declines { IfErr result IsDeclining }
     ensures unchanged { F.folder files.new ≡ F.folder files.old }
@@ -115,6 +118,7 @@ pub fn typed_program<F: Files>(
     files: &mut F,
 ) -> Result<Program, Outcome>
     ensures program { IfSome (F.folder files.old) (λ held. IfOk result (IsProgramIn held name.now)) }
+    ensures some { IfOk result (λ program. (held : Folder) × IsProgramIn held name.now program) }
     ensures cause { IfSome (F.folder files.old) (λ held. IfErr result (IsNoProgram held name.now)) }
     ensures declines { IfErr result IsDeclining }
     ensures unchanged { F.folder files.new ≡ F.folder files.old }

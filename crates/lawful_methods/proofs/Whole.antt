@@ -31,11 +31,11 @@ use Rattle.tp_outside.specs.Folder.{Folder}
 use Rattle.tp_lexer.specs.declared.token.Text.{Text}
 use Rattle.source_gathering.specs.Walk.{Gathers}
 use Rattle.agreed_programs.specs.Below.{outer_scope, IsProgram}
-use Rattle.agreed_programs.specs.Laws.{AgreedLaw, ListedLaw, DeclarersLaw, ClassesLaw}
+use Rattle.agreed_programs.specs.Laws.{AgreedLaw, DeclarersLaw}
 use Rattle.agreed_programs.proofs.Keys.{class_of, declared_at}
 use Rattle.agreed_programs.proofs.Whole.{listed}
 use Rattle.agreed_programs.proofs.Sources.{source_of}
-use Rattle.lawful_methods.specs.Laws.{IsOwnMethod, HasOwnMethods, OwnMethodsLaw, LawfulLaw, MethodsLaw, WellTypedLaw}
+use Rattle.lawful_methods.specs.Laws.{IsOwnMethod, HasOwnMethods, OwnMethodsLaw, LawfulLaw, MethodsLaw}
 use Rattle.lawful_methods.proofs.Answers.{answers_alike}
 use Rattle.lawful_methods.proofs.Numbered.{in_class}
 use Rattle.lawful_methods.proofs.Tables.{owner_key}
@@ -158,12 +158,3 @@ module _ (agreed : AgreedLaw) (declarers : DeclarersLaw) where
     pub all_have_methods : MethodsLaw
     all_have_methods held name texts sources gathers program is kept =
         law program (agreed held name texts sources gathers program is kept) (all_lawful held name texts sources gathers program is kept)
-
-    pub all_typed : ListedLaw → ClassesLaw → WellTypedLaw
-    all_typed listed classes held name texts sources gathers program is kept units = record {
-      listed = listed held name texts sources gathers program is;
-      units = units;
-      agreed = agreed held name texts sources gathers program is kept;
-      classes = classes held name texts sources gathers program is kept;
-      methods = all_have_methods held name texts sources gathers program is kept;
-    }

@@ -13,7 +13,7 @@ use Rattle.type_fits.specs.Fits.{definition}
 use Rattle.object_vmt.specs.Dispatch.{IsLawful, AnswersAlike}
 use Rattle.method_rules.specs.Slots.{methods_of}
 use Rattle.declared_types.specs.Agreement.{IsUnit}
-use Rattle.typed_programs.specs.WellTyped.{HasMethods, IsSoundUnit, IsWellTyped}
+use Rattle.typed_programs.specs.WellTyped.{HasMethods}
 use Rattle.declared_methods.specs.Laws.{HasLawfulMethods}
 use Rattle.agreed_programs.specs.Laws.{IsKeptTable}
 use Rattle.agreed_programs.specs.Below.{IsProgram}
@@ -48,9 +48,3 @@ LawfulLaw = (held : Folder) (name : List ℕ) (texts : List Text) (sources : Lis
 abbrev pub MethodsLaw : Type 0
 MethodsLaw = (held : Folder) (name : List ℕ) (texts : List Text) (sources : List Source) → Gathers held name texts sources
     → (program : Program) → IsProgram sources program → All (λ (unit : TypedUnit). IsKeptTable unit.types) program.units → HasMethods program
-
--- So the whole is well-typed where each unit is sound in itself, as far as what it refers to.
-abbrev pub WellTypedLaw : Type 0
-WellTypedLaw = (held : Folder) (name : List ℕ) (texts : List Text) (sources : List Source) → Gathers held name texts sources
-    → (program : Program) → IsProgram sources program → All (λ (unit : TypedUnit). IsKeptTable unit.types) program.units
-    → ((unit : TypedUnit) → IsUnit program unit → IsSoundUnit program unit) → IsWellTyped program

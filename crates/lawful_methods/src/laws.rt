@@ -1,19 +1,17 @@
 //! The laws on methods of programs.
 
-ghost use Rattle.lawful_methods.specs.Laws.{AnswersLaw, OwnMethodsLaw, LawfulLaw, MethodsLaw, WellTypedLaw};
+ghost use Rattle.lawful_methods.specs.Laws.{AnswersLaw, OwnMethodsLaw, LawfulLaw, MethodsLaw};
 
 use agreed_programs::agreed_program_laws;
 use declared_methods::declared_method_laws;
 
 /// In a program that sources give, overriding keeps to the rule, each method has its routine in the unit that declares it, and so a class
-/// answers each slot by a method with the header that every type of the line gives it. With units that are sound in themselves it is
-/// well-typed. It does nothing.
+/// answers each slot by a method with the header that every type of the line gives it. It does nothing.
 pub fn lawful_method_laws()
     ensures answers { AnswersLaw }
     ensures own { OwnMethodsLaw }
     ensures lawful { LawfulLaw }
     ensures methods { MethodsLaw }
-    ensures typed { WellTypedLaw }
 {
     agreed_program_laws();
     declared_method_laws();

@@ -1,5 +1,5 @@
 -- What is shown of a program's meaning.
-use Rattle.std.specs.Prelude.{◌≡◌, ◌⊎◌, ℕ, List, Option}
+use Rattle.std.specs.Prelude.{◌≡◌, ◌⊎◌, ℕ, ◌<◌, List, All, Option}
 use Rattle.std.specs.Io.KnownBytes.{append_known}
 use Rattle.tp_outside.specs.Faults.{HasRisen}
 use Rattle.tp_outside.specs.Streams.{TakesPrefix}
@@ -12,12 +12,16 @@ use Rattle.outcomes.specs.declared.outcome.Outcome.TheVariants as outcome
 use Rattle.outcomes.specs.declared.refusal.Refusal.TheVariants as refusal
 use Rattle.outcomes.specs.declared.refusal.What.TheVariants as what
 
--- the outcome by how the meaning stands
-abbrev pub outcome_of : Standing → Outcome
-outcome_of (Ended code) = outcome.Program code
-outcome_of Going = outcome.TurnLimit
-outcome_of (Undefined act) = outcome.Undefined act
-outcome_of Stopped = outcome.Stuck
+-- on no input of bytes does the program come to a step that is none of the language
+abbrev pub IsNeverStopped : Program → Type 0
+IsNeverStopped program = (input : List ℕ) → All (λ byte. byte < 256) input → (turns : ℕ) → (mean program input turns).end ≡ Stopped → ⊥
+
+-- The outcome is how the meaning stands: it has ended, goes on, or has come to an act that the language leaves open.
+abbrev pub Stands : Standing → Outcome → Type 0
+Stands (Ended code) result = result ≡ outcome.Program code
+Stands Going result = result ≡ outcome.TurnLimit
+Stands (Undefined act) result = result ≡ outcome.Undefined act
+Stands Stopped result = ⊥
 
 -- what the two sinks took, where they tell it, and their counts of faults
 pub record Sinks : Type 0 where
@@ -33,7 +37,7 @@ streams output errors output_faults errors_faults = record { output = output; er
 pub record WritesAll (seen : Seen) (result : Outcome) (old new : Sinks) : Type 0 where
   pub output : new.output ≡ append_known old.output seen.out
   pub errors : new.errors ≡ append_known old.errors seen.err
-  pub stands : result ≡ outcome_of seen.end
+  pub stands : Stands seen.end result
 
 -- The output took the first of it and failed, and the errors took nothing.
 pub record StopsAtOutput (seen : Seen) (result : Outcome) (old new : Sinks) : Type 0 where

@@ -1,12 +1,12 @@
 //! What a program means on an input, written to the output and the errors.
 
-ghost use Rattle.std.specs.Prelude.{◌≡◌, ◌≤◌, IfOk, IfErr, OnErr};
+ghost use Rattle.std.specs.Prelude.{◌≡◌, ◌≢◌, ◌<◌, ◌≤◌, All, IfOk, IfErr, OnErr};
 ghost use Rattle.tp_outside.specs.Faults.{HasRisen};
 ghost use Rattle.tp_outside.specs.Streams.{GaveSome};
-ghost use Rattle.behaviour.specs.Seen.{Seen};
+ghost use Rattle.behaviour.specs.Seen.{Seen, Stopped};
 ghost use Rattle.interpreter.specs.Whole.{view_end, view_meaning};
 ghost use Rattle.whole_input.specs.Input.{IsWhole};
-ghost use Rattle.mean_program.specs.Shown.{streams, outcome_of, IsUnread, Writes, Shows};
+ghost use Rattle.mean_program.specs.Shown.{streams, IsNeverStopped, Stands, IsUnread, Writes, Shows};
 
 use interpreter::{MeanEnd, Meaning, mean};
 use outcomes::{Outcome, Refusal, What};
@@ -31,20 +31,27 @@ fn read_input<S: Source>(alloc: Global, input: &mut S) -> Result<Vec<u8>, Outcom
     }
 }
 
-/// The outcome by how the meaning stands.
+// An input is of bytes, as its type says. It does nothing.
+fn of_bytes(input: &[u8])
+    ensures { All (λ byte. byte < 256) input.now }
+{}
+
+/// The outcome by how the meaning stands, which is not stopped.
 fn outcome_of(end: MeanEnd) -> Outcome
-    ensures { result ≡ outcome_of (view_end end) }
+    requires { view_end end ≢ Stopped }
+    ensures { Stands (view_end end) result }
 {
     match end {
         MeanEnd::Ended(code) => Outcome::Program { code },
         MeanEnd::Going => Outcome::TurnLimit,
         MeanEnd::Undefined(act) => Outcome::Undefined { act },
-        MeanEnd::Stopped => Outcome::Stuck,
+        MeanEnd::Stopped => unreachable!(),
     }
 }
 
 /// Writes what the meaning writes, to the output first.
 fn write_meaning<K: Sink, E: Sink>(meaning: &Meaning, output: &mut K, errors: &mut E) -> Outcome
+    requires { (view_meaning meaning.now).end ≢ Stopped }
     ensures written { Writes (view_meaning meaning.now) result
         (streams (K.contents output.old) (E.contents errors.old) (K.faults output.old) (E.faults errors.old))
         (streams (K.contents output.new) (E.contents errors.new) (K.faults output.new) (E.faults errors.new)) }
@@ -61,7 +68,8 @@ fn write_meaning<K: Sink, E: Sink>(meaning: &Meaning, output: &mut K, errors: &m
 }
 
 /// Reads the whole input, and writes what the program writes on it within so many turns, as its meaning has it. The outcome is how
-/// that stands, or why the input was not read, or a fault of a sink.
+/// that stands, or why the input was not read, or a fault of a sink. The program is one that is never stopped at a step that is none of
+/// the language.
 pub fn show_meaning<S: Source, K: Sink, E: Sink>(
     alloc: Global,
     program: &Program,
@@ -70,6 +78,7 @@ pub fn show_meaning<S: Source, K: Sink, E: Sink>(
     output: &mut K,
     errors: &mut E,
 ) -> Outcome
+    requires sound { IsNeverStopped program.now }
     ensures shown { Shows program.now turns result
         (S.remaining input.old) (S.remaining input.new) (S.faults input.old) (S.faults input.new)
         (streams (K.contents output.old) (E.contents errors.old) (K.faults output.old) (E.faults errors.old))
@@ -82,7 +91,9 @@ pub fn show_meaning<S: Source, K: Sink, E: Sink>(
         Ok(bytes) => bytes,
         Err(outcome) => return outcome,
     };
-    match mean(alloc, program, bytes.as_slice(), turns) {
+    let given = bytes.as_slice();
+    of_bytes(given);
+    match mean(alloc, program, given, turns) {
         Ok(meaning) => write_meaning(&meaning, output, errors),
         Err(_) => Outcome::NoMemory,
     }

@@ -278,7 +278,6 @@ fn line_of(outcome: &Outcome) -> Line
             push_decimal(&mut line, *taken);
             push_text(&mut line, b"\n");
         }
-        Outcome::Stuck => push_text(&mut line, b"tp: Stuck\n"),
         Outcome::Stopped { cs, ip, why } => {
             push_text(&mut line, b"tp: Stopped ");
             push_text(&mut line, &hexadecimal(*cs));

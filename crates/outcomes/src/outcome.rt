@@ -20,8 +20,6 @@ pub enum Outcome {
     Undefined { act: u8 },
     /// So many instructions ran, as many as were allowed, and the program still runs.
     InstructionLimit { taken: u64 },
-    /// The meaning came to a step that no typed program asks for.
-    Stuck,
     /// The machine stopped at this instruction.
     Stopped { cs: u16, ip: u16, why: Why },
     /// The command was refused.
@@ -50,7 +48,6 @@ impl Outcome {
             Outcome::TurnLimit => 250,
             Outcome::InstructionLimit { taken: _ } => 251,
             Outcome::Refused(_) => 252,
-            Outcome::Stuck => 253,
             Outcome::Stopped {
                 cs: _,
                 ip: _,

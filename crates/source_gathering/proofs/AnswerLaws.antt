@@ -158,7 +158,7 @@ on_start (Some held) name texts sources wanted no_texts no_sources one =
 at_next : (held : Folder) (name : List ℕ) (texts : List Text) (sources : List Source) (wanted others : List Wanted) (next : Wanted) → IsOn held name texts sources wanted → due (names_of sources) wanted ≡ next ∷ others → Walks held [] [] (start name ∷ []) sources texts (next ∷ others)
 at_next held name texts sources wanted others next on is = subst (λ (left : List Wanted). Walks held [] [] (start name ∷ []) sources texts left) is on
 
-met_by : (held : Folder) (name : List ℕ) (texts after : List Text) (sources more : List Source) (wanted others now : List Wanted) (next : Wanted) → IsOn held name texts sources wanted → due (names_of sources) wanted ≡ next ∷ others → IsMet held texts next sources others after more now → IsOn held name after more now
+pub met_by : (held : Folder) (name : List ℕ) (texts after : List Text) (sources more : List Source) (wanted others now : List Wanted) (next : Wanted) → IsOn held name texts sources wanted → due (names_of sources) wanted ≡ next ∷ others → IsMet held texts next sources others after more now → IsOn held name after more now
 met_by held name texts after sources more wanted others now next on is met =
     let source = met.source in
     let left : List Wanted = due (names_of sources ++ source.name ∷ []) (wanted_by source ++ others) in

@@ -1,4 +1,7 @@
+pub mod AmongLaws
 pub mod AnswerLaws
+pub mod FolderLaws
+pub mod LackLaws
 pub mod LexLaws
 pub mod NameLaws
 pub mod SourceLaws

@@ -4,6 +4,7 @@ ghost use Rattle.std.specs.Prelude.{◌≡◌, ◌≢◌, ◌≤◌, ◌<◌, �
 ghost use Rattle.std.specs.List.{list_any};
 ghost use Rattle.type_layout.specs.Words.{same_bytes};
 ghost use Rattle.tp_outside.specs.Faults.{HasRisen};
+ghost use Rattle.tp_outside.specs.Folder.{Folder};
 ghost use Rattle.tp_lexer.specs.declared.token.Text.{Text};
 ghost use Rattle.source_gathering.specs.declared.error.GatherError.{GatherError};
 ghost use Rattle.source_gathering.specs.declared.sources.Source.{Source};
@@ -65,6 +66,7 @@ fn read<F: Files>(
     ensures told { IfSome (F.folder files.old) (λ held. MatchResult result
         (λ source. IsRead held texts.old wanted.now texts.new source)
         (λ error. Unless error (IsUnreadable held error texts.old wanted.now ⊎ IsMisspelled held error texts.old wanted.now))) }
+    ensures some { IfOk result (λ source. (held : Folder) × IsRead held texts.old wanted.now texts.new source) }
     ensures unchanged { F.folder files.new ≡ F.folder files.old }
     ensures counted { F.faults files.old ≤ F.faults files.new }
     ensures failed { result ≡ Err GatherError.FilesFault → HasRisen (F.faults files.old) (F.faults files.new) }
@@ -136,6 +138,7 @@ fn meet<F: Files>(
     ensures told { IfSome (F.folder files.old) (λ held. MatchResult result
         (λ _. IsMet held texts.old next.now sources.old.items wanted.old.items texts.new sources.new.items wanted.new.items)
         (λ error. Unless error (IsUnreadable held error texts.old next.now ⊎ IsMisspelled held error texts.old next.now))) }
+    ensures some { OnOk result ((held : Folder) × IsMet held texts.old next.now sources.old.items wanted.old.items texts.new sources.new.items wanted.new.items) }
     ensures grows { OnOk result (length sources.new.items ≡ length sources.old.items + 1) }
     ensures few { OnOk result (length sources.new.items < 2 ^ 32) }
     ensures unchanged { F.folder files.new ≡ F.folder files.old }
@@ -156,6 +159,7 @@ fn walk<F: Files>(alloc: Global, name: &Name, files: &mut F) -> Result<Gathered,
     ensures told { IfSome (F.folder files.old) (λ held. MatchResult result
         (λ found. Gathers held name.now found.texts.items found.sources.items)
         (λ error. Unless error (IsRefused held name.now error))) }
+    ensures some { IfOk result (λ found. (held : Folder) × Gathers held name.now found.texts.items found.sources.items) }
     ensures unchanged { F.folder files.new ≡ F.folder files.old }
     ensures counted { F.faults files.old ≤ F.faults files.new }
     ensures failed { result ≡ Err GatherError.FilesFault → HasRisen (F.faults files.old) (F.faults files.new) }
@@ -180,6 +184,9 @@ pub fn gather<F: Files>(alloc: Global, name: &Name, files: &mut F) -> Result<Gat
         IfOk result (λ found. Gathers held name.now found.texts.items found.sources.items)) }
     ensures refused { IfSome (F.folder files.old) (λ held.
         IfErr result (λ error. Unless error (IsRefused held name.now error))) }
+
+    // Also where the files don't tell what they hold, what was read for the program is what some folder holds.
+    ensures some { IfOk result (λ found. (held : Folder) × Gathers held name.now found.texts.items found.sources.items) }
 
     // Where the sources are in order they are what is answered, and where one is not, that is told: but for a fault of the files or
     // want of memory.

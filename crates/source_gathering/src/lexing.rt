@@ -3,6 +3,7 @@
 ghost use Rattle.std.specs.Prelude.{◌≡◌, ◌≢◌, ◌≤◌, ◌<◌, ◌+◌, IfOk, OnOk, IfErr, IfSome, MatchResult, Err, Ok, length, map};
 ghost use Rattle.type_layout.specs.Words.{IsName};
 ghost use Rattle.tp_outside.specs.Faults.{HasRisen};
+ghost use Rattle.tp_outside.specs.Folder.{Folder};
 ghost use Rattle.source_gathering.specs.declared.error.GatherError.{GatherError};
 ghost use Rattle.source_gathering.specs.Texts.{defined};
 ghost use Rattle.source_gathering.specs.Files.{absent, opened, refusal_of, with_included, IsMended, IsCause, ComesTo, FailsBy};
@@ -61,6 +62,7 @@ pub fn open<F: Files>(
     ensures told { IfSome (F.folder files.old) (λ held. MatchResult result
         (λ main. opened held texts.old wanted.now ≡ Ok (texts.new, main))
         (λ error. Unless error (opened held texts.old wanted.now ≡ Err error))) }
+    ensures some { IfOk result (λ main. (held : Folder) × (opened held texts.old wanted.now ≡ Ok (texts.new, main))) }
     ensures within { IfOk result (λ main. main < length texts.new) }
     ensures unchanged { F.folder files.new ≡ F.folder files.old }
     ensures counted { F.faults files.old ≤ F.faults files.new }
@@ -113,6 +115,7 @@ fn include<F: Files>(
     ensures told { IfSome (F.folder files.old) (λ held. MatchResult result
         (λ _. with_included held texts.old name.now ≡ Ok texts.new)
         (λ error. Unless error (with_included held texts.old name.now ≡ Err error))) }
+    ensures some { OnOk result ((held : Folder) × (with_included held texts.old name.now ≡ Ok texts.new)) }
     ensures grows { OnOk result (length texts.new ≡ length texts.old + 1) }
     ensures unchanged { F.folder files.new ≡ F.folder files.old }
     ensures counted { F.faults files.old ≤ F.faults files.new }
@@ -134,6 +137,7 @@ fn mend<F: Files>(
     ensures told { IfSome (F.folder files.old) (λ held. MatchResult result
         (λ _. IsMended held texts.old rule texts.new)
         (λ error. Unless error (IsCause held texts.old rule error))) }
+    ensures some { OnOk result ((held : Folder) × IsMended held texts.old rule texts.new) }
     ensures grows { OnOk result (length texts.new ≡ length texts.old + 1) }
     ensures unchanged { F.folder files.new ≡ F.folder files.old }
     ensures counted { F.faults files.old ≤ F.faults files.new }
@@ -156,6 +160,7 @@ pub fn tokens_of<F: Files>(
     ensures told { IfSome (F.folder files.old) (λ held. MatchResult result
         (λ list. ComesTo held main texts.old texts.new list)
         (λ error. Unless error (FailsBy held main texts.old error))) }
+    ensures some { IfOk result (λ list. (held : Folder) × ComesTo held main texts.old texts.new list) }
     ensures unchanged { F.folder files.new ≡ F.folder files.old }
     ensures counted { F.faults files.old ≤ F.faults files.new }
     ensures failed { result ≡ Err GatherError.FilesFault → HasRisen (F.faults files.old) (F.faults files.new) }

@@ -2,6 +2,7 @@
 
 ghost use Rattle.std.specs.Prelude.{◌≡◌, ◌≢◌, ◌≤◌, ◌<◌, ◌^◌, [], ◌+◌, ◌++◌, ◌∷◌, List, length, slice_get, IfOk, IfErr, IfSome, OnOk, MatchResult, Err, Ok, vec_len};
 ghost use Rattle.tp_outside.specs.Faults.{HasRisen};
+ghost use Rattle.tp_outside.specs.Folder.{Folder};
 ghost use Rattle.source_gathering.specs.declared.error.GatherError.{GatherError};
 ghost use Rattle.source_gathering.specs.Texts.{number_of, with_text, with_file, at, place_in};
 ghost use Rattle.source_gathering.specs.Walk.{Unless};
@@ -143,13 +144,17 @@ impl Texts {
 
     // Puts a text behind the others.
     fn push(&mut self, file: &FileName, bytes: Vec<u8>) -> Result<(), GatherError>
-        ensures told { length bytes.items ≤ TEXT_LIMIT → MatchResult result
+        ensures told { MatchResult result
             (λ _. with_text self.old file.now bytes.items ≡ Ok self.new)
             (λ error. Unless error (with_text self.old file.now bytes.items ≡ Err error)) }
         ensures grows { OnOk result (length self.new ≡ length self.old + 1) }
         ensures no_fault { result ≡ Err GatherError.FilesFault → ⊥ }
     {
-        let all = self.bytes.saturating_add(bytes.len() as u64);
+        let size = bytes.len() as u64;
+        if size > TEXT_LIMIT {
+            return Err(GatherError::TooLarge { bytes: size });
+        }
+        let all = self.bytes.saturating_add(size);
         if all > ALL_TEXTS_LIMIT {
             return Err(GatherError::TooLarge { bytes: all });
         }
@@ -176,6 +181,7 @@ impl Texts {
         ensures told { IfSome (F.folder files.old) (λ held. MatchResult result
             (λ _. with_file absent self.old file.now (held file.now) ≡ Ok self.new)
             (λ error. Unless error (with_file absent self.old file.now (held file.now) ≡ Err error))) }
+        ensures some { OnOk result ((held : Folder) × (with_file absent self.old file.now (held file.now) ≡ Ok self.new)) }
         ensures grows { OnOk result (length self.new ≡ length self.old + 1) }
         ensures unchanged { F.folder files.new ≡ F.folder files.old }
         ensures counted { F.faults files.old ≤ F.faults files.new }

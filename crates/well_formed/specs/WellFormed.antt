@@ -1,5 +1,5 @@
 -- What later parts may rely on in a unit: each number in it names something, and each node has the type that its parts
--- give it. What other units declare is known here only as far as that they are there.
+-- give it. What other units declare is known here only by what the unit supposes of them.
 use Rattle.std.specs.Prelude.{◌≡◌, ◌⊎◌, ℕ, zero, suc, ◌<◌, ◌≤◌, ◌≤ℤ◌, All, true, List, [], ◌∷◌, ◌++◌, length, map, Option, Some, None, is_some, slice_get}
 use Rattle.type_layout.specs.declared.definitions.TypeId.{TypeId}
 use Rattle.type_layout.specs.declared.definitions.Param.{Param}

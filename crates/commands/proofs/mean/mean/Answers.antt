@@ -6,6 +6,9 @@ use Rattle.commands.specs.World.{World, world}
 use Rattle.commands.proofs.HeldLaws.{none_found, program_in}
 use Rattle.commands.proofs.mean.mean.Goals as goal
 
+pub show_meaning-requires : goal.show_meaning-requires
+show_meaning-requires g c = record { sound = c.sound_program_laws.ensures.all c.in-Ok.found.program c.in-Ok.ensures.formed.typed }
+
 pub returns-in-Ok-clause-did : goal.returns-in-Ok-clause-did
 returns-in-Ok-clause-did g c =
     let old : World = world (g.F.Files.folder c.args.files.now) (g.F.Files.faults c.args.files.now) (g.S.Source.remaining c.args.input.now) (g.K.Sink.contents c.args.output.now) (g.E.Sink.contents c.args.errors.now) (g.S.Source.faults c.args.input.now) (g.K.Sink.faults c.args.output.now) (g.E.Sink.faults c.args.errors.now) in

@@ -1,5 +1,5 @@
 use Rattle.lawful_methods.proofs.Answers.{all_answer}
-use Rattle.lawful_methods.proofs.Whole.{all_own_methods, all_lawful, all_have_methods, all_typed}
+use Rattle.lawful_methods.proofs.Whole.{all_own_methods, all_lawful, all_have_methods}
 use Rattle.lawful_methods.proofs.laws.lawful_method_laws.Goals as goal
 
 pub returns-clause-answers : goal.returns-clause-answers
@@ -13,6 +13,3 @@ returns-clause-lawful c = all_lawful c.agreed_program_laws.ensures.agreed c.agre
 
 pub returns-clause-methods : goal.returns-clause-methods
 returns-clause-methods c = all_have_methods c.agreed_program_laws.ensures.agreed c.agreed_program_laws.ensures.declarers c.declared_method_laws.ensures
-
-pub returns-clause-typed : goal.returns-clause-typed
-returns-clause-typed c = all_typed c.agreed_program_laws.ensures.agreed c.agreed_program_laws.ensures.declarers c.declared_method_laws.ensures c.agreed_program_laws.ensures.listed c.agreed_program_laws.ensures.classes

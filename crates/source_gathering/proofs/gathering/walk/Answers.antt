@@ -1,10 +1,17 @@
-use Rattle.std.proofs.Common.{◌≡◌, ◌∙◌, ◌∷◌, List, Option, IfSome, subst, arith}
+use Rattle.std.proofs.Common.{◌≡◌, ◌∙◌, ◌∷◌, List, Option, IfSome, subst, arith, rules}
 use Rattle.std.proofs.lemmas.Result.{err_from_is_err_and}
 use Rattle.tp_outside.specs.Folder.{Folder}
 use Rattle.source_gathering.specs.declared.sources.Source.{Source}
 use Rattle.source_gathering.specs.Walk.{names_of, due, IsMet, Unless}
 use Rattle.source_gathering.proofs.AnswerLaws.{IsRefusedAt, on_met, on_refused}
+use Rattle.source_gathering.proofs.FolderLaws.{some_start, some_met, some_end}
 use Rattle.source_gathering.proofs.gathering.walk.Goals as goal
+
+pub loop-next-init : goal.loop-next-init
+loop-next-init g c = (search rules, search rules, search rules, search rules, some_start _ _ _ _ (search rules) (search rules) (search rules))
+
+pub returns-clause-some : goal.returns-clause-some
+returns-clause-some g c = rw c.into_vec.ensures (some_end _ _ _ _ c.loop-next.invariant.4 (search rules))
 
 pub loop-next-preserved : goal.loop-next-preserved
 loop-next-preserved g c =
@@ -24,6 +31,7 @@ loop-next-preserved g c =
       c.in_ok-meet.ensures.unchanged ∙ before.1,
       omega (arith, before.2, c.in_ok-meet.ensures.counted),
       c.in_ok-meet.ensures.few,
+      some_met c.args.name.now texts after sources more wanted others now next before.4 is c.in_ok-meet.ensures.some,
     )
 
 pub returns-in_err-meet-clause-told : goal.returns-in_err-meet-clause-told

@@ -1,5 +1,6 @@
 use Rattle.std.proofs.Common.{◌≡◌, ◌≤◌, ◌-◌, ◌^◌, IfSome, length}
 use Rattle.source_gathering.proofs.AnswerLaws.{HasIncluded}
+use Rattle.source_gathering.proofs.FolderLaws.{InSome}
 use Rattle.source_gathering.proofs.lexing.tokens_of.Given as goal
 
 -- some of what the text includes was read
@@ -9,6 +10,7 @@ invariant-includes g l =
     × (g.F.Files.folder l.files ≡ g.F.Files.folder l.initial.files)
     × (g.F.Files.faults l.initial.files ≤ g.F.Files.faults l.files)
     × (length l.initial.texts ≤ length l.texts)
+    × InSome (λ held. HasIncluded held l.main l.initial.texts l.texts)
 
 abbrev pub decreases-includes : goal.decreases-includes
 decreases-includes g l = 2 ^ 32 - length l.texts
