@@ -3,8 +3,7 @@ use Rattle.std.proofs.Common.{◌≡◌, ℕ, ◌<◌, List, sym, ap, ◌∙◌}
 use Rattle.std.specs.Prelude.{◌≢◌, All}
 use Rattle.behaviour.specs.Seen.{Seen, Stopped}
 use Rattle.typed_tree.specs.declared.units.Program.{Program}
-use Rattle.meaning.specs.Meaning.{mean}
-use Rattle.mean_program.specs.Shown.{IsNeverStopped}
+use Rattle.meaning.specs.Meaning.{mean, IsNeverStopped}
 
 -- a program that is never stopped is not stopped on this input
 pub stands_somewhere : (program : Program) (turns : ℕ) (seen : Seen) (bytes : List ℕ) → IsNeverStopped program → All (λ byte. byte < 256) bytes → seen ≡ mean program bytes turns → seen.end ≢ Stopped

@@ -1,5 +1,5 @@
 -- What is shown of a program's meaning.
-use Rattle.std.specs.Prelude.{◌≡◌, ◌⊎◌, ℕ, ◌<◌, List, All, Option}
+use Rattle.std.specs.Prelude.{◌≡◌, ◌⊎◌, ℕ, List, Option}
 use Rattle.std.specs.Io.KnownBytes.{append_known}
 use Rattle.tp_outside.specs.Faults.{HasRisen}
 use Rattle.tp_outside.specs.Streams.{TakesPrefix}
@@ -11,10 +11,6 @@ use Rattle.outcomes.specs.declared.outcome.Outcome.{Outcome}
 use Rattle.outcomes.specs.declared.outcome.Outcome.TheVariants as outcome
 use Rattle.outcomes.specs.declared.refusal.Refusal.TheVariants as refusal
 use Rattle.outcomes.specs.declared.refusal.What.TheVariants as what
-
--- on no input of bytes does the program come to a step that is none of the language
-abbrev pub IsNeverStopped : Program → Type 0
-IsNeverStopped program = (input : List ℕ) → All (λ byte. byte < 256) input → (turns : ℕ) → (mean program input turns).end ≡ Stopped → ⊥
 
 -- The outcome is how the meaning stands: it has ended, goes on, or has come to an act that the language leaves open.
 abbrev pub Stands : Standing → Outcome → Type 0

@@ -4,9 +4,10 @@ ghost use Rattle.std.specs.Prelude.{◌≡◌, ◌≢◌, ◌<◌, ◌≤◌, Al
 ghost use Rattle.tp_outside.specs.Faults.{HasRisen};
 ghost use Rattle.tp_outside.specs.Streams.{GaveSome};
 ghost use Rattle.behaviour.specs.Seen.{Seen, Stopped};
+ghost use Rattle.meaning.specs.Meaning.{IsNeverStopped};
 ghost use Rattle.interpreter.specs.Whole.{view_end, view_meaning};
 ghost use Rattle.whole_input.specs.Input.{IsWhole};
-ghost use Rattle.mean_program.specs.Shown.{streams, IsNeverStopped, Stands, IsUnread, Writes, Shows};
+ghost use Rattle.mean_program.specs.Shown.{streams, Stands, IsUnread, Writes, Shows};
 
 use interpreter::{MeanEnd, Meaning, mean};
 use outcomes::{Outcome, Refusal, What};

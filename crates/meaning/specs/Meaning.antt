@@ -1,7 +1,7 @@
 -- What a program means: what it writes and how it ends within a number of turns.
-use Rattle.std.specs.Prelude.{ℕ, zero, suc, List, [], ◌∷◌, map, Option, Some, None, pos, false}
+use Rattle.std.specs.Prelude.{◌≡◌, ◌<◌, All, ℕ, zero, suc, List, [], ◌∷◌, map, Option, Some, None, pos, false}
 use Rattle.std.specs.List.{flat_map}
-use Rattle.behaviour.specs.Seen.{Standing, Ended, Going, Seen}
+use Rattle.behaviour.specs.Seen.{Standing, Ended, Going, Stopped, Seen}
 use Rattle.typed_tree.specs.declared.units.Global.{Global}
 use Rattle.typed_tree.specs.declared.units.Unit.{Unit as TypedUnit}
 use Rattle.typed_tree.specs.declared.units.Program.{Program}
@@ -63,3 +63,7 @@ seen_of (Over standing s) = seen_so standing s
 -- of; then it shows `Stopped`.
 abbrev pub mean : Program → List ℕ → ℕ → Seen
 mean program input turns = seen_of (all_started program (run program) program.units (start_state program input turns))
+
+-- on no input of bytes does the program come to a step that is none of the language
+abbrev pub IsNeverStopped : Program → Type 0
+IsNeverStopped program = (input : List ℕ) → All (λ byte. byte < 256) input → (turns : ℕ) → (mean program input turns).end ≡ Stopped → ⊥

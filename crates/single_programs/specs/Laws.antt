@@ -10,10 +10,10 @@ use Rattle.typed_tree.specs.declared.units.Program.{Program}
 use Rattle.object_vmt.specs.Dispatch.{AnswersAlike}
 use Rattle.type_fits.specs.Fits.{AreSameHeaders}
 use Rattle.meaning.specs.Trees.{Key}
+use Rattle.meaning.specs.Meaning.{IsNeverStopped}
 use Rattle.meaning.specs.ShownCalls.{Boxed}
 use Rattle.declared_types.specs.Declared.{declared}
 use Rattle.typed_programs.specs.Example.{counting, counting_program}
-use Rattle.sound_starts.specs.Laws.{IsNeverStopped}
 use Rattle.single_units.specs.Laws.{IsSingle}
 use Rattle.unit_references.specs.Units.{HasSoundParts, AreMarked, IsSupported}
 

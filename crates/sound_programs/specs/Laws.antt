@@ -1,9 +1,9 @@
 -- What is never seen of a well-typed program.
 use Rattle.typed_tree.specs.declared.units.Program.{Program}
+use Rattle.meaning.specs.Meaning.{IsNeverStopped}
 use Rattle.meaning.specs.ShownCalls.{Boxed}
 use Rattle.typed_programs.specs.WellTyped.{IsWellTyped}
 use Rattle.typed_programs.specs.Example.{counting_program}
-use Rattle.sound_starts.specs.Laws.{IsNeverStopped}
 
 -- On no input of bytes, and within no number of turns, does a well-typed program come to a step of which the meaning says nothing.
 abbrev pub TypedProgramsNeverStop : Type 0

@@ -14,7 +14,7 @@ use Rattle.meaning.specs.Found.{Found, ◌>>=◌, known}
 use Rattle.meaning.specs.Outcomes.{State, Outcome, Done, Over}
 use Rattle.meaning.specs.Activations.{Level, Callee, callee_of, levels_around}
 use Rattle.meaning.specs.Calls.{Runs, entered}
-use Rattle.meaning.specs.Meaning.{start_state, start_activation, started, all_started, seen_of, run}
+use Rattle.meaning.specs.Meaning.{start_state, start_activation, started, all_started, seen_of, run, IsNeverStopped}
 use Rattle.declared_types.specs.Agreement.{IsUnit}
 use Rattle.sound_stores.specs.Worlds.{Made, World}
 use Rattle.sound_places.specs.Frames.{AreLevels, HasGlobals}
@@ -27,7 +27,7 @@ use Rattle.sound_activations.proofs.Callers.{IsCalled}
 use Rattle.typed_programs.proofs.Ends.{ends_bind, ends_done, ends_more, globals_after}
 use Rattle.sound_activations.proofs.Activated.{Gives, entered_ends}
 use Rattle.sound_activations.proofs.Whole.{routines_of, bodies_of}
-use Rattle.sound_starts.specs.Laws.{start_made, IsNeverStopped}
+use Rattle.sound_starts.specs.Laws.{start_made}
 use Rattle.sound_starts.proofs.FirstStore.{sound_start}
 
 abbrev Anything : World → Value → Type 0

@@ -1,12 +1,11 @@
--- The start of a program, and what is never seen of one.
-use Rattle.std.specs.Prelude.{◌≡◌, ℕ, ◌<◌, List, ◌∷◌, map, All}
+-- The start of a program.
+use Rattle.std.specs.Prelude.{List, ◌∷◌, map}
 use Rattle.std.specs.List.{flat_map}
-use Rattle.behaviour.specs.Seen.{Stopped}
 use Rattle.typed_tree.specs.declared.units.Global.{Global}
 use Rattle.typed_tree.specs.declared.units.Unit.{Unit as TypedUnit}
 use Rattle.typed_tree.specs.declared.units.Program.{Program}
 use Rattle.meaning.specs.Programs.{sort_in, integer_sort}
-use Rattle.meaning.specs.Meaning.{start_store, mean}
+use Rattle.meaning.specs.Meaning.{start_store}
 use Rattle.sound_stores.specs.Worlds.{Made, Own}
 use Rattle.sound_stores.specs.Stores.{IsTypedStore}
 use Rattle.sound_places.specs.Frames.{HasGlobals}
@@ -23,7 +22,3 @@ start_made program = Own integer_sort ∷ flat_map globals_made program.units
 pub record HasSoundStart (program : Program) : Type 0 where
   pub store : IsTypedStore (world program (start_made program)) (start_store program)
   pub globals : HasGlobals (world program (start_made program))
-
--- on no input of bytes does the program come to an ill-typed step
-abbrev pub IsNeverStopped : Program → Type 0
-IsNeverStopped program = (input : List ℕ) → All (λ byte. byte < 256) input → (turns : ℕ) → (mean program input turns).end ≡ Stopped → ⊥
