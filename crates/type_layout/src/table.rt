@@ -1,7 +1,6 @@
 //! The table of types.
 
-ghost use Rattle.std.specs.Prelude.{All, IsTrue, ◌≡◌, ◌+◌, ◌-◌, ◌^◌, ◌<◌, ◌≤◌, ◌∷◌, [], ◌++◌, ◌↔◌, ℕ, min, false, Some, Err, IfOk, IfSome, OnOk, OnErr, IsOk, length, slice_get, position, vec_len, vec_capacity, IfErr};
-ghost use Rattle.std.specs.List.{list_any};
+ghost use Rattle.std.specs.Prelude.{All, IsTrue, ◌≡◌, ◌+◌, ◌-◌, ◌^◌, ◌<◌, ◌≤◌, ◌∷◌, [], ◌++◌, ◌↔◌, ℕ, min, Some, Err, IfOk, IfSome, OnOk, OnErr, IsOk, length, slice_get, position, vec_len, vec_capacity, IfErr};
 ghost use Rattle.type_layout.specs.Words.{same_bytes};
 ghost use Rattle.type_layout.specs.Layouts.{layouts_of, size_over, HasFieldsOf, IsMeasured};
 ghost use Rattle.type_layout.specs.Table.{IsWellFormed, IsAddable, place_of, with_unit, with_type};
@@ -9,7 +8,6 @@ ghost use Rattle.type_layout.specs.Table.{IsWellFormed, IsAddable, place_of, wit
 use crate::layout::{Layout, layout_over, size_over};
 use crate::wanted::{has_methods_of, is_defined_over};
 use crate::{Name, Origin, TypeDef, TypeId};
-use indexmap::IndexSet;
 use std::alloc::{AllocError, Global};
 use std::marker::Model;
 
@@ -45,7 +43,7 @@ pub struct Types {
     types: Vec<TypeDef>,
     origins: Vec<Origin>,
     layouts: Vec<Layout>,
-    units: IndexSet<Name>,
+    units: Vec<Name>,
 }
 
 impl Model for Types {
@@ -53,9 +51,9 @@ impl Model for Types {
 
     ghost Value = { Table };
 
-    ghost view = { λ t. record { types = t.types.items; origins = t.origins.items; units = t.units.keys } };
+    ghost view = { λ t. record { types = t.types.items; origins = t.origins.items; units = t.units.items } };
 
-    ghost invariant = { λ t. IsKept (record { types = t.types.items; origins = t.origins.items; units = t.units.keys }) t.layouts.items };
+    ghost invariant = { λ t. IsKept (record { types = t.types.items; origins = t.origins.items; units = t.units.items }) t.layouts.items };
 }
 
 // Appends to a vector that has room.
@@ -68,28 +66,34 @@ fn push_within<T: Drop>(items: &mut Vec<T>, item: T)
     }
 }
 
-// Puts a unit at the end of the units, which don't have it.
-fn add_new(units: &mut IndexSet<Name>, unit: Name) -> Result<(), TypeError>
-    requires { list_any (same_bytes unit) units.old.keys ≡ false }
-    ensures ok { OnOk result (units.new.keys ≡ units.old.keys ++ unit ∷ []) }
-    ensures err { OnErr result (units.new.keys ≡ units.old.keys) }
+// The place of a unit among the units.
+fn place_among(units: &[Name], unit: &Name) -> Option<usize>
+    ensures { result ≡ position (same_bytes unit.now) units.now }
+{
+    units.iter().position(|known| *unit == *known)
+}
+
+// Puts a unit at the end of the units.
+fn add_new(units: &mut Vec<Name>, unit: Name) -> Result<(), TypeError>
+    ensures ok { OnOk result (units.new.items ≡ units.old.items ++ unit ∷ []) }
+    ensures err { OnErr result (units.new.items ≡ units.old.items) }
     ensures cause { IfErr result (λ error. error ≡ TypeError.NoMemory) }
 {
-    match units.insert(unit) {
-        Ok(_) => Ok(()),
+    match units.push(unit) {
+        Ok(()) => Ok(()),
         Err(_) => Err(TypeError::NoMemory),
     }
 }
 
 // The place of a unit among the units, to which it is added where it is new.
-fn find_or_add(units: &mut IndexSet<Name>, unit: Name) -> Result<u32, TypeError>
-    requires { length units.old.keys < 2 ^ 32 }
-    ensures ok { IfOk result (λ place. (place ≡ place_of units.old.keys unit) × (units.new.keys ≡ with_unit units.old.keys unit)) }
-    ensures few { OnOk result (length units.new.keys < 2 ^ 32) }
-    ensures err { OnErr result (units.new.keys ≡ units.old.keys) }
+fn find_or_add(units: &mut Vec<Name>, unit: Name) -> Result<u32, TypeError>
+    requires { length units.old.items < 2 ^ 32 }
+    ensures ok { IfOk result (λ place. (place ≡ place_of units.old.items unit) × (units.new.items ≡ with_unit units.old.items unit)) }
+    ensures few { OnOk result (length units.new.items < 2 ^ 32) }
+    ensures err { OnErr result (units.new.items ≡ units.old.items) }
     ensures cause { IfErr result (λ error. error ≡ TypeError.NoMemory) }
 {
-    match units.get_index_of(&unit) {
+    match place_among(units.as_slice(), &unit) {
         Some(place) => Ok(place as u32),
         None => {
             let place = units.len();
@@ -111,7 +115,7 @@ impl Types {
             types: Vec::new(alloc),
             origins: Vec::new(alloc),
             layouts: Vec::new(alloc),
-            units: IndexSet::new(alloc),
+            units: Vec::new(alloc),
         }
     }
 
@@ -199,11 +203,11 @@ impl Types {
         self.units.as_slice()
     }
 
-    /// The place of a unit among the units of the origins, in constant time.
+    /// The place of a unit among the units of the origins.
     pub fn unit_place(&self, unit: &Name) -> Option<usize>
         ensures { result ≡ position (same_bytes unit.now) self.now.units }
     {
-        self.units.get_index_of(unit)
+        place_among(self.units.as_slice(), unit)
     }
 
     /// The sizes and class fields of the types.

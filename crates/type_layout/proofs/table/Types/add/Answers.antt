@@ -19,9 +19,9 @@ invariant_of-self-2 c =
     rw (c.as_slice.ensures.value, c.as_slice-2.ensures.value, c.self.invariant.measured) at c.size_over-size.ensures in
     let layout : c.layout_over-layout.result ≡ layout_by c.self.inside.types.items (layouts_of c.self.inside.types.items) c.args.one =
     rw (c.as_slice-3.ensures.value, c.as_slice-4.ensures.value, c.self.invariant.measured) at c.layout_over-layout.ensures in
-    let added : (c.in_ok-unit.unit ≡ place_of c.self.inside.units.keys c.args.origin) × (c.find_or_add.new.units.keys ≡ with_unit c.self.inside.units.keys c.args.origin) =
+    let added : (c.in_ok-unit.unit ≡ place_of c.self.inside.units.items c.args.origin) × (c.find_or_add.new.units.items ≡ with_unit c.self.inside.units.items c.args.origin) =
     c.in_ok-unit.ensures.ok in
-    let few : length (with_unit c.self.inside.units.keys c.args.origin) < 2 ^ 32 = rw added.1 at c.in_ok-unit.ensures.few in
+    let few : length (with_unit c.self.inside.units.items c.args.origin) < 2 ^ 32 = rw added.1 at c.in_ok-unit.ensures.few in
     let kept = with_type-kept _ _ c.args.origin c.args.number c.args.one c.self.invariant
     (subst (λ (t : Table). IsAddable t c.args.origin c.args.one) (sym c.self.view_is) c.requires)
     (omega (arith, c.if-size-from.false, c.from.ensures)) (omega (arith, c.if-place-ge-MOST.false, c.len-place.ensures)) few in
