@@ -6,11 +6,6 @@ use Rattle.typing_rules.specs.Judgements.{◌>>=◌}
 use Rattle.call_rules.specs.Lists.{behind}
 
 module _ {A : Type 0} where
-  -- before anything is made
-  pub behind_nothing : (read : Result (List A) Fault) → behind [] read ≡ read
-  behind_nothing (Ok rest) = refl
-  behind_nothing (Err fault) = refl
-
   -- one more is made
   pub behind_one : (before : List A) (one : A) (read : Result (List A) Fault) → behind before (read >>= λ rest. Ok (one ∷ rest)) ≡ behind (before ++ (one ∷ [])) read
   behind_one before one (Ok rest) = ap (λ (l : List A). Ok l) (sym (append_assoc before (one ∷ []) rest))

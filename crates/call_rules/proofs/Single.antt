@@ -1,5 +1,5 @@
 -- Conversions have one operand.
-use Rattle.std.proofs.Common.{◌≡◌, List, [], ◌∷◌, ◌++◌, length, map, Err, refl, arith}
+use Rattle.std.proofs.Common.{◌≡◌, List, [], ◌∷◌, ◌++◌, length, map, refl, arith}
 use Rattle.std.proofs.lemmas.List.{length-append}
 use Rattle.type_layout.specs.declared.definitions.TypeId.{TypeId}
 use Rattle.type_layout.specs.declared.definitions.TypeDef.{TypeDef}
@@ -7,18 +7,10 @@ use Rattle.type_layout.specs.declared.texts.Place.{Place}
 use Rattle.typed_tree.specs.declared.expressions.Expr.{Expr}
 use Rattle.typed_tree.specs.Expressions.{view_expr}
 use Rattle.type_fits.specs.Fits.{definition}
-use Rattle.typing_rules.specs.declared.faults.Rule.TheVariants as rules
-use Rattle.typing_rules.specs.Faults.{broken}
 use Rattle.typing_rules.specs.Sorts.{sort_of}
 use Rattle.call_rules.specs.Casts.{cast_one, cast}
 
 module _ (types : List TypeDef) (place : Place) (ty : TypeId) where
-  pub not_single : (all : List Expr) → (length all ≡ 1 → ⊥) → (cast types place ty (map view_expr all)).run ≡ Err (broken place rules.Stands)
-  unfolding cast
-  not_single [] n = refl
-  not_single (e ∷ []) n = absurd (n refl)
-  not_single (e ∷ (f ∷ all)) n = refl
-
   pub single : (all before : List Expr) (e : Expr) → all ≡ before ++ (e ∷ []) → length all ≡ 1 → (cast types place ty (map view_expr all)).run ≡ (cast_one place ty (definition types ty) (sort_of types (view_expr e)) (view_expr e)).run
   unfolding cast
   single all [] e p h = rw p refl

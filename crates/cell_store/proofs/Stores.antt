@@ -7,15 +7,13 @@ use Rattle.std.proofs.lemmas.Option.{slice_get-map, slice_get_past, slice_get-ge
 use Rattle.cell_store.specs.declared.objects.Object.{Object}
 use Rattle.cell_store.specs.declared.traps.Trap.{Trap}
 use Rattle.cell_store.specs.declared.traps.Trap.TheVariants as trap
-use Rattle.cell_store.specs.declared.traps.Stop.{Stop}
-use Rattle.cell_store.specs.declared.traps.Stop.TheVariants as stop
 use Rattle.values.specs.Blocks.{rounded, block_sum, with_block}
 use Rattle.values.specs.declared.blocks.Row.{Row}
 use Rattle.meaning.specs.Trees.{Spot, Tree, part_at, with_part}
 use Rattle.meaning.specs.Found.{Trap as PureTrap, Act, Error, IllTyped, Found, ◌>>=◌, known}
 use Rattle.meaning.specs.Store.{Object as PureObject, Store, object_at, with_object, without, without_row, replaced_in, replaced, disposed_in, disposed}
 use Rattle.cell_store.specs.Views.{view_object, view_slot}
-use Rattle.cell_store.specs.Finding.{view_trap, Finds, Gets}
+use Rattle.cell_store.specs.Finding.{view_trap, Finds}
 use Rattle.cell_store.specs.Parts.{exchanged_in, rows_with, freed}
 
 -- ---- looking
@@ -114,12 +112,3 @@ disposed_within slots rows serial bytes d h =
 
 pub disposed_past : (slots : List (Option Object)) (rows : List Row) (serial bytes : ℕ) → length slots ≤ serial → disposed (store_of slots rows) serial bytes ≡ Err (Act 2)
 disposed_past slots rows serial bytes h = ap (disposed_in (store_of slots rows) serial bytes) (slot_past slots serial h)
-
--- ---- what is found leads on
-
-pub finds_on : {A B C : Type 0} (view : C → B) (stop : Trap) (found : Found A) (go : A → Found B) → found ≡ Err (view_trap stop) → Finds view (Err stop) (found >>= go)
-finds_on {A} view stop found go e = ap (λ (f : Found A). f >>= go) e
-
-pub gets_on : {A B C D : Type 0} (view : C → A) (other : D → B) (stop : Stop) (found : Found A) (go : A → Found B) → Gets view (Err stop) found → Gets other (Err stop) (found >>= go)
-gets_on view other stop.NoRoom found go e = tt
-gets_on {A} view other (stop.Trapped trap) found go e = ap (λ (f : Found A). f >>= go) e

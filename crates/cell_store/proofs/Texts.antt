@@ -1,7 +1,7 @@
 -- The cells of strings.
 use Rattle.std.proofs.Common.{◌≡◌, ℕ, zero, suc, ◌+◌, ◌-◌, ◌<◌, ◌≤◌, List, [], ◌∷◌, ◌++◌, length, map, take, drop, get_or, Option, Some, None, refl, sym, ap, subst, ◌∙◌, arith}
 use Rattle.std.specs.Prelude.{pos, Ok, Err}
-use Rattle.std.proofs.lemmas.List.{append-nil, append_assoc, drop-map, length-map, take_all}
+use Rattle.std.proofs.lemmas.List.{append_assoc, drop-map, length-map, take_all}
 use Rattle.std.proofs.Math.Seq.{drop-cons}
 use Rattle.std.proofs.Math.Numerals.{add-one}
 use Rattle.cell_store.specs.declared.cells.Tree.{Tree}
@@ -52,11 +52,6 @@ pub bytes_first : (cells : List Tree) (count : ℕ) → bytes_in count (view_par
 bytes_first cells count =
     let all : count ≡ count - 0 = omega arith in
     ap (λ n. bytes_in n (view_parts cells)) all ∙ sym (front_none (bytes_from 0 count cells))
-
-pub bytes_last : (front : List ℕ) (cells : List Tree) (i count : ℕ) → count ≤ i → after_front front (bytes_from i count cells) ≡ Ok front
-bytes_last front cells i count h =
-    let none : count - i ≡ 0 = omega (arith, h) in
-    ap (λ n. after_front front (bytes_in n (view_parts (drop i cells)))) none ∙ ap Ok (append-nil front)
 
 -- a byte that isn't found stops the bytes
 pub bytes_stop : {A : Type 0} (view : A → List ℕ) (stop : Stop) (front : List ℕ) (i : ℕ) (cells : List Tree) (count : ℕ) (d : Tree) (whole : Found (List ℕ)) → i < length cells → i < count

@@ -66,13 +66,6 @@ module _ (types : List TypeDef) where
       below_both (length types) (in_header one.header) (in_methods rest) (header_there one.header (All-head (λ (method : Method). IsHeaderIn types method.header) one rest h))
       (methods_there rest (All-tail (λ (method : Method). IsHeaderIn types method.header) one rest h))
 
-  value_there : (v : Value) (d : Option TypeDef) → IsValue types v d → IsSome d
-  value_there v (Some one) h = tt
-  value_there (value.Number n) None h = h
-  value_there (value.Chars bytes) None h = h
-  value_there value.Nil None h = h
-  value_there (value.Elements bytes) None h = h
-
   asked_there : (number : ℕ) (one : TypeDef) → ((low high : ℤ) → one ≡ type.Ordinal host.Enumeration low high → number + 1 < length types) → NamesWithin types one → IsAsked (length types) number one
   asked_there number (type.Ordinal host.Enumeration low high) f h = f low high refl
   asked_there number (type.PointerTo target) f h = there target h

@@ -19,7 +19,6 @@ use Rattle.machine_lines.specs.Straight.{StaysFree, ones, IsAt}
 use Rattle.machine_lines.specs.Words.{HoldsWord, stored}
 use Rattle.machine_lines.proofs.Steps.{leads_on}
 use Rattle.machine_lines.proofs.Words.{addresses_differ, same_cell, other_cell}
-use Rattle.code_lines.specs.Addresses.{Context}
 use Rattle.code_lines.specs.Lines.{read_code, taken}
 use Rattle.code_expressions.specs.Active.{Active, IsKept, Keeps}
 use Rattle.code_expressions.proofs.Stack.{pushed_at, registers_pushed, push_carries, push_holds, push_lowers}
@@ -45,9 +44,6 @@ not_written : ◌≡◌ {A = ℕ} 63 64 → ⊥
 not_written e = absurd (omega (arith, e))
 
 module _ (w : World) (site : Site) (live : Live) (fits : Fits w site live) where
-  abbrev x : Context
-  x = site.context
-
   abbrev At : ℕ → ResidentState → Type 0
   At k r = IsAt site.segment (site.at k) r
 

@@ -1,5 +1,5 @@
 -- Arguments that were pushed, and a call: the routine is entered.
-use Rattle.std.proofs.Common.{◌≡◌, ℕ, ◌+◌, ◌*◌, ◌<◌, ◌≤◌, Bool, true, false, List, ◌∷◌, arith, refl, sym, ap, subst, ◌∙◌}
+use Rattle.std.proofs.Common.{◌≡◌, ℕ, ◌+◌, ◌*◌, ◌≤◌, Bool, true, false, List, ◌∷◌, arith, refl, sym, ap, subst, ◌∙◌}
 use Rattle.std.specs.Prelude.{IsTrue}
 use Rattle.flat_code.specs.Calls.{State}
 use Rattle.cpu_8086.specs.Memory.{address}
@@ -26,9 +26,6 @@ module _ (w : World) (live : Live) (s : State) (r : ResidentState) (a : Represen
   -- the state with the arguments on the stack
   abbrev pub pushed : ResidentState
   pushed = with_memory r b.registers b.cells
-
-  pushed_top : r.registers.sp < 65536
-  pushed_top = a.active.top
 
   -- the stack below the arguments may be written
   pub pushed_room : (n : ℕ) → n ≤ b.registers.sp → HasRoom w.machine pushed n

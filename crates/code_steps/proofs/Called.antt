@@ -264,10 +264,6 @@ module _ (w : World) (caller : Site) (site : Site) (live : Live) (fits : Fits w 
     label_there : site.at (site.labels (length site.context.unit.routines)) ≡ site.at label_at
     label_there = ap site.at tail_stands.0.0
 
-    -- the events of the parts, within what the work of the call pays
-    events : ℕ → ℕ
-    events more = reach.count + (began.count + more)
-
     paid_by : (work count k : ℕ) → k ≤ length (epilogue site.context r) + length (taken caller.context result) → count + budget w (s0.work + m) ≤ budget w work → reach.count + (began.count + (count + k)) + budget w s0.work ≤ budget w work
     paid_by work count k few more =
         let few0 = reach.few in

@@ -1,18 +1,16 @@
 -- Routines laid out one after another.
-use Rattle.std.proofs.Common.{arith, ◌≡◌, ℕ, ◌+◌, ◌<◌, ◌≤◌, List, [], ◌∷◌, ◌++◌, length, map, get_or, take, refl, sym, ap, subst, ◌∙◌, append_assoc, length-append}
-use Rattle.std.proofs.lemmas.List.{take_more, take_all, append-nil}
+use Rattle.std.proofs.Common.{arith, ◌≡◌, ℕ, ◌+◌, ◌<◌, ◌≤◌, List, [], ◌∷◌, ◌++◌, length, get_or, take, sym, ap, subst, ◌∙◌, append_assoc, length-append}
+use Rattle.std.proofs.lemmas.List.{take_more, append-nil}
 use Rattle.type_layout.specs.declared.definitions.RoutineId.{RoutineId}
 use Rattle.object_unit.specs.declared.object.Code8086.{Code8086}
 use Rattle.x86_table.specs.declared.line.Line.{Line}
 use Rattle.x86_table.specs.Lines.{code_size}
 use Rattle.flat_code.specs.declared.unit.FlatRoutine.{FlatRoutine}
-use Rattle.flat_code.specs.declared.unit.FlatUnit.{FlatUnit}
-use Rattle.object_unit.specs.declared.object.ObjectUnit.{ObjectUnit}
 use Rattle.code_references.specs.declared.marks.MarkedLine.{MarkedLine}
-use Rattle.flat_code.specs.Plain.{view_routine, view_unit}
+use Rattle.flat_code.specs.Plain.{view_routine}
 use Rattle.flat_code.specs.Program.{Name, UnitCode}
 use Rattle.code_references.specs.Marked.{marked_routine, stored}
-use Rattle.object_code.specs.Objects.{IsLaidOut, code_of, AreLaidOut, sizes, codes_of, all_stored, global_of, pointer_of, vmt_of, ObjectFor, IsTooLarge}
+use Rattle.object_code.specs.Objects.{IsLaidOut, code_of, AreLaidOut, sizes, codes_of, all_stored}
 
 laid-append : (unit : UnitCode) (p : ℕ) (rs : List FlatRoutine) (ls : List (List Line)) (r : FlatRoutine) (l : List Line) → AreLaidOut unit p rs ls → IsLaidOut (marked_routine unit (p + length (all_stored rs)) (view_routine r)) l → AreLaidOut unit p (rs ++ r ∷ []) (ls ++ l ∷ [])
 laid-append unit p [] [] r l h g =
@@ -58,9 +56,6 @@ pub record Progress (names : List Name) (unit : UnitCode) (rs : List FlatRoutine
   pub made : bytes ≤ 65520 → codes ≡ codes_of names unit 0 (take i rs) layouts
   pub stored_is : kept ≡ all_stored (take i rs)
 
-pub progress-begins : (names : List Name) (unit : UnitCode) (rs : List FlatRoutine) → Progress names unit rs 0 0 [] []
-progress-begins names unit rs = record { layouts = []; laid = tt; count = refl; made = λ small. refl; stored_is = refl }
-
 one_more : (rs : List FlatRoutine) (i : ℕ) (r : FlatRoutine) → i < length rs → r ≡ get_or rs i r → take (i + 1) rs ≡ take i rs ++ r ∷ []
 one_more rs i r h e = take_more rs i r h ∙ ap (λ y. take i rs ++ y ∷ []) (sym e)
 
@@ -103,42 +98,3 @@ progress-next names unit rs i bytes more kept next codes new r marked l h e p is
           (step small ∙ ap (λ m. codes ++ code_of names r m l ∷ []) is);
       stored_is = stored-next rs i r kept next h e p.stored_is stores;
     }
-
--- all routines have code
-pub record Done (names : List Name) (unit : UnitCode) (rs : List FlatRoutine) (bytes : ℕ) (kept : List RoutineId) (codes : List Code8086) : Type 0 where
-  pub layouts : List (List Line)
-  pub laid : AreLaidOut unit 0 rs layouts
-  pub count : bytes ≡ sizes layouts
-  pub made : bytes ≤ 65520 → codes ≡ codes_of names unit 0 rs layouts
-  pub stored_is : kept ≡ all_stored rs
-
-pub progress-ends : (names : List Name) (unit : UnitCode) (rs : List FlatRoutine) (i bytes : ℕ) (kept : List RoutineId) (codes : List Code8086) → length rs ≤ i → Progress names unit rs i bytes kept codes → Done names unit rs bytes kept codes
-progress-ends names unit rs i bytes kept codes h p =
-    let whole : take i rs ≡ rs = take_all i rs h in
-    record {
-      layouts = p.layouts;
-      laid = subst (λ z. AreLaidOut unit 0 z p.layouts) whole p.laid;
-      count = p.count;
-      made = λ small. p.made small ∙ ap (λ z. codes_of names unit 0 z p.layouts) whole;
-      stored_is = p.stored_is ∙ ap all_stored whole;
-    }
-
--- ---- the whole
-
-pub object-made : (unit : FlatUnit) (bytes : ℕ) (kept : List RoutineId) (object : ObjectUnit)
-    → Done unit.names (view_unit unit) unit.routines bytes kept object.routines → bytes ≤ 65520
-    → object.globals ≡ map global_of unit.globals ++ map (pointer_of unit.names) kept
-    → object.vmts ≡ map (vmt_of unit.names) unit.vmts
-    → ObjectFor unit object
-object-made unit bytes kept object d small globals vmts =
-    record {
-      layouts = d.layouts;
-      laid = d.laid;
-      small = omega (arith, d.count, small);
-      routines = d.made small;
-      globals = globals ∙ ap (λ z. map global_of unit.globals ++ map (pointer_of unit.names) z) d.stored_is;
-      vmts = vmts;
-    }
-
-pub too-large : (unit : FlatUnit) (bytes : ℕ) (kept : List RoutineId) (codes : List Code8086) → Done unit.names (view_unit unit) unit.routines bytes kept codes → 65520 < bytes → IsTooLarge unit bytes
-too-large unit bytes kept codes d many = record { layouts = d.layouts; laid = d.laid; many = many; count = d.count }

@@ -18,11 +18,6 @@ unfolding sum_of difference_of
 add_subtract width.Byte x y hx hy = omega arith
 add_subtract width.Word x y hx hy = omega arith
 
--- what is divided is what the halves make
-halves : (w : Width) (p : ℕ) (g : Registers) → p < size w * size w → dividend (with_halves g w (p / size w) (p % size w)) w ≡ p
-halves width.Byte p g lt = omega arith
-halves width.Word p g lt = omega arith
-
 pub product_dividend : (g : Registers) (w : Width) (p : ℕ) (excess : Bool) → p < size w * size w → dividend (with_product g w p excess) w ≡ p
 product_dividend g width.Byte p excess lt = omega arith
 product_dividend g width.Word p excess lt = omega arith

@@ -166,9 +166,6 @@ module _ (types : List TypeDef) (all : AllDefined [] types) (ty index element : 
 abbrev pub fields_at : List TypeDef → Option TypeId → List TypeId
 fields_at types ty = types_in (field_types_of types) ty
 
-abbrev own_fields : List Field → List TypeId
-own_fields fields = map (λ (field : Field). field.ty) fields
-
 module _ (types : List TypeDef) (all : AllDefined [] types) (ty : TypeId) where
   fields_round : (one : TypeDef) (r : Round types ty.0 one) → fields_at types (Some ty) ≡ fields_by r.front (field_types_of r.front) one
   fields_round one r = rw (r.is, ← r.at) (get_or-given_by-middle fields_by r.front one r.back [])

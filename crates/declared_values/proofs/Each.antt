@@ -12,7 +12,7 @@ use Rattle.scopes.specs.Symbols.{SymbolList, entry_of}
 use Rattle.scopes.specs.Members.{first_of, member_of}
 use Rattle.scopes.specs.Environment.{Environment, named, member, line_of, in_symbols, in_block, in_blocks, in_units, find, with_name}
 use Rattle.known_names.specs.Known.{opening, EachOf, EachIn}
-use Rattle.known_names.proofs.Entering.{Ends, ends, these, record_end, named_each}
+use Rattle.known_names.proofs.Entering.{Ends, ends, these, record_end}
 use Rattle.declared_names.specs.Declaring.{with_names}
 
 -- whatever is open round it
@@ -37,10 +37,6 @@ module _ (P Q : Entry → Type 0) (follows : (one : Entry) → P one → Q one) 
 -- ---- names in the innermost block
 
 module _ (P : Entry → Type 0) where
-  pub names_each : (g : Environment) (names : SymbolList) → EachIn (Anywhere P) [] g.blocks → EachOf P names → EachIn (Anywhere P) [] (with_names g names).blocks
-  names_each g [] h k = h
-  names_each g (one ∷ rest) h k = names_each (with_name g one.0 one.1) rest (named_each g one.0 one.1 (Anywhere P) h k.0) k.1
-
   each_back : (front back : SymbolList) → EachOf P (front ++ back) → EachOf P back
   each_back [] back h = h
   each_back (one ∷ front) back h = each_back front back h.1

@@ -1,5 +1,5 @@
 -- Names of constants mean values, also with further names and types.
-use Rattle.std.proofs.Common.{◌≡◌, ℕ, ◌+◌, List, [], ◌∷◌, ◌++◌, Option, Some, refl, sym, subst}
+use Rattle.std.proofs.Common.{◌≡◌, ℕ, ◌+◌, List, [], ◌∷◌, ◌++◌, Option, Some, sym, subst}
 use Rattle.type_layout.specs.declared.definitions.TypeId.{TypeId}
 use Rattle.type_layout.specs.declared.definitions.Host.TheVariants as host
 use Rattle.type_layout.specs.declared.definitions.TypeDef.{TypeDef}
@@ -26,11 +26,6 @@ values_named g name one h k = record {
   used = h.used;
   blocks = named_each g name one (Anywhere (IsConstantIn g.types.types)) h.blocks k;
 }
-
--- names change no types
-names_types : (g : Environment) (names : SymbolList) → (with_names g names).types ≡ g.types
-names_types g [] = refl
-names_types g (one ∷ rest) = names_types (with_name g one.0 one.1) rest
 
 pub values_names : (g : Environment) (names : SymbolList) → HasValues g → EachOf (IsConstantIn g.types.types) names → HasValues (with_names g names)
 values_names g [] h k = h

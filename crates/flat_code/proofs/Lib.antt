@@ -4,10 +4,8 @@ pub mod Whole
 pub mod Nodes
 pub mod Turns
 pub mod Shut
-pub mod Loops
 pub mod Steps
 pub mod Rows
-pub mod Given
 pub mod Bodies
 pub mod PlainChoice
 pub mod PlainFar

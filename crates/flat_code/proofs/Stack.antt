@@ -57,9 +57,6 @@ word-kept m a v b w (inr above) has = record {
 byte-known : (m : Cells) (p : Place) (i a b : ℕ) → address_of p i ≡ a → m a ≡ Known b → byte_at m p i ≡ Ok b
 byte-known m p i a b e k = ap byte_in (ap m e ∙ k)
 
-ok : {A : Type 0} → A → Found A
-ok x = Ok x
-
 word_is : (v : ℕ) → v < 65536 → word_from_bytes (low_byte v) (high_byte v) ≡ v
 word_is v small = omega arith
 

@@ -8,7 +8,7 @@ use Rattle.flat_code.specs.declared.memory.Trap.TheVariants.{ByZero, Bad}
 use Rattle.flat_run.specs.declared.state.Stop.{Stop}
 use Rattle.flat_run.specs.declared.state.Stop.TheVariants as stop
 use Rattle.flat_code.specs.Memory.{Cells, Found}
-use Rattle.flat_code.specs.Meaning.{State, Outcome, Next, Left, Returned, Over, and_then, spent, raised, trapped, with_found, with_cells, error_text, finished, looped}
+use Rattle.flat_code.specs.Meaning.{State, Outcome, Next, Left, Returned, Over, and_then, spent, raised, trapped, with_found, with_cells, error_text, looped}
 use Rattle.flat_run.specs.Running.{forget, stop_of, Stops}
 
 through : (h : Outcome → Outcome) → ((standing : Standing) (t : State) → h (Over standing t) ≡ Over standing t) → (o : Outcome) (standing : Standing) (t : State) → forget o ≡ Over standing t → forget (h o) ≡ Over standing t
@@ -40,9 +40,6 @@ stops-through h keeps (stop.Undefined act) s o p = through h keeps o (Undefined 
 
 pub stops-and_then : (stop : Stop) (s : State) (o : Outcome) (go : State → Outcome) → Stops stop s o → Stops stop s (and_then o go)
 stops-and_then stop s o go = stops-through (λ o. and_then o go) (λ standing t. refl) stop s o
-
-pub stops-finished : (stop : Stop) (s : State) (o : Outcome) (go : State → Outcome) → Stops stop s o → Stops stop s (finished o go)
-stops-finished stop s o go = stops-through (λ o. finished o go) (λ standing t. refl) stop s o
 
 pub stops-looped : (stop : Stop) (s : State) (o : Outcome) (go : State → Outcome) → Stops stop s o → Stops stop s (looped o go)
 stops-looped stop s o go = stops-through (λ o. looped o go) (λ standing t. refl) stop s o

@@ -14,7 +14,7 @@ use Rattle.code_lines.specs.Lines.{Around, step_pointers, pointers, labels, test
 use Rattle.code_references.specs.declared.marks.MarkedLine.{MarkedLine}
 use Rattle.code_references.specs.Marks.{bare}
 use Rattle.code_references.specs.Marked.{marked_expr, marked_step, marked_code, step_stored, stored}
-use Rattle.generate_code.specs.Numbering.{Numbering, begun, past, inside, behind_first, outside}
+use Rattle.generate_code.specs.Numbering.{Numbering, past, inside, behind_first, outside}
 
 -- the pieces of a statement with two branches, and those of a loop
 abbrev test_head : ℕ → List MarkedLine
@@ -251,22 +251,3 @@ labels-end list i past_it = at_drop_all (λ (d : List FlatStmt). labels (view_li
 pub stored-end : (whole kept : List RoutineId) (list : List FlatStmt) (i : ℕ) → length list ≤ i → whole ≡ kept ++ stored (view_list (drop i list)) → kept ≡ whole
 stored-end whole kept list i past_it e =
     sym (e ∙ ap (λ z. kept ++ z) (at_drop_all (λ (d : List FlatStmt). stored (view_list d)) list i past_it) ∙ append-nil kept)
-
--- ---- a body and the label of its end
-
-pub body-joined : (unit : UnitCode) (far : Bool) (b e : Numbering) (home last : ℕ) (before : List RoutineId) (code : Code) (l0 l1 l2 : List MarkedLine)
-    → b ≡ begun home before → e.around ≡ b.around → last ≡ e.around.home
-    → l1 ≡ l0 ++ marked_code unit far b.around b.label (length b.stored) code
-    → l2 ≡ l1 ++ bare (Label last ∷ [])
-    → l2 ≡ l0 ++ (marked_code unit far (begun home []).around (home + 1) (length before) code ++ bare (Label home ∷ []))
-body-joined unit far b e home last before code l0 l1 l2 start same is e1 e2 =
-    let one = marked_code unit far (begun home []).around (home + 1) (length before) code in
-    let f1 : l1 ≡ l0 ++ one = e1 ∙ ap (λ (p : Numbering). l0 ++ marked_code unit far p.around p.label (length p.stored) code) start in
-    let at : last ≡ home = is ∙ ap (λ (p : Around). p.home) (same ∙ ap (λ (p : Numbering). p.around) start) in
-    e2 ∙ ap (λ n. l1 ++ bare (Label n ∷ [])) at ∙ ap (λ z. z ++ bare (Label home ∷ [])) f1 ∙ append_assoc l0 one (bare (Label home ∷ []))
-
-pub body-home : (b e : Numbering) (home : ℕ) (before : List RoutineId) → b ≡ begun home before → e.around ≡ b.around → e.around.home ≡ home
-body-home b e home before start same = ap (λ (p : Around). p.home) (same ∙ ap (λ (p : Numbering). p.around) start)
-
-pub body-stored : (b e : Numbering) (home : ℕ) (before : List RoutineId) (code : Code) → b ≡ begun home before → e.stored ≡ b.stored ++ stored code → e.stored ≡ before ++ stored code
-body-stored b e home before code start kept = kept ∙ ap (λ (p : Numbering). p.stored ++ stored code) start

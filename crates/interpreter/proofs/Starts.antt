@@ -1,5 +1,5 @@
 -- The start of a program, and how its run stands.
-use Rattle.std.proofs.Common.{◌≡◌, ℕ, suc, ◌+◌, ◌<◌, Option, Some, None, List, [], ◌∷◌, ◌++◌, length, map, take, drop, drop-cons, get_or, refl, sym, ap, subst, ◌∙◌, append_assoc, append-nil, arith}
+use Rattle.std.proofs.Common.{◌≡◌, ℕ, ◌+◌, ◌<◌, Option, Some, None, List, [], ◌∷◌, ◌++◌, length, map, take, get_or, refl, sym, ap, subst, ◌∙◌, append_assoc, append-nil}
 use Rattle.std.specs.List.{flat_map}
 use Rattle.std.proofs.lemmas.List.{take_more, map_push}
 use Rattle.std.proofs.lemmas.List.Concat.{flat_map-cons}
@@ -14,13 +14,12 @@ use Rattle.typed_tree.specs.declared.units.Program.{Program}
 use Rattle.meaning.specs.Trees.{Key, Value, Tree}
 use Rattle.meaning.specs.Shapes.{first_tree}
 use Rattle.meaning.specs.Store.{Object, Store, with_new}
-use Rattle.meaning.specs.Outcomes.{State, Outcome, Done, Over, Does, and_then, give}
+use Rattle.meaning.specs.Outcomes.{State, Outcome, Done, Over, and_then, give}
 use Rattle.meaning.specs.Activations.{Activation, variable_object}
 use Rattle.meaning.specs.Calls.{entered}
-use Rattle.meaning.specs.Meaning.{run, start_store, start_state, started, all_started, seen_of, seen_so, unit_objects}
+use Rattle.meaning.specs.Meaning.{run, start_store, start_state, all_started, seen_of, seen_so, unit_objects}
 use Rattle.interpreter_steps.specs.declared.state.Over.{Over as OverAs}
 use Rattle.interpreter_steps.specs.Running.{shown, Ends, Comes}
-use Rattle.interpreter_steps.proofs.Ends.{ends_bind}
 use Rattle.interpreter_frames.specs.declared.frames.Frame.{Frame}
 use Rattle.interpreter_frames.specs.Frames.{frames_over, nothing_left}
 use Rattle.interpreter.specs.Whole.{global_objects}
@@ -33,19 +32,6 @@ given (Over standing s) = refl
 -- a part that runs where no frame waits
 pub alone : (p : Program) (frames : List Frame) (f : Activation) (o : Outcome Value) → frames ≡ [] → and_then o (λ v. (frames_over p nothing_left frames).value v f) ≡ o
 alone p frames f o e = ap (λ (l : List Frame). and_then o (λ v. (frames_over p nothing_left l).value v f)) e ∙ given o
-
--- it comes where what is left comes
-pub comes_alone : {B : Type 0} (view : B → Value) (r : Result B OverAs) (t : State) (p : Program) (frames : List Frame) (f : Activation) (o o' : Outcome Value) → frames ≡ []
-    → and_then o (λ v. (frames_over p nothing_left frames).value v f) ≡ o' → Comes view r t o' → Comes view r t o
-comes_alone view r t p frames f o o' e same x = subst (Comes view r t) (sym same ∙ alone p frames f o e) x
-
-pub ends_alone : (over : OverAs) (t : State) (p : Program) (frames : List Frame) (f : Activation) (o : Outcome Value) → frames ≡ []
-    → Ends over t (and_then o (λ v. (frames_over p nothing_left frames).value v f)) → Ends over t o
-ends_alone over t p frames f o e x = subst (Ends over t) (alone p frames f o e) x
-
--- one unit, and then the others
-pub comes_behind : (over : OverAs) (t : State) {s : State} (o : Outcome Value) (v : Value) (g : Value → Does Value) → o ≡ Done v s → Ends over t (g v s) → Ends over t (and_then o g)
-comes_behind over t o v g e x = subst (Ends over t) (sym (ap (λ (y : Outcome Value). and_then y g) e)) x
 
 -- what is shown is seen
 pub shown_is : (o : Outcome Value) (seen : Seen) → shown o ≡ Some seen → seen_of o ≡ seen
@@ -109,20 +95,3 @@ pub start_is : (p : Program) (input : List ℕ) (turns : ℕ) (units : List Type
 start_is p input turns units store out err d e f g =
     let go : List TypedUnit → Store → List ℕ → List ℕ → Outcome Value = λ units store out err. all_started p (run p) units (record { turns = turns; store = store; installed = false; input = input; out = out; err = err }) in
     ap (λ (units : List TypedUnit). go units store out err) d ∙ ap (λ (store : Store). go p.units store out err) e ∙ ap (λ (out : List ℕ). go p.units (start_store p) out err) f ∙ ap (go p.units (start_store p) []) g
-
--- the units that are left, behind one that has begun
-pub units_left : (p : Program) (units : List TypedUnit) (i : ℕ) (one : TypedUnit) (o : Outcome Value) (s t : State) (v : Value) → i < length units → one ≡ get_or units i one
-    → o ≡ all_started p (run p) (drop i units) s → started p (run p) one one.initial s ≡ Done v t → o ≡ all_started p (run p) (drop (i + 1) units) t
-units_left p units i one o s t v h e same x =
-    let next : suc i ≡ i + 1 = omega arith in
-    let first : drop i units ≡ one ∷ drop (i + 1) units = drop-cons units i one h ∙ ap (λ n. get_or units i one ∷ drop n units) next ∙ ap (λ (unit : TypedUnit). unit ∷ drop (i + 1) units) (sym e) in
-    same ∙ ap (λ (units : List TypedUnit). all_started p (run p) units s) first ∙ ap (λ (o : Outcome Value). and_then o (λ v. all_started p (run p) (drop (i + 1) units))) x
-
--- a unit that ends the run ends that of the units that are left
-pub units_end : (over : OverAs) (p : Program) (units : List TypedUnit) (i : ℕ) (one : TypedUnit) (o : Outcome Value) (s t : State) → i < length units → one ≡ get_or units i one
-    → o ≡ all_started p (run p) (drop i units) s → Ends over t (started p (run p) one one.initial s) → Ends over t o
-units_end over p units i one o s t h e same x =
-    let next : suc i ≡ i + 1 = omega arith in
-    let first : drop i units ≡ one ∷ drop (i + 1) units = drop-cons units i one h ∙ ap (λ n. get_or units i one ∷ drop n units) next ∙ ap (λ (unit : TypedUnit). unit ∷ drop (i + 1) units) (sym e) in
-    subst (Ends over t) (sym (same ∙ ap (λ (units : List TypedUnit). all_started p (run p) units s) first))
-    (ends_bind over t (started p (run p) one one.initial s) (λ v. all_started p (run p) (drop (i + 1) units)) x)

@@ -98,11 +98,6 @@ expected p r w t s old new one go pushed same x = goes p r w t _ _ (
     ap (λ (rest : Rest). with_value rest (view_activation old.f) (go (view_activation old.f)) s) (sym pushed)
     ∙ ap (λ (f : ActivationOf). with_value (rest_of p new) (view_activation f) (go (view_activation f)) s) (sym same)) x
 
--- the same where another part follows before the rest
-pub moves1_spent : {A B : Type 0} (p : Program) (r : Result NextStep OverAs) (w : Work) (s s' : State) (go : Does A) (g : A → Does B) (k : B → Does Value)
-    → ((more : Does Value) → spending more s ≡ more s') → Goes p r w s' (and_then (go s') (λ a t. and_then (g a t) k)) → Goes p r w s' (and_then (and_then (spending go s) g) k)
-moves1_spent p r w s s' go g k spent x = moves1 p r w s' (spending go s) g k (moves_spent p r w s s' go (λ a t. and_then (g a t) k) spent x)
-
 pub ends_spent_two : {A B : Type 0} (over : OverAs) (s s' : State) (go : Does A) (g : A → Does B) (k : B → Does Value)
     → ((more : Does Value) → Ends over s' (spending more s)) → Ends over s' (and_then (and_then (spending go s) g) k)
 ends_spent_two over s s' go g k ends = subst (Ends over s') (sym (two_binds (spending go s) g k)) (ends_spent over s s' go (λ a t. and_then (g a t) k) ends)
@@ -123,7 +118,3 @@ ends_three over s o g h k x = ends_bind over s (and_then (and_then o g) h) k (en
 pub moves_found2 : {A B C : Type 0} (p : Program) (r : Result NextStep OverAs) (w : Work) (t : State) {s : State} (o : Outcome A) (a : A) (g : A → Does B) (h : B → Does C) (k : C → Does Value)
     → o ≡ Done a s → Goes p r w t (and_then (and_then (g a s) h) k) → Goes p r w t (and_then (and_then (and_then o g) h) k)
 moves_found2 {A} p r w t o a g h k e x = goes p r w t _ _ (ap (λ (y : Outcome A). and_then (and_then (and_then y g) h) k) e) x
-
-pub ends_found2 : {A B C : Type 0} (over : OverAs) (t : State) (o : Outcome A) (a : A) (g : A → Does B) (h : B → Does C) (k : C → Does Value) {s : State}
-    → o ≡ Done a s → Ends over t (and_then (and_then (g a s) h) k) → Ends over t (and_then (and_then (and_then o g) h) k)
-ends_found2 {A} over t o a g h k {s} e x = subst (Ends over t) (sym (ap (λ (y : Outcome A). and_then (and_then (and_then y g) h) k) e)) x

@@ -5,14 +5,12 @@ use Rattle.behaviour.specs.Seen.{Seen, Ended, Going, Undefined, Stopped}
 use Rattle.values.specs.Written.{error_text}
 use Rattle.cell_store.specs.declared.traps.Trap.{Trap}
 use Rattle.cell_store.specs.declared.traps.Trap.TheVariants as trap
-use Rattle.cell_store.specs.declared.traps.Stop.{Stop}
-use Rattle.cell_store.specs.declared.traps.Stop.TheVariants as stop
-use Rattle.cell_store.specs.Finding.{view_trap, Gets}
+use Rattle.cell_store.specs.Finding.{view_trap}
 use Rattle.interpreter_steps.specs.declared.state.Over.{Over}
 use Rattle.interpreter_steps.specs.declared.state.Over.TheVariants as over
 use Rattle.meaning.specs.Found.{Found, Act, Error, IllTyped}
 use Rattle.meaning.specs.Outcomes.{State, Outcome, Done, Over as OverIn, Does, and_then, found}
-use Rattle.interpreter_steps.specs.Running.{shown, Ends, over_of, over_of_trap}
+use Rattle.interpreter_steps.specs.Running.{shown, Ends, over_of_trap}
 
 through : {A B : Type 0} (o : Outcome A) (go : A → Does B) (seen : Seen) → shown o ≡ Some seen → shown (and_then o go) ≡ Some seen
 through (Done a s) go seen e = absurd cc
@@ -31,10 +29,6 @@ pub trap_ends : {A : Type 0} (trap : Trap) (s : State) (x : Found A) → x ≡ E
 trap_ends {A} (trap.Act number) s x e = ap (λ (x : Found A). shown (found x s)) e
 trap_ends {A} (trap.Error code) s x e = ap (λ (x : Found A). shown (found x s)) e
 trap_ends {A} trap.IllTyped s x e = ap (λ (x : Found A). shown (found x s)) e
-
-pub found_ends : {A B : Type 0} (view : B → A) (one : Stop) (s : State) (x : Found A) → Gets view (Err one) x → Ends (over_of one) s (found x s)
-found_ends view stop.NoRoom s x e = tt
-found_ends view (stop.Trapped trap) s x e = trap_ends trap s x e
 
 -- what comes first was found
 pub ends_behind : {A B : Type 0} (one : Over) (t : State) {s : State} (o : Outcome A) (a : A) (go : A → Does B) → o ≡ Done a s → Ends one t (go a s) → Ends one t (and_then o go)

@@ -64,9 +64,6 @@ module _ (s : Scope) (around : List ℕ) where
 
 -- ---- variables
 
-level_zero : (depth : ℕ) → level_from depth 0 ≡ 0
-level_zero depth = refl
-
 level_next : (depth level : ℕ) → level_from depth (suc level) ≡ suc (depth - suc level)
 level_next depth level =
     let no : (suc level == 0) ≡ false = grind arith in

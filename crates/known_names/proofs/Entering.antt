@@ -147,19 +147,6 @@ module _ (g : Environment) (name : List ℕ) (one : Entry) where
           let joined : AreLasting (e.rest ++ new ∷ []) = lasting_join e.rest new (lasting_rest e.rest e.last whole) (lasting_last e.rest e.last whole) in
           subst (λ (b : List OpenBlock). AreLasting (these b name one)) (sym e.is) (subst (λ (b : List OpenBlock). AreLasting b) (sym (record_end e.rest e.last)) joined)
 
-  -- as many blocks as before
-  pub named_count : length (these g.blocks name one) ≡ length g.blocks
-  named_count = by (ends g.blocks)
-    where
-      by : (g.blocks ≡ []) ⊎ Ends g.blocks → length (these g.blocks name one) ≡ length g.blocks
-      by (inl none) = ap (λ (b : List OpenBlock). length (these b name one)) none ∙ sym (ap (λ (b : List OpenBlock). length b) none)
-      by (inr e) =
-          let new : OpenBlock = record { kind = e.last.kind; symbols = e.last.symbols ++ (name, one) ∷ [] } in
-          ap (λ (b : List OpenBlock). length (these b name one)) e.is
-          ∙ ap (λ (b : List OpenBlock). length b) (record_end e.rest e.last)
-          ∙ length-append e.rest (new ∷ [])
-          ∙ sym (ap (λ (b : List OpenBlock). length b) e.is ∙ length-append e.rest (e.last ∷ []))
-
 pub named_known : (g : Environment) (s : Scope) (name : List ℕ) (one : Entry) → AreKnown g s → IsEntry s (open_in g) one → AreKnown (with_name g name one) s
 named_known g s name one h k =
     let same : open_from [] (these g.blocks name one) ≡ open_in g = named_open g name one in

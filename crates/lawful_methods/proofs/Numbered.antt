@@ -177,9 +177,6 @@ module _ (name : List ℕ) (g h : Environment) (routines news : List Numbered) (
 
 -- ---- a block that was read
 
-some_done : (done other : Done) → Some done ≡ Some other → done ≡ other
-some_done done other e = cc
-
 pub finished_on : (name : List ℕ) (table : Table) (routines : List Numbered) (number : ℕ) (done : Done) → number ≤ 4294967295 → HaveRoutines name table routines
     → HaveRoutines name table (finishing number done routines)
 finished_on name table routines number done low h = record { placed = h.placed; methods = methods; owners = owners; few = few }

@@ -1,14 +1,14 @@
 -- What acts say stays the same while the pool grows.
-use Rattle.std.proofs.Common.{◌≡◌, ℕ, ◌+◌, ◌≤◌, ◌<◌, List, [], ◌∷◌, ◌++◌, length, take, drop, refl, ap, ◌∙◌, arith}
+use Rattle.std.proofs.Common.{◌≡◌, ℕ, ◌+◌, ◌≤◌, List, [], ◌∷◌, ◌++◌, length, take, drop, refl, ap, ◌∙◌, arith}
 use Rattle.std.specs.List.{All, AllByRecursion}
 use Rattle.std.proofs.lemmas.List.{take-append-le, drop-append-le, take_all, map-append, length-drop}
 use Rattle.std.proofs.lemmas.List.Sums.{sum_by_push}
-use Rattle.std.proofs.lemmas.List.Elements.{recursion_from_All, All-push, All-weaker}
+use Rattle.std.proofs.lemmas.List.Elements.{recursion_from_All}
 use Rattle.std.proofs.Math.Seq.{drop-append_seam}
 use Rattle.literal_code.specs.declared.act.Act.{Act}
 use Rattle.literal_code.specs.declared.act.Act.TheVariants as act
 use Rattle.literal_code.specs.Statement.{write, text_size, size_of}
-use Rattle.literal_code.specs.Act.{end_of, end_code, IsWithin, statement_of, statements_in}
+use Rattle.literal_code.specs.Act.{end_of, IsWithin, statement_of, statements_in}
 
 range-grows : (pool more : List ℕ) (from count : ℕ) → from + count ≤ length pool → take count (drop from (pool ++ more)) ≡ take count (drop from pool)
 range-grows pool more from count h =
@@ -38,12 +38,6 @@ statements_in-write pool bytes acts h =
 
 pub statements_in-write_at : (pool bytes : List ℕ) (acts : List Act) (from count : ℕ) → from ≡ length pool → count ≡ length bytes → All (IsWithin from) acts → statements_in (pool ++ bytes) (acts ++ act.Write from count ∷ []) ≡ statements_in pool acts ++ write bytes ∷ []
 statements_in-write_at pool bytes acts from count e f h = rw (e, f) (statements_in-write pool bytes acts (rw e at h))
-
-pub within-grows : (n m : ℕ) (acts : List Act) → n ≤ m → All (IsWithin n) acts → All (IsWithin m) acts
-within-grows n m acts h all = All-weaker (IsWithin n) (IsWithin m) (λ a w. record { in_pool = omega (arith, w.in_pool); code = w.code }) acts all
-
-pub within-push : (n : ℕ) (a : Act) (acts : List Act) → end_of a ≤ n → end_code a < 256 → All (IsWithin n) acts → All (IsWithin n) (acts ++ a ∷ [])
-within-push n a acts h k all = All-push (IsWithin n) acts a all (record { in_pool = h; code = k })
 
 -- a pool that has no more than what the acts write, and one act more
 pub full-write : (pool bytes : List ℕ) (acts : List Act) (from count new : ℕ) → from ≡ length pool → count ≡ length bytes → All (IsWithin from) acts → from ≡ size_of (statements_in pool acts) → new ≡ from + count → new ≡ size_of (statements_in (pool ++ bytes) (acts ++ act.Write from count ∷ []))

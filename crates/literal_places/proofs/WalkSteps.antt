@@ -8,7 +8,7 @@ use Rattle.syntax_tree.specs.declared.statement.Statement as source
 use Rattle.typed_tree.specs.declared.statements.WriteItem.{WriteItem}
 use Rattle.typed_tree.specs.declared.statements.Stmt.{Stmt}
 use Rattle.typed_tree.specs.Statements as typed
-use Rattle.typed_tree.specs.Statements.{Statements, NoStatements, Then, view_stmt, view_stmts, view_written}
+use Rattle.typed_tree.specs.Statements.{Statements, Then, view_stmt, view_stmts, view_written}
 use Rattle.literal_places.specs.Outlines.{Outline, empty, compound, call, other, Outlines, and_outline, outline_of, outlines_of}
 use Rattle.literal_places.specs.Places.{is_text, argument_at, first_item, is_empty, or_else, first_in, first_among}
 
@@ -49,12 +49,6 @@ module _ (types : List TypeDef) (at : Place) where
   skipped (call here given) others typed is = absurd cc
   skipped (other here) others typed is = absurd cc
 
-  none_left : (one : Outline) (others : Outlines) → is_empty one ≡ false → first_among types at (and_outline one others) NoStatements ≡ None
-  none_left empty others is = absurd cc
-  none_left (compound here parts) others is = refl
-  none_left (call here given) others is = refl
-  none_left (other here) others is = refl
-
   beside : (one : Outline) (others : Outlines) (typed : typed.Statement) (rest : Statements) → is_empty one ≡ false
       → first_among types at (and_outline one others) (Then typed rest) ≡ or_else (first_in types at one typed) (first_among types at others rest)
   beside empty others typed rest is = absurd cc
@@ -74,11 +68,6 @@ module _ (types : List TypeDef) (at : Place) (sources : List source.Statement) (
 
   pub walk_past : (typed : List Stmt) → is_empty (outline_of one) ≡ true → whole typed ≡ left typed
   walk_past typed is = unrolled typed ∙ skipped types at (outline_of one) (outlines_of (drop (i + 1) sources)) (view_stmts typed) is
-
-  pub walk_ends : (typed : List Stmt) → is_empty (outline_of one) ≡ false → typed ≡ [] → whole typed ≡ None
-  walk_ends typed is none =
-      unrolled typed ∙ ap (λ (l : List Stmt). first_among types at (and_outline (outline_of one) (outlines_of (drop (i + 1) sources))) (view_stmts l)) none
-      ∙ none_left types at (outline_of one) (outlines_of (drop (i + 1) sources)) is
 
   steps : (typed rest : List Stmt) (next : Stmt) (found : Option Place) → is_empty (outline_of one) ≡ false → typed ≡ next ∷ rest → found ≡ first_in types at (outline_of one) (view_stmt next)
       → whole typed ≡ or_else found (left rest)

@@ -2,7 +2,7 @@
 use Rattle.std.proofs.Common.{◌≡◌, ◌≢◌, All, drop, ◌∷◌, add-one, ℕ, ◌+◌, ◌-◌, ◌*◌, ◌<◌, ◌≤◌, Bool, true, false, cond, List, length, get_or, refl, sym, ap, ap₂, ◌∙◌, subst, arith}
 use Rattle.std.proofs.lemmas.Bool.Decides.{nat_tests, Decides-eqb}
 use Rattle.std.proofs.lemmas.List.{get_or-set_same, get_or-set_other}
-use Rattle.std.proofs.lemmas.List.FromFn.{length-map-range_with_len, get_or-map-range_with_len, fill_by_all}
+use Rattle.std.proofs.lemmas.List.FromFn.{get_or-map-range_with_len, fill_by_all}
 use Rattle.std.proofs.Math.ListN.{set, length-set}
 use Rattle.std.proofs.Math.Seq.{drop-cons}
 use Rattle.std.specs.Bool.{nat_lt, nat_eq}
@@ -11,8 +11,7 @@ use Rattle.cpu_8086.specs.declared.registers.Far.{Far}
 use Rattle.mz_file.specs.declared.executable.Exe.{Exe}
 use Rattle.mz_file.specs.Format.{IsWithin}
 use Rattle.mz_file.specs.Words.{word_at, with_word}
-use Rattle.mz_file.specs.Load.{image_byte, loaded_byte, loaded_memory, loaded_segment, with_loaded_segment, relocated, HoldsImage, IsLoadable}
-use Rattle.mz_file.specs.Spelling.{IsWritable}
+use Rattle.mz_file.specs.Load.{image_byte, loaded_byte, loaded_memory, loaded_segment, with_loaded_segment, relocated, HoldsImage}
 
 image_byte-set_other : (image : List ℕ) (place address value : ℕ) → address ≢ 0x700 + place → image_byte (set image place value) address ≡ image_byte image address
 image_byte-set_other image place address value differs = either (nat_lt address 0x700) refl
@@ -80,11 +79,6 @@ pub held_is_loaded : (exe : Exe) (memory : List ℕ) → HoldsImage memory (relo
 unfolding loaded_memory
 held_is_loaded exe memory held = fill_by_all (loaded_byte exe) memory 1048576 0 held.size held.bytes
 
--- the memory of a loaded executable, byte by byte
-pub length-loaded_memory : (exe : Exe) (size : ℕ) → length (loaded_memory exe size) ≡ size
-unfolding loaded_memory
-length-loaded_memory exe size = length-map-range_with_len (loaded_byte exe) 0 size
-
 pub get_or-loaded_memory : (exe : Exe) (size address : ℕ) → address < size → get_or (loaded_memory exe size) address 0 ≡ loaded_byte exe address
 unfolding loaded_memory
 get_or-loaded_memory exe size address below = get_or-map-range_with_len (loaded_byte exe) 0 size address address 0 below (omega arith)
@@ -110,7 +104,3 @@ under_way-next memory image fars index none inside room below under_way =
       size = length-with_word part place (loaded_segment (word_at part place)) ∙ under_way.size;
       left = sym (ap (relocated part) split) ∙ under_way.left;
     }
-
--- what can be written can be loaded
-pub loadable-writable : (exe : Exe) → IsWritable exe → IsLoadable exe
-loadable-writable exe writable = record { inside = writable.inside; size = omega (arith, writable.pages) }

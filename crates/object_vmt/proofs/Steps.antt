@@ -18,13 +18,6 @@ answer_first fault rest whole (BadOverride method) is answer = is ∙ ap (λ (z 
 answer_first fault rest whole (MissingVirtual method) is answer = is ∙ ap (λ (z : Option ClassError). first_of z rest) answer
 answer_first fault rest whole (DuplicateField name) is answer = is ∙ ap (λ (z : Option ClassError). first_of z rest) answer
 
--- the second, where there is no first
-pub answer_rest : (fault rest whole : Option ClassError) (e : ClassError) → fault ≡ None → whole ≡ first_of fault rest → IsAnswerTo rest e → IsAnswerTo whole e
-answer_rest fault rest whole NoMemory none is answer = tt
-answer_rest fault rest whole (BadOverride method) none is answer = is ∙ ap (λ (z : Option ClassError). first_of z rest) none ∙ answer
-answer_rest fault rest whole (MissingVirtual method) none is answer = is ∙ ap (λ (z : Option ClassError). first_of z rest) none ∙ answer
-answer_rest fault rest whole (DuplicateField name) none is answer = is ∙ ap (λ (z : Option ClassError). first_of z rest) none ∙ answer
-
 pub fields_step : (first now next : Members) (fields : List Field) (i : ℕ) (one : Field) → i < length fields → one ≡ get_or fields i one
     → now ≡ with_fields first (take i fields) → fields_fault first fields ≡ fields_fault now (drop i fields)
     → field_fault now one ≡ None → next ≡ with_fields now (one ∷ [])

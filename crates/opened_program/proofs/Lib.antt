@@ -1,3 +1,2 @@
 pub mod MatchLaws
-pub mod OpenLaws
 pub mod ReasonLaws

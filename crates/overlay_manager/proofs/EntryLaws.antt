@@ -11,10 +11,6 @@ pub byte-is : (memory : List ℕ) (segment offset : ℕ) → load_byte memory se
 unfolding load_byte
 byte-is memory segment offset = refl
 
--- an offset below 65536 is itself
-itself : (n : ℕ) → n < 65536 → n % 65536 ≡ n
-itself n small = omega arith
-
 -- a word, where a byte was stored elsewhere in the segment
 word-off : (memory : List ℕ) (stub offset v at : ℕ) → address stub at ≢ address stub offset → address stub (next_offset at) ≢ address stub offset → load_word (store_byte memory stub offset v) stub at ≡ load_word memory stub at
 word-off memory stub offset v at low high =

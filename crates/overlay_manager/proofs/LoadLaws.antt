@@ -100,11 +100,6 @@ both_of true true is = (refl, refl)
 both_of true false is = absurd cc
 both_of false b is = absurd cc
 
-outside_table : (table : List Loaded) (v : ℕ) → length table ≤ v → (overlay_at table v).load ≡ 0
-outside_table [] v past = refl
-outside_table (overlay ∷ table) zero past = absurd (omega arith)
-outside_table (overlay ∷ table) (suc v) past = outside_table table v (omega arith)
-
 -- the segment of an overlay, by its place
 pub segment-of : (room : ℕ) (seats : List Seat) (v : ℕ) (at : Option ℕ) → place_of v seats ≡ at → load_segment room seats v ≡ option_map_or (λ at. (buffer_segment room + at) % 65536) at 0
 segment-of room seats v at there = ap (λ place. option_map_or (λ at. (buffer_segment room + at) % 65536) place 0) there

@@ -81,9 +81,6 @@ words_at-step bytes k count below =
     let next : 2 * k + 2 ≡ 2 * (k + 1) = omega arith in
     ap (λ (n : ℕ). words_at bytes (2 * k) n) left ∙ ap (λ (at : ℕ). word_at bytes (2 * k) ∷ words_at bytes at (count - (k + 1))) next
 
-pub words_at-none : (bytes : List ℕ) (place n : ℕ) → n ≡ 0 → words_at bytes place n ≡ []
-words_at-none bytes place n none = ap (words_at bytes place) none
-
 -- words one after another, and fixups made one after another
 pub words_at-append : (bytes : List ℕ) (place done count : ℕ) → words_at bytes place (done + count) ≡ words_at bytes place done ++ words_at bytes (place + 2 * done) count
 words_at-append bytes place zero count =

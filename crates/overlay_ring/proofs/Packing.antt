@@ -6,7 +6,7 @@ use Rattle.std.proofs.lemmas.List.{append_assoc, take-append-drop}
 use Rattle.overlay_ring.specs.declared.seat.Seat.{Seat}
 use Rattle.overlay_ring.specs.Table.{Entry, end_of, AreApart, IsTable}
 use Rattle.overlay_ring.specs.Seats.{entry_of, table_of, is_seated, paragraphs, HasItsSize, IsSeating, AreOverlays}
-use Rattle.overlay_ring.specs.Ring.{load_of, new_seat, after_load, is_live, reprieved, reprieved_for, packed, with_reprieved, retry_after}
+use Rattle.overlay_ring.specs.Ring.{load_of, new_seat, after_load, is_live, reprieved, reprieved_for, packed, with_reprieved}
 use Rattle.overlay_ring.proofs.Sizes.{paragraphs-append}
 use Rattle.overlay_ring.proofs.Reprieve.{is_reprieved}
 use Rattle.overlay_ring.proofs.Sound.{load-sound}
@@ -138,8 +138,3 @@ retry-sound sizes room live most wanted seats overlays known seating absent =
     (reprieved-within live most (paragraphs list) room gone)
     (roster_chosen live most (paragraphs list) room sizes gone list (roster_of_all sizes room wanted seats known seating absent))
     (load-sound sizes room wanted seats overlays known seating absent)
-
-pub retry_after-sound : (sizes : List ℕ) (room : ℕ) (live : List Bool) (most wanted : ℕ) (seats : List Seat) → AreOverlays room sizes → wanted < length sizes → IsSeating sizes room seats → IsSeating sizes room (retry_after sizes room live most wanted seats)
-retry_after-sound sizes room live most wanted seats overlays known seating =
-    cond_both (is_seated wanted seats) seats _ (IsSeating sizes room)
-    (λ _. seating) (λ absent. retry-sound sizes room live most wanted seats overlays known seating absent)

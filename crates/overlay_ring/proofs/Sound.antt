@@ -5,7 +5,7 @@ use Rattle.std.proofs.lemmas.Bool.{and_cases, or_parts, ltb-false, leb-true, eqb
 use Rattle.overlay_ring.specs.declared.seat.Seat.{Seat}
 use Rattle.overlay_ring.specs.Table.{Entry, LiesInside, AreApart, IsTable}
 use Rattle.overlay_ring.specs.Seats.{entry_of, table_of, is_seated, overlaps, HasItsSize, IsSeating, AreOverlays}
-use Rattle.overlay_ring.specs.Ring.{load_of, new_seat, after_load, end_of_newest, next_place, ring_after}
+use Rattle.overlay_ring.specs.Ring.{load_of, new_seat, after_load, end_of_newest, next_place}
 use Rattle.overlay_ring.proofs.Drops.{drop_count-clears}
 
 all_entries_push : (P : Entry → Type 0) (xs : List Seat) (s : Seat) → AllByRecursion P (table_of xs) → P (entry_of s) → AllByRecursion P (table_of (xs ++ s ∷ []))
@@ -66,8 +66,3 @@ load-sound sizes room wanted seats overlays known seating absent =
           (record { known = known; inside = next_place-fits room load.size seats fits.1 })
           (drop_count-clears load.at load.size seats) (is_seated-drop wanted load.dropped seats absent);
     }
-
-pub ring_after-sound : (sizes : List ℕ) (room wanted : ℕ) (seats : List Seat) → AreOverlays room sizes → wanted < length sizes → IsSeating sizes room seats → IsSeating sizes room (ring_after sizes room wanted seats)
-ring_after-sound sizes room wanted seats overlays known seating =
-    cond_both (is_seated wanted seats) seats (after_load (load_of sizes room wanted seats) wanted seats) (IsSeating sizes room)
-    (λ _. seating) (λ absent. load-sound sizes room wanted seats overlays known seating absent)

@@ -1,5 +1,5 @@
 -- Runs of a program with overlays, event behind event.
-use Rattle.std.proofs.Common.{◌≡◌, ℕ, zero, suc, ◌+◌, ◌<◌, ◌≤◌, Bool, true, List, [], Option, Some, None, IfSome, refl, sym, subst, ◌∙◌, arith}
+use Rattle.std.proofs.Common.{◌≡◌, ℕ, zero, suc, ◌+◌, ◌<◌, Bool, true, List, [], Option, Some, None, IfSome, refl, sym, subst, ◌∙◌, arith}
 use Rattle.tp_outside.specs.Folder.{Folder, bytes_of}
 use Rattle.cpu_8086.specs.State.{State}
 use Rattle.cpu_8086.specs.Process.{Running}
@@ -7,11 +7,11 @@ use Rattle.dos_runner.specs.declared.runner.RunEnd.{RunEnd}
 use Rattle.dos_runner.specs.declared.runner.RunEnd.TheVariants as ends
 use Rattle.dos_runner.specs.Run.{Progress}
 use Rattle.dos_runner.specs.Outside.{Outside, Counts, Gave, Progresses}
-use Rattle.dos_runner.proofs.Composition.{behind, gave_none, took_none, run_behind, joined, risen_later, rose_later}
+use Rattle.dos_runner.proofs.Composition.{behind, gave_none, took_none, run_behind, joined, risen_later}
 use Rattle.overlay_manager.specs.Manager.{Manager}
 use Rattle.overlay_run.specs.Managed.{Managed, ManagedGoes, ManagedRuns}
 use Rattle.overlay_runner.specs.declared.course.Course.{Course}
-use Rattle.overlay_runner.specs.Event.{managed, IsManagedEvent, FindsTrap, FailsLoading, FailsManagedReading, ManagedAdvances, Rises}
+use Rattle.overlay_runner.specs.Event.{managed, IsManagedEvent, FindsTrap, FailsLoading, FailsManagedReading, ManagedAdvances}
 use Rattle.overlay_runner.specs.Course.{IsManagedRun, ComesTo, FailsAtTrap, Courses, events_in}
 
 -- one event more
@@ -159,28 +159,3 @@ ends-so (Some held) now_known end events traps traps' limit old now new o o1 o2 
     ManagedAdvances (IsManagedEvent (bytes_of held name) now.machine now.ovr traps new.ovr traps' new.over) (FindsTrap now.ovr now.machine) (Some end) now new traps traps' o1 o2 in
     let one : E held old.ovr.name = subst (E held) name (subst (λ (known : Option Folder). IfSome known (λ held. E held now.ovr.name)) same event) in
     ends-by (bytes_of held old.ovr.name) end events traps traps' limit old now new o o1 o2 below counts before one
-
--- the limit is reached
-pub ends-at-limit : (known : Option Folder) (events traps limit : ℕ) (old now : Course) (o o1 : Outside) → events ≡ limit → IfSome known (λ held. SoFar (bytes_of held old.ovr.name) events traps old now o o1)
-    → IfSome known (λ held. Courses (bytes_of held old.ovr.name) (ends.Limit limit) limit traps limit old now o o1)
-ends-at-limit None events traps limit old now o o1 all before = tt
-ends-at-limit (Some held) events traps limit old now o o1 all before =
-    let run : SoFar (bytes_of held old.ovr.name) limit traps old now o o1 = subst (λ (n : ℕ). SoFar (bytes_of held old.ovr.name) n traps old now o o1) all before in
-    record {
-      bound = omega arith;
-      limited = (refl, refl);
-      over = now.over;
-      run = record { progress = run.progress; does = run.does; leaves = run.leaves; reads = run.reads; wrote = run.wrote; told = run.told; rose = tt };
-      kept = refl;
-    }
-
--- a fault rose in the part before, or in the event
-pub rises-later : (end : Option RunEnd) (o o1 o2 : Outside) (files files1 files2 : ℕ) → Counts o o1 → files ≤ files1 → Rises end o1 o2 files1 files2 → Rises end o o2 files files2
-rises-later (Some ends.FilesFault) o o1 o2 files files1 files2 counts counted rises = risen_later files files1 files2 counted rises
-rises-later (Some (ends.Ended code)) o o1 o2 files files1 files2 counts counted rises = tt
-rises-later (Some (ends.Limit taken)) o o1 o2 files files1 files2 counts counted rises = tt
-rises-later (Some (ends.Stopped cs ip why)) o o1 o2 files files1 files2 counts counted rises = tt
-rises-later (Some ends.InputFault) o o1 o2 files files1 files2 counts counted rises = rose_later (Some ends.InputFault) o o1 o2 counts rises
-rises-later (Some ends.OutputFault) o o1 o2 files files1 files2 counts counted rises = rose_later (Some ends.OutputFault) o o1 o2 counts rises
-rises-later (Some ends.ErrorsFault) o o1 o2 files files1 files2 counts counted rises = rose_later (Some ends.ErrorsFault) o o1 o2 counts rises
-rises-later None o o1 o2 files files1 files2 counts counted rises = tt

@@ -2,7 +2,6 @@
 use Rattle.std.proofs.Common.{◌≡◌, ◌≢◌, ℕ, Bool, false, List, drop, Option, Some, None, IfSome, refl, sym, ap, subst}
 use Rattle.std.specs.Prelude.{◌==◌}
 use Rattle.std.proofs.lemmas.Bool.{ne_eqb}
-use Rattle.tp_outside.specs.Faults.{HasRisen}
 use Rattle.tp_outside.specs.Folder.{Folder, bytes_of}
 use Rattle.cpu_8086.specs.declared.machine.Event.{Event}
 use Rattle.cpu_8086.specs.declared.machine.Event.TheVariants as events
@@ -194,17 +193,6 @@ ran-event (Some held) old t traps o steps =
       result = ap (managed old.ovr traps) (sym (finishes_running old.machine t old.over input taken out err is_input));
     })
     (record { input = refl; output = refl; errors = refl })
-
--- a fault is counted by what it names
-pub quiet-rises : (end : Option RunEnd) (o : Outside) (files files' : ℕ) → IsQuietEnd end → (end ≡ Some ends.FilesFault → HasRisen files files') → Rises end o o files files'
-quiet-rises None o files files' kind failed = tt
-quiet-rises (Some (ends.Stopped cs ip why)) o files files' kind failed = tt
-quiet-rises (Some ends.FilesFault) o files files' kind failed = failed refl
-quiet-rises (Some (ends.Ended code)) o files files' kind failed = absurd kind
-quiet-rises (Some (ends.Limit taken)) o files files' kind failed = absurd kind
-quiet-rises (Some ends.InputFault) o files files' kind failed = absurd kind
-quiet-rises (Some ends.OutputFault) o files files' kind failed = absurd kind
-quiet-rises (Some ends.ErrorsFault) o files files' kind failed = absurd kind
 
 pub plain-rises : (P : Progress → Type 0) (end : Option RunEnd) (machine : State) (over over' : Bool) (o o' : Outside) (files : ℕ) → Advances P end machine over over' o o' → Rises end o o' files files
 plain-rises P None machine over over' o o' files part = tt

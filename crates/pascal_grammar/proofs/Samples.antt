@@ -71,10 +71,6 @@ allows_other x y e = refl
 welcome : (y : Kind) → is_no_else y ≡ true → Welcome grammar Follow (Some y)
 welcome y e x = allows_other x y e
 
-pub at_end : Welcome grammar Follow None
-at_end p.without_else = refl
-at_end x = refl
-
 -- whether a production may stand before anything
 abbrev pub always : Production → Bool
 always p.without_else = false

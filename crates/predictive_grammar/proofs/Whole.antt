@@ -1,9 +1,9 @@
 -- All of the lexemes: what a reader that meets the grammar says of a whole source.
-use Rattle.std.proofs.Common.{◌≡◌, inr, ℕ, suc, ◌+◌, ◌-◌, ◌≤◌, List, [], ◌∷◌, ◌++◌, length, take, Option, None, Result, Ok, Err, refl, sym, ap, subst, ◌∙◌, append_assoc, arith, max, length-append}
+use Rattle.std.proofs.Common.{◌≡◌, inr, ℕ, suc, ◌+◌, ◌-◌, ◌≤◌, List, [], ◌∷◌, ◌++◌, length, take, Option, None, Result, Ok, Err, refl, sym, ap, subst, ◌∙◌, append_assoc, arith, length-append}
 use Rattle.std.proofs.lemmas.List.{append_cancel_left, append-nil}
 use Rattle.std.proofs.Math.Seq.{take-append_seam, take-append-add}
 use Rattle.predictive_grammar.specs.Grammar.{part, Grammar, Tree, Has, head, deep, deep_in, Belongs, BelongsOr}
-use Rattle.predictive_grammar.specs.Readers.{Fault, Syntax, LeftOut, TooDeep, left_of, ◌>>=◌, Reader}
+use Rattle.predictive_grammar.specs.Readers.{Fault, Syntax, LeftOut, TooDeep, left_of, ◌>>=◌}
 use Rattle.predictive_grammar.specs.Sources.{place, Spells, Begins, GoesOn, IsSyntax, IsLeftOut, IsTooDeep, IsFault, ended}
 use Rattle.predictive_grammar.proofs.Meeting.{one, Begun, Found, Stopped, Meets, Welcome, Denies, deep_in_most}
 
@@ -115,11 +115,3 @@ module _ {X K S V N P : Type 0} (G : Grammar X K S V N P) (Follow : N → Option
   all_only d ts (Err (Syntax n)) m t s b h = let f = m.2 in absurd (f.never t ts [] m.1 s last (append-nil ts ∙ f.parts) refl)
   all_only d ts (Err (LeftOut q n)) m t s b h = let f = m.2 in absurd (f.never t ts [] m.1 s last (append-nil ts ∙ f.parts) refl b)
   all_only d ts (Err (TooDeep n)) m t s b h = let f = m.2 in let k : suc d ≤ deep_in G (suc (length m.0)) t = f.never t ts [] m.1 s last (append-nil ts ∙ f.parts) refl in let most = deep_in_most G Follow (suc (length m.0)) t in absurd (omega arith)
-
-  -- At most one tree is spelled.
-  pub at_most_one : (read : ℕ → Reader X V P) → ((d : ℕ) (ts : List X) → Meets G Follow (one G Follow (part start)) d ts (read d ts)) → (ts : List X) (t u : Tree V P) → Spells G start t ts → Has (Belongs G) t → Spells G start u ts → Has (Belongs G) u → t ≡ u
-  at_most_one read m ts t u s b s' b' =
-      let d = max (deep G t) (deep G u) in
-      let x = all_only d ts (read d ts) (m d ts) t s b (omega arith) in
-      let y = all_only d ts (read d ts) (m d ts) u s' b' (omega arith) in
-      cc

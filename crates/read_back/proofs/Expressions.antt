@@ -147,11 +147,5 @@ mutual
 
 -- ---- what is spelled alike has the same view
 
-pub begins_alike : (x y : Designator) → head_of x ≡ head_of y → begins x ≡ begins y
-begins_alike x y e = sym (begins_read x) ∙ (λ i. (meant (e i)).identifier.position) ∙ begins_read y
-
 pub expression_alike : (x y : Expression) → IsWhole (of_expression x) → of_expression x ≡ of_expression y → view_expression x ≡ view_expression y
 expression_alike x y h e = sym (expression_read x h) ∙ (λ i. (meant (e i)).tree) ∙ expression_read y (subst (λ (z : Parsed). IsWhole z) e h)
-
-pub argument_alike : (x y : Argument) → IsWhole (of_argument x) → of_argument x ≡ of_argument y → view_argument x ≡ view_argument y
-argument_alike x y h e = sym (argument_read x h) ∙ (λ i. (meant (e i)).operand) ∙ argument_read y (subst (λ (z : Parsed). IsWhole z) e h)

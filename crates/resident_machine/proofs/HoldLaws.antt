@@ -8,7 +8,7 @@ use Rattle.cpu_8086.specs.Memory.{address, next_offset, word_of, load_byte, load
 use Rattle.cpu_8086.proofs.MemoryLaws.{address-next, length-store_word, load_word-store_word_same}
 use Rattle.resident_machine.specs.Program.{Program}
 use Rattle.resident_machine.specs.Cells.{Cell, Known, Unknown, Kept, Paired, Cells, with_cell, with_word, is_free, with_lost}
-use Rattle.resident_machine.specs.Standing.{PairWord, HoldsWord, IsApart, HoldsWords, HoldsByte, HoldsCode, HoldsMemory}
+use Rattle.resident_machine.specs.Standing.{PairWord, HoldsWord, IsApart, HoldsWords, HoldsCode, HoldsMemory}
 use Rattle.resident_machine.proofs.CellLaws.{with_cell-same, with_cell-other, free_not_kept, free_not_paired, with_lost-kept, with_lost-paired, with_lost-known}
 
 -- From cells and memory to later ones: kept and paired bytes stay so and hold what they held, and what is known is there.
@@ -32,11 +32,6 @@ word_kept ss c d m n w k h =
 words_kept : (ss : ℕ) (c d : Cells) (m n : List ℕ) (ws : List PairWord) → Keeps c d m n → HoldsWords ss c m ws → HoldsWords ss d n ws
 words_kept ss c d m n [] k h = tt
 words_kept ss c d m n (w ∷ ws) k h = (word_kept ss c d m n w k h.0, h.1, words_kept ss c d m n ws k h.2)
-
-byte_kept : (c d : Cells) (m n : List ℕ) (segment : ℕ) (bytes : List ℕ) (offset : ℕ) → Keeps c d m n → HoldsByte c m segment bytes offset → HoldsByte d n segment bytes offset
-unfolding load_byte
-byte_kept c d m n segment bytes offset k h =
-    let both = k.kept (address segment offset) h.kept in record { value = both.1 ∙ h.value; kept = both.0 }
 
 code_kept : (c d : Cells) (m n : List ℕ) (segment : ℕ) (bytes : List ℕ) → ((place : ℕ) → c place ≡ Kept → d place ≡ Kept) → ((place : ℕ) → c place ≡ Kept → slice_index n place ≡ slice_index m place) → HoldsCode c m segment bytes → HoldsCode d n segment bytes
 unfolding load_byte

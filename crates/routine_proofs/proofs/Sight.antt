@@ -35,11 +35,6 @@ ok-same x y e = cc
 
 -- ---- words of the stack
 
--- an address of the activation's words
-pub record IsOwn (choice : Choice) (sp x : ℕ) : Type 0 where
-  pub first : 16 * choice.stack_segment ≤ x
-  pub next : x + 1 < 16 * choice.stack_segment + sp
-
 module _ (choice : Choice) (own : Frame) (sp above : ℕ) (placed : IsPlaced choice own sp above) where
   index-pos : (d : ℕ) → is_index above (pos d) ≡ true → 2 * index_of above (pos d) + 2 + d ≡ above
   index-pos d e = grind (arith, nat_tests)
@@ -62,15 +57,9 @@ module _ (choice : Choice) (own : Frame) (sp above : ℕ) (placed : IsPlaced cho
       let l = placed.inside in
       record { offset_is = offset-below own.bp d (omega arith) (omega arith) ∙ omega arith; small = omega arith; inside = omega arith }
 
-  own-address : (i : ℕ) → 2 * (i + 1) ≤ sp → IsOwn choice sp (word_address choice sp i)
-  own-address i fits = record { first = omega arith; next = omega arith }
-
   -- ---- what is seen is there
 
   module _ (a : Activation) (m : Cells) (shows : Shows choice sp a m) where
-    abbrev seg : ℕ
-    seg = choice.stack_segment
-
     known-there : (x b : ℕ) → a.memory x ≡ Known b → m x ≡ Known b
     known-there x b e = shows.outside x (λ below. let out : Known b ≡ Outside = sym e ∙ shows.below x below in absurd (cc)) ∙ e
 

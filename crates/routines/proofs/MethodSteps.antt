@@ -5,11 +5,9 @@ use Rattle.type_layout.specs.declared.definitions.TypeId.{TypeId}
 use Rattle.type_layout.specs.declared.definitions.Method.{Method}
 use Rattle.type_layout.specs.declared.texts.Place.{Place}
 use Rattle.type_tree.specs.declared.parameter.Method as written
-use Rattle.source_tree.specs.declared.declaration.TypeDeclaration.{TypeDeclaration}
-use Rattle.scopes.specs.Environment.{Environment}
 use Rattle.type_parts.specs.Objects.{header_place}
 use Rattle.routines.specs.Drafts.{Numbered}
-use Rattle.routines.specs.Methods.{of_method, of_methods, of_declaration, of_declarations}
+use Rattle.routines.specs.Methods.{of_method, of_methods}
 
 -- where none is added
 pub nothing_more : (old : List Numbered) → old ≡ old ++ []
@@ -43,12 +41,3 @@ method_step owner methods all n one place found old new whole h is at get before
     method_more owner methods all n one old new whole h before
     (step ∙ ap (λ (p : Place). old ++ of_method owner p found) here
     ∙ ap (λ (f : Option Method). old ++ of_method owner (header_place (get_or all n one).header) f) get)
-
--- one declaration more
-pub declaration_more : (g : Environment) (all : List TypeDeclaration) (n : ℕ) (d : TypeDeclaration) (old new whole : List Numbered) → n < length all
-    → old ++ of_declarations g (drop n all) ≡ whole
-    → new ≡ old ++ of_declaration g (get_or all n d)
-    → new ++ of_declarations g (drop (n + 1) all) ≡ whole
-declaration_more g all n d old new whole h before step =
-    joined old (of_declaration g (get_or all n d)) (of_declarations g (drop (n + 1) all)) whole new
-    (ap (λ (l : List TypeDeclaration). old ++ of_declarations g l) (sym (cut all n d h)) ∙ before) step

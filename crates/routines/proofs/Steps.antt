@@ -1,18 +1,8 @@
 -- Blocks that are closed, and routines whose block was read.
-use Rattle.std.proofs.Common.{◌≡◌, ◌<◌, ◌≤◌, ℕ, zero, suc, List, [], ◌∷◌, length, map, set, get_or, Some, refl, ap, arith}
-use Rattle.scopes.specs.declared.searches.OpenBlock.{OpenBlock}
-use Rattle.scopes.specs.Environment.{Environment, outer, without_block}
+use Rattle.std.proofs.Common.{◌≡◌, ◌≤◌, ℕ, zero, suc, List, [], ◌∷◌, length, map, set, get_or, Some, refl, ap, arith}
 use Rattle.routines.specs.declared.drafts.Made.{Made}
 use Rattle.routines.specs.declared.drafts.Slot.{Slot}
 use Rattle.routines.specs.Drafts.{Numbered, view_made, view_slot, finishing}
-
-none_outer : (blocks : List OpenBlock) → (0 < length blocks → ⊥) → blocks ≡ outer blocks
-none_outer [] none = refl
-none_outer (one ∷ rest) none = absurd (none (omega arith))
-
--- where no block is open, there is none to close
-pub none_closed : (g : Environment) → (0 < length g.blocks → ⊥) → g ≡ without_block g
-none_closed g none = ap (λ (blocks : List OpenBlock). (let h : Environment = record g { blocks = blocks } in h)) (none_outer g.blocks none)
 
 -- ---- routines by their numbers
 

@@ -12,7 +12,7 @@ use Rattle.flat_code.specs.Program.{FlatProgram, Choice, overlay_unit}
 use Rattle.flat_code.specs.Meaning.{Frame, truth, if_placed}
 use Rattle.flat_code.proofs.Stack.{with_word, word-stored}
 use Rattle.routine_proofs.specs.Activation.{Activation, HoldsWord, IsPlaced}
-use Rattle.routine_proofs.specs.Straight.{Exit, Onward, Leaving, Came, outer_place, byte_seen, word_seen, seen_value, with_word_at, onward, continued, straight, code_size}
+use Rattle.routine_proofs.specs.Straight.{Onward, Leaving, Came, outer_place, byte_seen, word_seen, seen_value, with_word_at, onward, continued, straight, code_size}
 use Rattle.routine_proofs.specs.Comes.{Does}
 use Rattle.routine_proofs.proofs.Replies.{next_of, other_of, taken-so, other-so}
 use Rattle.routine_proofs.proofs.Doing.{weaker-does, then-does, straight-does, round-does, leave-does}
@@ -166,8 +166,6 @@ PointsTo choice (l ∷ lists) s o = (s ≡ choice.heap_segment + l.first / 2) ×
 
 module _ (program : FlatProgram) (choice : Choice) (own : Frame) (sp above : ℕ) (is_placed : IsPlaced choice own sp above) (own_unit : own.unit ≡ overlay_unit) (places : HeapPlaces program choice)
     (size : ℕ) (at : ℕ → ℕ → ℕ → ℕ → ℕ → Cells → Activation) (finding : Finding choice own above size at) (m : Cells) (segment : HoldsWord m (16 * choice.data_segment + places.segment_at) choice.heap_segment) where
-  Goes : Code → Activation → Exit → Activation → Type 0
-  Goes code a exit b = straight choice own above code a ≡ Ok (record { exit = exit; there = b })
 
   in-memory : (s o n c p x v : ℕ) → HoldsWord m x v → HoldsWord (at s o n c p m).memory x v
   in-memory s o n c p x v has = subst (λ k. HoldsWord k x v) (sym (finding.memory s o n c p m)) has

@@ -102,9 +102,6 @@ module _ (program : FlatProgram) (choice : Choice) (places : HeapPlaces program 
   -- ---- New
 
   module _ (m : Cells) (h : Heap) (holds : HoldsHeap program choice places m h) (inside : (b : ℕ) → IsAmong b (free_blocks h.lists) → b < h.cut) (once : EachOnce (free_blocks h.lists)) (size : ℕ) (l : FreeList) (rest : List FreeList) (found : from_found size h.lists ≡ l ∷ rest) where
-    a : ℕ
-    a = block_address choice l.first
-
     first-in : 8 * l.first + 8 ≤ program.heap
     first-in = let i = inside l.first (found-among size h.lists l rest found) in let r = holds.inside in omega arith
 

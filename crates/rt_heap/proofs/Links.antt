@@ -1,5 +1,5 @@
 -- Links and lists in memory: where they stand after stores elsewhere, and after a list gets other blocks or goes.
-use Rattle.std.proofs.Common.{◌≡◌, ◌≢◌, ℕ, zero, suc, ◌+◌, ◌≤◌, ◌<◌, ◌⊎◌, inl, inr, Bool, true, false, cond, ◌||◌, List, [], ◌∷◌, ◌++◌, Some, None, refl, sym, ap, subst, ◌∙◌, arith, ⊎_elim, eqb-true}
+use Rattle.std.proofs.Common.{◌≡◌, ◌≢◌, ℕ, zero, suc, ◌+◌, ◌≤◌, ◌<◌, ◌⊎◌, inl, inr, Bool, true, false, cond, ◌||◌, List, [], ◌∷◌, ◌++◌, Some, None, refl, sym, ap, subst, ◌∙◌, arith, ⊎_elim}
 use Rattle.std.specs.Prelude.{◌==◌}
 use Rattle.std.proofs.lemmas.Bool.{cases_lt}
 use Rattle.flat_code.specs.Memory.{Cells}
@@ -99,14 +99,6 @@ among-of size (k ∷ lists) l rest e c at = by (among-of size lists l rest) (k.s
     by : (from_found size lists ≡ l ∷ rest → (c : ℕ) → IsAmong c (l.others ++ free_blocks rest) → IsAmong c (free_blocks lists)) → (v : Bool) → cond v (k ∷ lists) (from_found size lists) ≡ l ∷ rest → IsAmong c (free_blocks (k ∷ lists))
     by ih true e = subst (λ (ls : List FreeList). IsAmong c (free_blocks ls)) (sym e) (inr at)
     by ih false e = inr (among-right c k.others (free_blocks lists) (ih e c at))
-
-pub found-size : (size : ℕ) (lists : List FreeList) (l : FreeList) (rest : List FreeList) → from_found size lists ≡ l ∷ rest → l.size ≡ size
-found-size size [] l rest e = absurd cc
-found-size size (k ∷ lists) l rest e = by (found-size size lists l rest) (k.size == size) refl e
-  where
-    by : (from_found size lists ≡ l ∷ rest → l.size ≡ size) → (v : Bool) → (k.size == size) ≡ v → cond v (k ∷ lists) (from_found size lists) ≡ l ∷ rest → l.size ≡ size
-    by ih true t e = sym (ap (λ (f : FreeList). f.size) (same-head k l lists rest e)) ∙ eqb-true k.size size t
-    by ih false t e = ih e
 
 pub found-once : (size : ℕ) (lists : List FreeList) (l : FreeList) (rest : List FreeList) → from_found size lists ≡ l ∷ rest → EachOnce (free_blocks lists) → EachOnce (free_blocks (l ∷ rest))
 found-once size [] l rest e once = absurd cc

@@ -344,9 +344,6 @@ module _ (program : FlatProgram) (choice : Choice) (unit : UnitCode) (fits : Sta
   few : n < 16384
   few = omega (arith, small)
 
-  at_size : ℕ → ℕ → ℕ → ℕ → ℕ → Cells → Activation
-  at_size = at program choice own f.sp here refl places start size
-
   found_list : FoundList program choice own f.sp 8 here refl places size (at program choice own f.sp here refl places start size) (finding program choice own f.sp here refl places start size) m holds.segment start h.lists
   found_list = finds program choice own f.sp 8 here refl places size (at program choice own f.sp here refl places start size) (finding program choice own f.sp here refl places start size) m holds.segment start h.lists small refl holds.lists in_memory
 

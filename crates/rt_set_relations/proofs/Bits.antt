@@ -1,5 +1,5 @@
 -- What relations of sets say of their bytes.
-use Rattle.std.proofs.Common.{◌≡◌, ℕ, zero, suc, ◌+◌, ◌*◌, ◌<◌, ◌≤◌, ◌⊎◌, inl, inr, Bool, true, false, cond, ◌&&◌, List, refl, sym, ap, ◌∙◌, arith, ⊎_elim, eqb-true, eq-eqb}
+use Rattle.std.proofs.Common.{◌≡◌, ℕ, zero, suc, ◌+◌, ◌*◌, ◌<◌, ◌≤◌, Bool, true, false, cond, ◌&&◌, List, refl, sym, ap, ◌∙◌, arith, ⊎_elim, eqb-true, eq-eqb}
 use Rattle.std.specs.Prelude.{bit_and, min, ◌==◌}
 use Rattle.std.specs.Int.{bit_at}
 use Rattle.std.proofs.lemmas.Bool.{cases_eq}
@@ -51,10 +51,6 @@ same-tests false true f g = let h = g refl in absurd cc
 same-tests false false f g = refl
 
 -- ---- inclusion
-
-is-true : (p : Bool) → (p ≡ true) ⊎ (p ≡ false)
-is-true true = inl refl
-is-true false = inr refl
 
 kept-bit : (p q : Bool) → min (cond p 1 0) (cond q 1 0) ≡ cond p 1 0 → p ≡ true → q ≡ true
 kept-bit true true e h = refl

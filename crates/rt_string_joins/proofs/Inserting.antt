@@ -38,9 +38,6 @@ use Rattle.string_loops.proofs.Entry.{string-inside, reached-inside, string-left
 use Rattle.rt_string_joins.specs.Routines.{insert_place, insert_lengths, insert_whole, insert_ends, insert_behind, insert_count, insert_part, insert_routine}
 use Rattle.rt_string_joins.specs.Promises.{insert_number, CanInsert, Inserts}
 
-low-same : (b : ℕ) → b < 256 → low_byte b ≡ b
-low-same b h = omega (arith, h)
-
 -- ---- what an insertion keeps: a front of the text, a front of the part, and a piece of what stands behind the place
 
 -- the front of two lists

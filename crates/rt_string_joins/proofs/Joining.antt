@@ -153,9 +153,6 @@ module _ (program : FlatProgram) (choice : Choice) (own : Frame) (sp : ℕ) (is_
     fits : length a + length more < 256
     fits = let h = more-size in let g = has.short in omega (arith, h, g)
 
-    above-front : (j : ℕ) → length a + j < 256 → address_of (place ts base) j ≡ address_of (place ts to) (length a + j)
-    above-front j h = address-shift ts to (length a) j
-
     first-stays : HasBytes m2 (place fs first) 1 a
     first-stays = bytes-kept m m2 (place fs first) 1 a (λ k h.
         put_other m1 (address_of (place ts to) 0) (Known (length a + length more)) (address_of (place fs first) (1 + k)) (λ e. forth 0 (1 + k) (omega arith) (omega (arith, h, has.short)) (sym e))

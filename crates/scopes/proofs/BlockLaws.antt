@@ -1,17 +1,11 @@
 -- Lists of blocks, from their ends.
-use Rattle.std.proofs.Common.{◌≡◌, ℕ, zero, suc, ◌+◌, ◌-◌, ◌≤◌, Bool, true, false, cond, List, [], ◌∷◌, ◌++◌, length, get_or, take, drop, Option, Some, None, refl, arith, sym, ap, ◌∙◌, add-one, length-append}
-use Rattle.std.proofs.lemmas.Grind.{common_steps}
+use Rattle.std.proofs.Common.{◌≡◌, ℕ, zero, suc, ◌+◌, ◌-◌, Bool, true, false, cond, List, [], ◌∷◌, ◌++◌, length, take, Option, Some, None, refl, arith, sym, ap, ◌∙◌, add-one, length-append}
 use Rattle.std.specs.Prelude.{slice_get}
 use Rattle.std.specs.List.{last_or}
 use Rattle.scopes.specs.declared.entries.Entry.{Entry}
 use Rattle.scopes.specs.declared.searches.OpenBlock.{OpenBlock}
 use Rattle.scopes.specs.Symbols.{SymbolList, has}
 use Rattle.scopes.specs.Environment.{Environment, outer, innermost, has_own, has_innermost, with_own, with_name}
-
--- a list that isn't empty is its first item and the rest
-pub split_first : {A : Type 0} → (xs : List A) (x : A) → 1 ≤ length xs → x ≡ get_or xs 0 x → xs ≡ x ∷ take (length xs - 1) (drop 1 xs)
-split_first [] x some first = absurd (omega arith)
-split_first (y ∷ ys) x some first = grind (arith, common_steps)
 
 -- the first items and the next one
 pub take-next : {A : Type 0} → (all : List A) (place : ℕ) (one : A) → slice_get all place ≡ Some one → take (place + 1) all ≡ take place all ++ one ∷ []

@@ -47,9 +47,6 @@ grown-next table all place one at =
 
 -- ---- what was added to a table
 
-unit_in : Origin → List (List ℕ) → List ℕ
-unit_in origin units = get_or units origin.unit []
-
 additions_in-more : (units more : List (List ℕ)) (types : List TypeDef) (origins : List Origin)
     → All (λ (origin : Origin). origin.unit < length units) origins → additions_in (units ++ more) types origins ≡ additions_in units types origins
 additions_in-more units more [] origins known = refl

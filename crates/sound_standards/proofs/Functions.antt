@@ -1,5 +1,5 @@
 -- Standard functions of numbers and texts.
-use Rattle.std.proofs.Common.{◌≡◌, ℕ, zero, suc, ◌+◌, ◌<◌, ◌≤◌, Bool, true, false, List, [], ◌∷◌, ◌++◌, length, take, Some, None, refl, sym, subst, arith, IsTrue}
+use Rattle.std.proofs.Common.{◌≡◌, ℕ, zero, suc, ◌+◌, ◌<◌, ◌≤◌, Bool, true, false, List, [], ◌∷◌, ◌++◌, length, take, Some, refl, sym, subst, arith, IsTrue}
 use Rattle.std.proofs.Common.{inl, inr, ⊎_elim}
 use Rattle.std.specs.Prelude.{◌⊎◌, ◌^◌, nat_eq, ℤ, pos, ◌+ℤ◌, ◌-ℤ◌, ◌*ℤ◌, ◌==◌, ◌%◌, unsigned_abs, cond, All, Option, Ok}
 use Rattle.std.specs.List.{starts_with}
@@ -14,7 +14,7 @@ use Rattle.type_layout.specs.declared.definitions.TypeDef.{TypeDef}
 use Rattle.type_layout.specs.Storage.{holds}
 use Rattle.values.specs.Strings.{longest, copied, joined, place_from, position_of, upper}
 use Rattle.values.specs.Input.{is_eof, is_eoln}
-use Rattle.type_fits.specs.Fits.{stored_as, held_as, IsSome, IsBoolean, IsChar, IsWide, IsString}
+use Rattle.type_fits.specs.Fits.{stored_as, held_as, IsBoolean, IsChar, IsWide, IsString}
 use Rattle.type_fits.specs.Standard.{Slot, Integer, Ordinal as OrdinalSlot, Char, Text as TextSlot, IsText as IsTextSlot}
 use Rattle.meaning.specs.Trees.{Ordinal, Text}
 use Rattle.meaning.specs.Shapes.{kept_as}
@@ -48,10 +48,6 @@ wide_by o s e is = absurd is
 
 wide : (o : Option TypeDef) → IsWide (stored_as o) → Stored o
 wide o is = wide_by o (stored_as o) refl is
-
-some_host : (s : Option Host) → IsSome s → (h : Host) × (s ≡ Some h)
-some_host (Some h) is = (h, refl)
-some_host None is = absurd is
 
 byte_held : (w : World) (n : ℕ) → n < 256 → IsHeld w (Number host.Byte) (Ordinal (pos n))
 byte_held w n h = is_held host.Byte (pos n) (omega (arith, ints)) (omega (arith, ints, h))

@@ -80,10 +80,6 @@ ordinal_simple (Some (type.ObjectOf p d fields methods)) h e is = absurd cc
 ordinal_simple (Some (type.Procedural header)) h e is = no_structure is
 ordinal_simple None h e is = no_structure is
 
-pub string_simple : (o : Option TypeDef) → IsString o → IsStructured o → ⊥
-string_simple (Some (type.Str max)) s is = no_structure is
-string_simple o s is = absurd s
-
 pub pointer_simple : (o : Option TypeDef) → IsPointer o → IsStructured o → ⊥
 pointer_simple (Some (type.PointerTo t)) p is = no_structure is
 pointer_simple o p is = absurd p

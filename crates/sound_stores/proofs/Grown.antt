@@ -1,5 +1,5 @@
 -- What is typed stays typed as objects come.
-use Rattle.std.proofs.Common.{◌≡◌, ℕ, zero, suc, List, [], ◌∷◌, ◌++◌, Some, None, refl, sym, ap, subst, ◌∙◌, append-nil, append_assoc}
+use Rattle.std.proofs.Common.{◌≡◌, ℕ, zero, suc, List, [], ◌∷◌, ◌++◌, Some, None, refl, sym, ap, subst, append-nil}
 use Rattle.std.specs.Prelude.{slice_get, Option}
 use Rattle.type_layout.specs.declared.definitions.TypeDef.{TypeDef}
 use Rattle.type_layout.specs.declared.definitions.TypeDef.TheVariants as type
@@ -27,10 +27,6 @@ grows_by w more = record { more = more; is = refl }
 
 pub grows_itself : (w : World) → Grows w w
 grows_itself w = record { more = []; is = ap (λ (made : List Made). record { program = w.program; made = made }) (sym (append-nil w.made)) }
-
-pub grows_twice : (u v w : World) → Grows u v → Grows v w → Grows u w
-grows_twice u v w p q =
-    record { more = p.more ++ q.more; is = q.is ∙ ap (λ (x : World). grown x q.more) p.is ∙ ap (λ (made : List Made). record { program = u.program; made = made }) (append_assoc u.made p.more q.more) }
 
 -- ---- what holds in a world that grew
 
@@ -110,6 +106,3 @@ module _ (w v : World) (grows : Grows w v) where
 
   pub made_grows : (serial : ℕ) (made : Made) → slice_get w.made serial ≡ Some made → slice_get v.made serial ≡ Some made
   made_grows serial made h = subst (λ (u : World). slice_get u.made serial ≡ Some made) (sym grows.is) (slice_get_front w.made grows.more serial made h)
-
-  pub same_program : v.program ≡ w.program
-  same_program = ap (λ (u : World). u.program) grows.is

@@ -192,9 +192,6 @@ module _ (w : World) (agreed : AreAgreed w.program) where
 
   -- ---- values
 
-  no_value : (a b : Sort) (one : TypeDef) (v : Value) → IsValueBy w a (Some one) v → ⊥ → IsValueBy w b (Some one) v
-  no_value a b one v h never = absurd never
-
   text_same : (a b : Sort) (max max' : ℕ) (v : Value) → IsValueBy w a (Some (type.Str max)) v → IsValueBy w b (Some (type.Str max')) v
   text_same a b max max' (Text bytes) h = h
   text_same a b max max' v h = absurd h

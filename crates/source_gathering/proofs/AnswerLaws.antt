@@ -1,7 +1,6 @@
 -- What the calls answer, joined from their steps, where the folder is told.
 use Rattle.std.proofs.Common.{◌≡◌, ◌⊎◌, ℕ, List, [], ◌∷◌, ◌++◌, map, Option, None, Some, IfSome, Result, Ok, Err, MatchResult, IfOk, IfErr, inl, inr, refl, sym, ap, ap₂, ◌∙◌, subst}
 use Rattle.std.proofs.lemmas.List.{map-append}
-use Rattle.type_layout.specs.declared.texts.Place.{Place}
 use Rattle.tp_outside.specs.Folder.{Folder}
 use Rattle.tp_lexer.specs.declared.token.Text.{Text}
 use Rattle.tp_lexer.specs.declared.token.Token.{Token}
@@ -22,7 +21,7 @@ use Rattle.source_gathering.specs.declared.gathering.Gathered.{Gathered}
 use Rattle.source_gathering.specs.declared.sources.Source.{Source}
 use Rattle.source_gathering.specs.declared.wanted.Wanted.{Wanted}
 use Rattle.source_gathering.specs.Texts.{defined}
-use Rattle.source_gathering.specs.Files.{opened, Includes, ComesTo, refusal_of, IsCause, IsMended, FailsBy}
+use Rattle.source_gathering.specs.Files.{opened, Includes, ComesTo, IsCause, IsMended, FailsBy}
 use Rattle.source_gathering.specs.Sources.{IsRead, IsUnreadable, SpellsNothing, fault_refusal, IsMisspelled, AreAlike}
 use Rattle.source_gathering.specs.Walk.{start, wanted_at, wanted_by, names_of, due, Walks, IsMet, Gathers, Meets, IsRefused, Unless}
 use Rattle.source_gathering.proofs.LexLaws.{includes_more}
@@ -72,22 +71,6 @@ always error told is = by error is
     by refusal.NoMemory same = tt
     by e same = same
 
--- a rule that is no missing include is told as it is
-told_by : (held : Folder) (now : List Text) (rule : LexError) (error : GatherError) → ((place : Place) (name : List ℕ) → rule ≡ broken.MissingInclude place name → ⊥) → error ≡ refusal_of now rule → Unless error (IsCause held now rule error)
-told_by held now broken.NoMemory error other is = subst (λ (e : GatherError). Unless e ⊥) (sym is) tt
-told_by held now (broken.MissingInclude place name) error other is = absurd (other place name refl)
-told_by held now (broken.BadCharacter place) error other is = always error _ is
-told_by held now (broken.OpenComment place) error other is = always error _ is
-told_by held now (broken.OpenString place) error other is = always error _ is
-told_by held now (broken.BadNumber place) error other is = always error _ is
-told_by held now (broken.BadDirective place) error other is = always error _ is
-told_by held now (broken.OpenCondition place) error other is = always error _ is
-told_by held now (broken.NotInProfile place feature) error other is = always error _ is
-
-pub told_rule : (known : Option Folder) (now : List Text) (rule : LexError) (error : GatherError) → ((place : Place) (name : List ℕ) → rule ≡ broken.MissingInclude place name → ⊥) → error ≡ refusal_of now rule → IfSome known (λ held. Unless error (IsCause held now rule error))
-told_rule None now rule error other is = tt
-told_rule (Some held) now rule error other is = told_by held now rule error other is
-
 -- ---- a source
 
 pub is_read : (known : Option Folder) (old first after : List Text) (wanted : Wanted) (tokens list : List Token) (source : Source) → IfSome known (λ held. opened held old wanted ≡ Ok (first, source.text)) → IfSome known (λ held. ComesTo held source.text first after tokens)
@@ -103,15 +86,6 @@ is_read (Some held) old first after wanted tokens list source opens comes same n
 
 abbrev pub IsRefusedAt : Folder → GatherError → List Text → Wanted → Type 0
 IsRefusedAt held error texts wanted = IsUnreadable held error texts wanted ⊎ IsMisspelled held error texts wanted
-
-pub not_opened : (known : Option Folder) (old : List Text) (wanted : Wanted) (error : GatherError) → IfSome known (λ held. Unless error (opened held old wanted ≡ Err error)) → IfSome known (λ held. Unless error (IsRefusedAt held error old wanted))
-not_opened None old wanted error fails = tt
-not_opened (Some held) old wanted error fails = unless_then error (opened held old wanted ≡ Err error) (IsRefusedAt held error old wanted) (λ f. inl (inl f)) fails
-
-pub not_lexed : (known : Option Folder) (old first : List Text) (wanted : Wanted) (main : ℕ) (error : GatherError) → IfSome known (λ held. opened held old wanted ≡ Ok (first, main)) → IfSome known (λ held. Unless error (FailsBy held main first error)) → IfSome known (λ held. Unless error (IsRefusedAt held error old wanted))
-not_lexed None old first wanted main error opens fails = tt
-not_lexed (Some held) old first wanted main error opens fails =
-    unless_then error (FailsBy held main first error) (IsRefusedAt held error old wanted) (λ f. inl (inr (record { first = first; main = main; opens = opens; fails = f }))) fails
 
 misspelled_by : (held : Folder) (old first after : List Text) (wanted : Wanted) (main : ℕ) (tokens list : List Token) (f : ParseError) (error : GatherError) → opened held old wanted ≡ Ok (first, main) → ComesTo held main first after tokens
     → list ≡ tokens → IsFault list f → ((tree : Parsed) → IsSource list tree → IsReadAs (Err f) tree) → error ≡ fault_refusal after main list f → Unless error (IsRefusedAt held error old wanted)

@@ -1,5 +1,5 @@
 -- Texts with one more.
-use Rattle.std.proofs.Common.{◌≡◌, ℕ, ◌+◌, ◌<◌, ◌≤◌, Bool, true, false, cond, nat_lt, List, [], ◌∷◌, ◌++◌, length, Result, Ok, Err, refl, sym, ap, ◌∙◌, arith}
+use Rattle.std.proofs.Common.{◌≡◌, ℕ, ◌+◌, ◌≤◌, Bool, true, false, cond, nat_lt, List, [], ◌∷◌, ◌++◌, length, Result, Ok, Err, refl, sym, ap, ◌∙◌, arith}
 use Rattle.std.proofs.lemmas.List.Sums.{sum-map, sum_by_push}
 use Rattle.std.proofs.lemmas.Bool.Decides.{nat_tests}
 use Rattle.tp_lexer.specs.declared.token.Text.{Text}
@@ -17,26 +17,6 @@ chosen texts name bytes large full =
     cond large (Err (TooLarge (length bytes))) (cond full (Err (TooLarge (bytes_in texts + length bytes))) (Ok (texts ++ record { name = name; bytes = bytes } ∷ [])))
 
 module _ (texts : List Text) (name bytes : List ℕ) where
-  short : length bytes ≤ 1048576 → nat_lt 1048576 (length bytes) ≡ false
-  short h = grind (arith, nat_tests)
-
-  pub too_long : 1048576 < length bytes → with_text texts name bytes ≡ Err (TooLarge (length bytes))
-  too_long h =
-      let long : nat_lt 1048576 (length bytes) ≡ true = grind (arith, nat_tests) in
-      ap (λ (large : Bool). chosen texts name bytes large (nat_lt 16777216 (bytes_in texts + length bytes))) long
-
-  pub too_many : length bytes ≤ 1048576 → 16777216 < bytes_in texts + length bytes → with_text texts name bytes ≡ Err (TooLarge (bytes_in texts + length bytes))
-  too_many h full =
-      let test : nat_lt 16777216 (bytes_in texts + length bytes) ≡ true = grind (arith, nat_tests) in
-      ap (λ (large : Bool). chosen texts name bytes large (nat_lt 16777216 (bytes_in texts + length bytes))) (short h)
-      ∙ ap (chosen texts name bytes false) test
-
-  pub has_room : length bytes ≤ 1048576 → bytes_in texts + length bytes ≤ 16777216 → with_text texts name bytes ≡ Ok (texts ++ record { name = name; bytes = bytes } ∷ [])
-  has_room h room =
-      let test : nat_lt 16777216 (bytes_in texts + length bytes) ≡ false = grind (arith, nat_tests) in
-      ap (λ (large : Bool). chosen texts name bytes large (nat_lt 16777216 (bytes_in texts + length bytes))) (short h)
-      ∙ ap (chosen texts name bytes false) test
-
   -- what came of a text that was put behind these
   pub with_text_is : (more : List Text) → with_text texts name bytes ≡ Ok more → (more ≡ texts ++ record { name = name; bytes = bytes } ∷ []) × (bytes_in texts + length bytes ≤ 16777216)
   with_text_is more is = by (nat_lt 1048576 (length bytes)) (nat_lt 16777216 (bytes_in texts + length bytes)) is (λ h. grind (arith, nat_tests))

@@ -1,5 +1,5 @@
 -- A walk over uses goes on by one source, and comes to one end.
-use Rattle.std.proofs.Common.{◌≡◌, ℕ, Bool, true, false, cond, ◌||◌, List, [], ◌∷◌, ◌++◌, drop, length, inl, inr, refl, sym, ap, ◌∙◌, subst, append_assoc, append-nil, arith}
+use Rattle.std.proofs.Common.{◌≡◌, ℕ, Bool, ◌||◌, List, [], ◌∷◌, ◌++◌, inl, inr, refl, sym, ap, ◌∙◌, subst, append_assoc, append-nil}
 use Rattle.std.specs.List.{list_any}
 use Rattle.type_layout.specs.Words.{same_bytes}
 use Rattle.tp_outside.specs.Folder.{Folder}
@@ -11,29 +11,7 @@ use Rattle.source_gathering.specs.Sources.{IsRead, IsUnreadable, SpellsNothing, 
 use Rattle.source_gathering.specs.Walk.{start, wanted_by, names_of, is_predeclared, is_passed, due, Walks, Gathers, Meets, IsRefused}
 use Rattle.source_gathering.proofs.SourceLaws.{read_once, read_or_unreadable, read_or_nothing, nothing_spelled, unreadable_once, unreadable_or_nothing, misspelled_alike as told_alike}
 
-pub due_passed : (met : List (List ℕ)) (wanted : Wanted) (more : List Wanted) → is_passed met wanted ≡ true → due met (wanted ∷ more) ≡ due met more
-due_passed met wanted more passed = ap (λ (b : Bool). cond b (due met more) (wanted ∷ more)) passed
-
-pub due_next : (met : List (List ℕ)) (wanted : Wanted) (more : List Wanted) → is_passed met wanted ≡ false → due met (wanted ∷ more) ≡ wanted ∷ more
-due_next met wanted more passed = ap (λ (b : Bool). cond b (due met more) (wanted ∷ more)) passed
-
 -- ---- what is popped from the front
-
--- it is passed over
-pub due_gone : (met : List (List ℕ)) (old now : List Wanted) (next : Wanted) → old ≡ next ∷ now → is_passed met next ≡ true → due met now ≡ due met old
-due_gone met old now next is passed = sym (ap (due met) is ∙ due_passed met next now passed)
-
--- it is due
-pub due_here : (met : List (List ℕ)) (old now : List Wanted) (next : Wanted) → old ≡ next ∷ now → is_passed met next ≡ false → due met old ≡ next ∷ now
-due_here met old now next is passed = ap (due met) is ∙ due_next met next now passed
-
-nothing_left : (xs : List Wanted) → xs ≡ drop 1 xs → xs ≡ []
-nothing_left [] is = refl
-nothing_left (x ∷ xs) is = let long = ap length is in absurd (omega arith)
-
--- there is none
-pub due_none : (met : List (List ℕ)) (old now : List Wanted) → old ≡ now → now ≡ drop 1 old → due met old ≡ []
-due_none met old now is rest = ap (due met) (nothing_left old (is ∙ rest))
 
 module _ (held : Folder) where
   -- ---- one source more

@@ -15,7 +15,7 @@ use Rattle.unit_interface.specs.Fitting.{found_fits, use_fits, uses_fit}
 use Rattle.source_order.specs.Orders.{names_of}
 use Rattle.tp_check_decl.specs.Shown.{IsShownAs}
 use Rattle.source_interfaces.specs.Scopes.{outer_units, known, outer_scope, is_shown, AreThere, AreFitting}
-use Rattle.source_interfaces.specs.Interfaces.{IsShownIn, AreShown, IsGrown}
+use Rattle.source_interfaces.specs.Interfaces.{IsShownIn, AreShown}
 use Rattle.source_interfaces.proofs.Uses.{contrary}
 
 chosen_more : (b : Bool) (i : Interface) (a c : Option Interface) → is_some (chosen b i a) ≡ true → (is_some a ≡ true → c ≡ a) → chosen b i c ≡ chosen b i a
@@ -106,11 +106,6 @@ or_first false b is = absurd (cc)
 or_second : (a b : Bool) → b ≡ true → (a || b) ≡ true
 or_second true b is = refl
 or_second false b is = is
-
-pub add_grown : (have new : List Interface) (interface : Interface) → new ≡ have ++ interface ∷ [] → IsGrown have new
-add_grown have new interface is name shown =
-    let same = λ (i : Interface). same_bytes name i.name in
-    ap (λ (all : List Interface). is_shown all name) is ∙ list_any-append same have (interface ∷ []) ∙ or_first (list_any same have) (list_any same (interface ∷ [])) shown
 
 pub added : (have : List Interface) (interface : Interface) (name : List ℕ) → same_bytes name interface.name ≡ true → is_shown (have ++ interface ∷ []) name ≡ true
 added have interface name named =

@@ -152,9 +152,6 @@ done_here sources have place source below is shown one at =
     let there = slice_get_read sources (length sources) place source refl below is in
     subst (λ (s : Source). is_shown have s.name ≡ true) (some_is source one (sym there ∙ at)) shown
 
-pub done_past : (sources : List Source) (have : List Interface) (place : ℕ) → length sources ≤ place → IsDone sources have place
-done_past sources have place past source at = let below = slice_get_within sources place source at in absurd (omega (arith, past, below))
-
 -- nothing is to be done: the interface is there, or the source waits
 pub passed : (sources : List Source) (have : List Interface) (place : ℕ) (source : Source) → place < length sources → source ≡ get_or sources place source
     → is_settled sources have source ≡ true → IsStep sources have have place
@@ -175,9 +172,6 @@ made sources have new place source interface is below at named =
     let same : same_bytes source.name interface.name ≡ true = subst (λ (n : List ℕ). same_bytes source.name n ≡ true) (sym named) (same_is source.name) in
     let shown : is_shown new source.name ≡ true = ap (λ (all : List Interface). is_shown all source.name) is ∙ added have interface source.name same in
     inl (done_here sources new place source below at shown)
-
-pub same_grown : (have : List Interface) → IsGrown have have
-same_grown have name shown = shown
 
 pub then_grown : (old now new : List Interface) → IsGrown old now → IsGrown now new → IsGrown old new
 then_grown old now new one two name shown = two name (one name shown)
@@ -215,9 +209,6 @@ steps_more sources old now new place before is one two steps step k from = by (n
 
 pub edges_count : (sources : List Source) → length (interface_edges (all_uses sources)) ≡ length sources
 edges_count sources = length-map (all_uses sources) (λ (unit : UsesOf). places_of (all_uses sources) unit.interface) ∙ length-map sources uses_in
-
-pub first_round : (sources : List Source) (have : List Interface) (place : ℕ) → IsDoneOrDeep sources have 0 place
-first_round sources have place = inr tt
 
 pub round_more : (sources : List Source) (old new : List Interface) (round : ℕ) → ((place : ℕ) → IsDoneOrDeep sources old round place) → ((place : ℕ) → IsStep sources old new place)
     → (place : ℕ) → IsDoneOrDeep sources new (round + 1) place

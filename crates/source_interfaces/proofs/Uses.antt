@@ -2,7 +2,6 @@
 use Rattle.std.proofs.Common.{◌≡◌, ℕ, ◌+◌, ◌<◌, ◌≤◌, nat_lt, Bool, true, false, List, take, length, Some, get_or, refl, sym, ap, ◌∙◌, subst, arith}
 use Rattle.std.specs.Prelude.{slice_get, option_map}
 use Rattle.std.proofs.lemmas.Bool.{ltb-true, ltb-false}
-use Rattle.std.proofs.lemmas.List.{length-map}
 use Rattle.std.proofs.lemmas.Option.{slice_get-map, slice_get_read, slice_get_within}
 use Rattle.syntax_tree.specs.declared.identifier.Identifier.{Identifier}
 use Rattle.source_gathering.specs.declared.sources.Source.{Source}
@@ -12,7 +11,6 @@ use Rattle.typing_rules.specs.declared.faults.Rule.TheVariants as rules
 use Rattle.typing_rules.specs.Faults.{broken}
 use Rattle.unit_interface.specs.Resolve.{is_repeated}
 use Rattle.source_order.specs.Orders.{names_of}
-use Rattle.source_interfaces.specs.Scopes.{IsRepeatedUse, AreOnce}
 use Rattle.source_interfaces.specs.Kinds.{beginning, is_of_kind, AreOfKinds, IsOfWrongKind}
 
 pub some_is : {X : Type 0} (a b : X) → Some a ≡ Some b → a ≡ b
@@ -60,12 +58,6 @@ wrong_here sources place one begins fault below is wrong begin told = record {
 
 -- ---- used units
 
-pub names_count : (names : List (List ℕ)) (uses : List Identifier) → names ≡ names_of uses → length names ≡ length uses
-names_count names uses is = ap length is ∙ length-map uses (λ (unit : Identifier). unit.name)
-
-pub places_within : (names : List (List ℕ)) (uses : List Identifier) (place : ℕ) → names ≡ names_of uses → place < length uses → place ≤ length names
-places_within names uses place is below = omega (arith, names_count names uses is, below)
-
 pub name_at : (names : List (List ℕ)) (uses : List Identifier) (place : ℕ) (unit : Identifier) → names ≡ names_of uses → slice_get uses place ≡ Some unit → slice_get names place ≡ Some unit.name
 name_at names uses place unit is at =
     ap (λ (all : List (List ℕ)). slice_get all place) is
@@ -75,25 +67,3 @@ name_at names uses place unit is at =
 -- a name at a place of the clauses is no repetition
 abbrev pub IsOnce : List (List ℕ) → ℕ → Type 0
 IsOnce names place = (name : List ℕ) → slice_get names place ≡ Some name → is_repeated (take place names) name ≡ false
-
-pub once_here : (names : List (List ℕ)) (uses : List Identifier) (place : ℕ) (unit : Identifier) → names ≡ names_of uses → place < length uses → unit ≡ get_or uses place unit
-    → is_repeated (take place names) unit.name ≡ false → IsOnce names place
-once_here names uses place unit named below is once name at =
-    let there = name_at names uses place unit named (slice_get_read uses (length uses) place unit refl below is) in
-    let same : unit.name ≡ name = some_is unit.name name (sym there ∙ at) in
-    subst (λ (n : List ℕ). is_repeated (take place names) n ≡ false) same once
-
-pub none_twice : (names : List (List ℕ)) (end : ℕ) → length names ≤ end → ((place : ℕ) → place < end → IsOnce names place) → AreOnce names
-none_twice names end past all name d =
-    let below = slice_get_within names d.place name d.used in
-    contrary (is_repeated (take d.place names) name) d.repeated (all d.place (omega (arith, past, below)) name d.used)
-
-pub repeated_here : (names : List (List ℕ)) (uses : List Identifier) (place : ℕ) (unit : Identifier) (fault : Fault) → names ≡ names_of uses → place < length uses → unit ≡ get_or uses place unit
-    → is_repeated (take place names) unit.name ≡ true → fault ≡ broken unit.position.place rules.UnitUsed → IsRepeatedUse uses fault
-repeated_here names uses place unit fault named below is repeated told = record {
-  place = place;
-  unit = unit;
-  stands = slice_get_read uses (length uses) place unit refl below is;
-  repeated = subst (λ (all : List (List ℕ)). is_repeated (take place all) unit.name ≡ true) named repeated;
-  told = told;
-}

@@ -13,7 +13,7 @@ use Rattle.syntax_tree.specs.declared.statement.CaseArm.TheVariants as a
 use Rattle.syntax_tree.specs.declared.statement.CaseLabel.{CaseLabel}
 use Rattle.syntax_tree.specs.declared.expression.Argument.{Argument}
 use Rattle.syntax_tree.specs.Expressions.{Parsed, of, word, mark_at, of_expression, of_argument}
-use Rattle.syntax_tree.specs.Statements.{of_statement, of_statements, more_statements, next_statements, statements_of, compound_of, of_case_else, first_arm, other_arms, more_arms, of_arm, arms_end, next_arms, first_of, others_of, of_label, next_labels, first_label, other_labels, next_arguments, arguments_of}
+use Rattle.syntax_tree.specs.Statements.{of_statement, of_statements, more_statements, next_statements, statements_of, compound_of, of_case_else, first_arm, other_arms, more_arms, of_arm, arms_end, next_arms, first_of, others_of, of_label, next_labels, other_labels, next_arguments, arguments_of}
 use Rattle.expression_parser.specs.Views as v
 
 -- ---- arguments
@@ -106,10 +106,6 @@ pub others_pushed : (all : List CaseArm) (x : CaseArm) (more : Parsed) → 1 ≤
 others_pushed [] x more h = absurd (omega arith)
 others_pushed (y ∷ all) x more h = next_arms_pushed all x more
 
-pub first_pushed : (all : List CaseArm) (x : CaseArm) → 1 ≤ length all → first_of (all ++ (x ∷ [])) ≡ first_of all
-first_pushed [] x h = absurd (omega arith)
-first_pushed (y ∷ all) x h = refl
-
 -- ---- labels
 
 next_labels_pushed : (all : List CaseLabel) (x : CaseLabel) (more : Parsed) → next_labels (all ++ (x ∷ [])) more ≡ next_labels all (of p.next_label (word ∷ of_label x ∷ more ∷ []))
@@ -119,7 +115,3 @@ next_labels_pushed (y ∷ all) x more = ap (λ (z : Parsed). of p.next_label (wo
 pub other_labels_pushed : (all : List CaseLabel) (x : CaseLabel) (more : Parsed) → 1 ≤ length all → other_labels (all ++ (x ∷ [])) more ≡ other_labels all (of p.next_label (word ∷ of_label x ∷ more ∷ []))
 other_labels_pushed [] x more h = absurd (omega arith)
 other_labels_pushed (y ∷ all) x more h = next_labels_pushed all x more
-
-pub first_label_pushed : (all : List CaseLabel) (x : CaseLabel) → 1 ≤ length all → first_label (all ++ (x ∷ [])) ≡ first_label all
-first_label_pushed [] x h = absurd (omega arith)
-first_label_pushed (y ∷ all) x h = refl

@@ -5,7 +5,7 @@ use Rattle.integers.specs.Words.{w16, wrapping_add, wrapping_sub}
 use Rattle.flat_code.specs.declared.tree.Address.TheVariants.{Through}
 use Rattle.flat_code.specs.declared.memory.Cell.TheVariants.{Known, Outside}
 use Rattle.flat_code.specs.declared.memory.Place.{Place}
-use Rattle.flat_code.specs.Tree.{Number, Code, End, Loop}
+use Rattle.flat_code.specs.Tree.{Number, End, Loop}
 use Rattle.flat_code.specs.Memory.{Cells, Found, ◌>>=◌, address_of, place_after, put}
 use Rattle.flat_code.specs.Program.{FlatProgram, Choice}
 use Rattle.flat_code.specs.Meaning.{Frame}
@@ -95,9 +95,6 @@ module _ (program : FlatProgram) (choice : Choice) (own : Frame) (sp above : ℕ
       ∙ ap (λ (v : ℕ). straight choice own above End (at t' f' v k)) fewer
       ∙ ap (λ (v : ℕ). straight choice own above End (at v f' i k)) (one-back T i)
       ∙ ap (λ (v : ℕ). straight choice own above End (at (wrapping_add w16 T i) v i k)) (one-back F i)
-
-  Goes : Code → ℕ → ℕ → Activation → Exit → Activation → Type 0
-  Goes code turns work a exit b = Does program choice own sp code turns work a exit b
 
   round-back : (i byte : ℕ) (m : Cells) → i < 65535 → m (address_of (place fs F) (i + 1)) ≡ Known byte → byte < 256 → (m (address_of (place ts T) (i + 1)) ≡ Outside → ⊥) →
       Does program choice own sp (backward_round to from left) 0 18 (back (i + 1) m) Onward (back i (put m (address_of (place ts T) (i + 1)) (Known byte)))

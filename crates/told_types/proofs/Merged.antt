@@ -24,11 +24,6 @@ use Rattle.told_types.proofs.Arrived.{merged_keyed, key_stays, key_lands, key_fr
 
 -- ---- what is declared next
 
-not_next : (key : Key) (one : Key) → one ≡ key → one ≡ next_key key → ⊥
-not_next key one e f =
-    let n : key.number ≡ key.number + 1 = ap (λ (k : Key). k.number) (sym e ∙ f) in
-    omega (arith, n)
-
 module _ (table other : Table) (keyed : IsKeyed table) (own : IsKeyed other) (number : ℕ) (key : Key)
     (here : slice_get (keys_of other) number ≡ Some key) (next : slice_get (keys_of other) (number + 1) ≡ Some (next_key key)) where
   -- the next type of the other table gets the next id: where its key is new, the next one is too

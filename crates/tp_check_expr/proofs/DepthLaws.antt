@@ -8,9 +8,6 @@ use Rattle.scopes.specs.Environment.{Environment, first_open, block_count, kind_
 use Rattle.tp_check_expr.specs.Names.{is_routine, deeper}
 
 module _ (blocks : List OpenBlock) (i : ℕ) where
-  counted : ℕ
-  counted = count_by is_routine (take i blocks)
-
   of_block : (one : OpenBlock) (b : Bool) → i < length blocks → is_routine (get_or blocks i one) ≡ b → count_by is_routine (take (i + 1) blocks) ≡ cond b (count_by is_routine (take i blocks) + 1) (count_by is_routine (take i blocks))
   of_block one true h e = count_by_more_yes is_routine blocks i one h e
   of_block one false h e = count_by_more_no is_routine blocks i one h e

@@ -1,6 +1,4 @@
 mod InsideLaws
-mod ListSteps
-mod LoopSteps
 mod NodeViews
 pub mod StatementLaws
 mod TreeSteps

@@ -12,10 +12,6 @@ use Rattle.tp_lexer.specs.Grammar.{Takes}
 use Rattle.tp_lexer.specs.declared.shape.Shape.{Shape}
 use Rattle.tp_lexer.specs.Tokens.{Outcome, preceded, ended, Follows, Spells, effect_at}
 
-pub preceded-none : (o : Outcome) → preceded [] o ≡ o
-preceded-none (Ok read) = refl
-preceded-none (Err error) = refl
-
 pub preceded-preceded : (a b : List Token) (o : Outcome) → preceded a (preceded b o) ≡ preceded (a ++ b) o
 preceded-preceded a b (Ok read) = let again : List Token → Outcome = λ tokens. Ok (tokens, read.1) in sym (ap again (append_assoc a b read.0))
 preceded-preceded a b (Err error) = refl
@@ -48,9 +44,6 @@ take_take m n xs =
     ap (λ (t : List ℕ). t ++ take n (drop m xs)) (sym front) ∙ ap (λ (t : List ℕ). take m whole ++ t) (sym back) ∙ take-append-drop m whole
 
 module _ (Includes : Place → List ℕ → Settings → Outcome → Type 0) (number : ℕ) (bytes : List ℕ) (now : Settings) where
-  pub leads_start : Leads Includes number bytes now 0 (record { settings = now; conditions = [] }) []
-  leads_start spellings o joined rest = (spellings, joined, subst (Spells Includes number [] (record { settings = now; conditions = [] }) spellings) (sym (preceded-none o)) rest)
-
   step : (position n : ℕ) (context : Context) (emitted : List Token) (effect : Effect) → Stands number bytes position n context effect → Leads Includes number bytes now position context emitted → (spellings : List (List ℕ)) (o : Outcome) → concat spellings ≡ drop (position + n) bytes → Follows Includes (λ next rest. Spells Includes number (take (position + n) bytes) next spellings rest) (place_after number (take position bytes)) context effect o → Whole Includes number bytes now (preceded emitted o)
   step position n context emitted effect stands leads spellings o joined follows =
       let place = place_after number (take position bytes) in

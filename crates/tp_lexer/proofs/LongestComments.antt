@@ -49,9 +49,6 @@ brace_open body back none =
 no_star_behind : (c : ℕ) (cs : List ℕ) → HasNoStar (c ∷ cs) → HasNoStar cs
 no_star_behind c cs none front back e = none (c ∷ front) back (ap (λ (t : List ℕ). c ∷ t) e)
 
-first_is : (a b : Bool) → (a && b) ≡ true → (a ≡ true) × (b ≡ true)
-first_is a b e = (and_left a b e, and_right a b e)
-
 no_star_here : (c : ℕ) (cs rest : List ℕ) (b : Bool) → HasNoStar (c ∷ cs) → (eqb c 42 && eqb (get_or (cs ++ 42 ∷ rest) 0 0) 41) ≡ b → b ≡ false
 no_star_here c cs rest false none is = refl
 no_star_here c [] rest true none is = absurd (let h = and_right (eqb c 42) false is in let k : false ≡ true = h in cc)

@@ -28,9 +28,6 @@ module _ {number : ℕ} {bytes : List ℕ} {position : ℕ} {context : Context} 
   pub taken_within : position + e.length ≤ length bytes
   taken_within = omega (arith, taken.below, taken.within, ap length taken.rest_is, length-drop position bytes)
 
-  pub taken_length : length spelling ≡ e.length
-  taken_length = ap length taken.spelling_is ∙ length-take-le e.length rest taken.within
-
   spelling_there : spelling ≡ take e.length (drop position bytes)
   spelling_there = taken.spelling_is ∙ ap (λ (t : List ℕ). take e.length t) taken.rest_is
 

@@ -1,5 +1,5 @@
 -- A block that is opened round the headers of methods, and closed.
-use Rattle.std.proofs.Common.{◌≡◌, ◌<◌, ◌-◌, ℕ, Bool, true, false, not, cond, List, [], ◌∷◌, ◌++◌, length, take, Option, Some, None, refl, arith, sym, ap, subst, ◌∙◌, length-append}
+use Rattle.std.proofs.Common.{◌≡◌, ◌-◌, ℕ, Bool, true, false, not, cond, List, [], ◌∷◌, ◌++◌, length, take, Option, Some, None, refl, arith, ap, ◌∙◌, length-append}
 use Rattle.std.specs.List.{last_or}
 use Rattle.std.proofs.lemmas.List.{take_at}
 use Rattle.scopes.specs.declared.entries.Entry.{Entry}
@@ -41,16 +41,6 @@ pub closed : (g : Environment) (name : List ℕ) → without_block (inside g nam
 closed g name =
     ap without_block (named g Part name (entry.Ty (type_id (length g.types.types))))
     ∙ ap (with_blocks g) (outer-pushed g.blocks (block_of Part ((name, entry.Ty (type_id (length g.types.types))) ∷ [])))
-
--- a block is open
-pub is_open : (g : Environment) (kind : BlockKind) → 0 < length (with_block g kind).blocks
-is_open g kind = omega (arith, length-append g.blocks (block_of kind [] ∷ []))
-
-pub inside_is_open : (g : Environment) (name : List ℕ) → 0 < length (inside g name).blocks
-inside_is_open g name =
-    let one = entry.Ty (type_id (length g.types.types)) in
-    let e : (inside g name).blocks ≡ g.blocks ++ block_of Part ((name, one) ∷ []) ∷ [] = ap (λ (h : Environment). h.blocks) (named g Part name one) in
-    subst (λ (blocks : List OpenBlock). 0 < length blocks) (sym e) (omega (arith, length-append g.blocks (block_of Part ((name, one) ∷ []) ∷ [])))
 
 -- a block in which the object type has its name
 pub entered_inside : (g opened new : Environment) (name : List ℕ) (count : ℕ) (is_new : Bool) → opened ≡ with_block g Part → count ≡ length g.types.types

@@ -54,10 +54,6 @@ pub not_nil : (s : Scope) (e : Expression) → IsNone (sorts.sort_of s.types e) 
 not_nil s e h (inl typed) = typed
 not_nil s e h (inr none) = absurd (subst (λ (x : Sort). IsNone x) (nil_sort s.types e none) h)
 
--- an operand whose sort is known not to be Nil
-pub known_typed : (s : Scope) (e : Expression) (x : Sort) → sorts.sort_of s.types e ≡ x → IsNone x → IsOperand s e → IsTyped s e
-known_typed s e x is h operand = not_nil s e (subst (λ (y : Sort). IsNone y) (sym is) h) operand
-
 -- ---- the rules ask for what is not nil
 
 pub integer_one : (x : Sort) → plans.IsInteger x → IsNone x

@@ -1,12 +1,12 @@
 -- What parts of a program lead to, one behind another.
-use Rattle.std.proofs.Common.{◌≡◌, ℕ, zero, suc, List, [], ◌∷◌, ◌++◌, Some, None, sym, subst, append-nil, append_assoc}
+use Rattle.std.proofs.Common.{ℕ, zero, suc, List, [], ◌∷◌, ◌++◌, Some, None, sym, subst, append-nil, append_assoc}
 use Rattle.std.specs.Prelude.{Option, Ok, Err}
 use Rattle.behaviour.specs.Seen.{Ended, Going, Undefined, Stopped}
 use Rattle.type_layout.specs.declared.definitions.TypeId.{TypeId}
 use Rattle.typed_tree.specs.declared.units.Unit.{Unit as TypedUnit}
 use Rattle.meaning.specs.Found.{Found, Act, Error, IllTyped}
 use Rattle.meaning.specs.Store.{Store}
-use Rattle.meaning.specs.Outcomes.{State, Outcome, Done, Over, Does, and_then, known, found, looked, with_store, changed, spent, spending}
+use Rattle.meaning.specs.Outcomes.{State, Outcome, Done, Over, Does, and_then, found, looked, with_store, changed, spent, spending}
 use Rattle.meaning.specs.Programs.{sort_in}
 use Rattle.meaning.specs.Activations.{Reached, Level, Activation}
 use Rattle.sound_stores.specs.Worlds.{Made, World}
@@ -104,9 +104,6 @@ module _ {A : Type 0} (P : World → A → Type 0) (w : World) where
 
   pub ends_looked : (look : Store → Found A) (s : State) → IsTypedState w s → Finds (P w) (look s.store) → Ends w P (looked look s)
   ends_looked look s typed h = ends_found (look s.store) s typed h
-
-  pub ends_known : (o : Option A) (a : A) (s : State) → o ≡ Some a → IsTypedState w s → P w a → Ends w P (known o s)
-  ends_known o a s e typed is = subst (λ (x : Option A). Ends w P (known x s)) (sym e) (ends_done a s typed is)
 
   -- a part that changes nothing
   pub ends_looks : (o : Outcome A) (s : State) → IsTypedState w s → Looks (P w) s o → Ends w P o

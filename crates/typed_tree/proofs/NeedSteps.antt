@@ -1,13 +1,11 @@
 -- One step of the loops over arguments and elements.
 use Rattle.std.proofs.Common.{◌≡◌, ℕ, ◌+◌, max, List, ◌∷◌, arith, ap}
 use Rattle.type_layout.specs.declared.definitions.TypeDef.{TypeDef}
-use Rattle.typed_tree.specs.declared.expressions.SetElement.{SetElement}
-use Rattle.typed_tree.specs.declared.expressions.SetElement.TheVariants as element
 use Rattle.typed_tree.specs.declared.expressions.Arg.{Arg}
 use Rattle.typed_tree.specs.declared.expressions.Arg.TheVariants as arg
-use Rattle.typed_tree.specs.Expressions.{Arguments, NoArguments, ByValue, ByPlace, view_expr, view_args, view_elements}
+use Rattle.typed_tree.specs.Expressions.{Arguments, NoArguments, ByValue, ByPlace, view_expr, view_args}
 use Rattle.typed_tree.specs.Slots.{capped, slot_of}
-use Rattle.typed_tree.specs.Needs.{arguments_need, argument_need, argument_slot, elements_need, element_need}
+use Rattle.typed_tree.specs.Needs.{arguments_need, argument_need, argument_slot}
 
 -- slots that are capped before the last argument are capped at the end
 arguments_need-capped : (types : List TypeDef) (before result : ℕ) (args : Arguments)
@@ -37,9 +35,3 @@ arguments_need-step types before result (arg.Value value) rest =
 arguments_need-step types before result (arg.Place at) rest =
     let a = arguments_need-capped types (before + 4) result (view_args rest) in
     omega arith
-
-pub elements_need-step : (types : List TypeDef) (one : SetElement) (rest : List SetElement)
-    → capped (elements_need types (view_elements (one ∷ rest)))
-    ≡ max (capped (element_need types one)) (capped (elements_need types (view_elements rest)))
-elements_need-step types (element.One one) rest = omega arith
-elements_need-step types (element.Span low high) rest = omega arith

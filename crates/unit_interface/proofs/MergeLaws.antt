@@ -1,6 +1,6 @@
 -- Steps of the loops that merge an interface into a scope.
-use Rattle.std.proofs.Common.{◌≡◌, ℕ, zero, suc, ◌+◌, ◌<◌, ◌≤◌, Bool, true, false, cond, List, [], ◌∷◌, ◌++◌, length, map, get_or, take, drop, Some, refl, arith, sym, ap, ◌∙◌, add-one, append_assoc, append-nil, drop-cons}
-use Rattle.std.specs.Prelude.{All, not, slice_get}
+use Rattle.std.proofs.Common.{◌≡◌, ℕ, zero, suc, ◌+◌, ◌<◌, ◌≤◌, true, false, List, [], ◌∷◌, ◌++◌, length, map, get_or, take, drop, Some, refl, arith, sym, ap, ◌∙◌, add-one, append_assoc, append-nil, drop-cons}
+use Rattle.std.specs.Prelude.{All, slice_get}
 use Rattle.std.proofs.lemmas.List.{take_all}
 use Rattle.type_layout.specs.declared.definitions.TypeId.{TypeId}
 use Rattle.type_layout.specs.declared.definitions.TypeDef.{TypeDef}
@@ -9,7 +9,7 @@ use Rattle.type_layout.specs.Table.{Table, IsWellFormed, place_of, with_type}
 use Rattle.typed_tree.specs.declared.units.Item.{Item}
 use Rattle.scopes.specs.Symbols.{SymbolList}
 use Rattle.unit_interface.specs.declared.keys.Key.{Key}
-use Rattle.unit_interface.specs.Merge.{key_of, keys_of, place_of_key, with_key, ids_of, renumbered, is_new, with_merged, name_of, entry_of, with_new, with_items}
+use Rattle.unit_interface.specs.Merge.{key_of, keys_of, place_of_key, with_key, ids_of, renumbered, is_new, with_merged, with_items}
 
 pub item-at : {A : Type 0} → (xs : List A) (place : ℕ) (x : A) → place < length xs → x ≡ get_or xs place x → slice_get xs place ≡ Some x
 item-at [] place x below is = absurd (omega arith)
@@ -112,20 +112,6 @@ merged-old other table ids number old = rw old refl
 
 -- ---- items
 
-pub items-step : (ids : List TypeId) (unit : ℕ) (all : List Item) (symbols : SymbolList) (place : ℕ) (item : Item) → place < length all → item ≡ get_or all place item
-    → with_items ids unit [] all ≡ with_items ids unit symbols (drop place all)
-    → with_items ids unit [] all ≡ with_items ids unit (with_new symbols (name_of item) (entry_of ids unit item)) (drop (place + 1) all)
-items-step ids unit all symbols place item below is so_far =
-    so_far ∙ ap (with_items ids unit symbols) (drop-next all place item below is)
-
 pub items-end : (ids : List TypeId) (unit : ℕ) (all : List Item) (symbols : SymbolList) (place : ℕ) → length all ≤ place
     → with_items ids unit [] all ≡ with_items ids unit symbols (drop place all) → symbols ≡ with_items ids unit [] all
 items-end ids unit all symbols place past so_far = sym (so_far ∙ ap (with_items ids unit symbols) (drop-past all place past))
-
-pub new-by : (is_new known : Bool) (symbols longer : SymbolList) → is_new ≡ not known → cond is_new longer symbols ≡ cond known symbols longer
-new-by is_new true symbols longer e = rw e refl
-new-by is_new false symbols longer e = rw e refl
-
-pub not-false : (b : Bool) → not b ≡ false → b ≡ true
-not-false true e = refl
-not-false false e = cc

@@ -291,16 +291,3 @@ edges-step types edges number beside below is so_far =
     is ∙ ap (λ (o : Option TypeDef). known (length types) (goes_with types number o)) at
     ∙ ap (λ (k : ℕ). known (length types) (goes_with types k (Some one))) (sym n) in
     rw (take-next types number one at, edges-push types 0 (take number types) one, so_far, last) refl
-
--- the numbers that were found to go with a type
-pub goes-so : (types : List TypeDef) (number : ℕ) (one : TypeDef) (named numbers : List ℕ) → slice_get types number ≡ Some one
-    → named ≡ in_type one ++ behind number one → numbers ≡ named ++ in_front types number → numbers ≡ goes_with types number (slice_get types number)
-goes-so types number one named numbers at first all =
-    all ∙ ap (λ (n : List ℕ). n ++ in_front types number) first ∙ ap (goes_with types number) (sym at)
-
--- what is in front of the next type
-pub front-next : (types : List TypeDef) (number before : ℕ) (one : TypeDef) → number ≡ before + 1 → slice_get types before ≡ Some one
-    → in_front types number ≡ cond (is_enumeration (Some one)) (before ∷ []) []
-front-next types number before one is at =
-    let next : number ≡ suc before = omega (arith, is) in
-    ap (in_front types) next ∙ ap (λ (o : Option TypeDef). cond (is_enumeration o) (before ∷ []) []) at

@@ -1,14 +1,11 @@
 -- Steps of the loops over the uses of a unit.
-use Rattle.std.proofs.Common.{◌≡◌, ℕ, zero, suc, ◌+◌, ◌<◌, ◌≤◌, true, false, List, [], ◌∷◌, ◌++◌, length, get_or, take, Some, refl, arith, ap, ◌∙◌}
+use Rattle.std.proofs.Common.{◌≡◌, ℕ, ◌+◌, ◌<◌, true, false, List, [], ◌∷◌, ◌++◌, length, get_or, take, Some, refl, ap, ◌∙◌}
 use Rattle.std.specs.Prelude.{slice_get}
 use Rattle.std.proofs.lemmas.Bool.{and_parts}
-use Rattle.std.proofs.lemmas.List.{take_all}
 use Rattle.scopes.specs.Environment.{Environment}
 use Rattle.scopes.specs.Predeclared.{first}
 use Rattle.unit_interface.specs.declared.interfaces.Interface.{Interface}
-use Rattle.unit_interface.specs.declared.resolving.ResolveError.{ResolveError}
-use Rattle.unit_interface.specs.declared.resolving.ResolveError.TheVariants.{MissingUnit, DuplicateUse, Mismatch, NoMemory}
-use Rattle.unit_interface.specs.Resolve.{with_use, with_uses, resolved, is_there, is_repeated, IsMissing, IsDuplicate, IsNameCause, IsCause}
+use Rattle.unit_interface.specs.Resolve.{with_use, with_uses, resolved, is_there, is_repeated}
 use Rattle.unit_interface.specs.Fitting.{use_fits, uses_fit}
 use Rattle.unit_interface.proofs.MergeLaws.{item-at, take-next}
 
@@ -18,42 +15,6 @@ IsOnce uses place = (name : List ℕ) → slice_get uses place ≡ Some name →
 
 abbrev pub IsFound : List Interface → List (List ℕ) → ℕ → Type 0
 IsFound have uses place = (name : List ℕ) → slice_get uses place ≡ Some name → is_there have name ≡ true
-
-pub once-here : (uses : List (List ℕ)) (place : ℕ) (one : List ℕ) → place < length uses → one ≡ get_or uses place one
-    → is_repeated (take place uses) one ≡ false → IsOnce uses place
-once-here uses place one below is once name at =
-    let there = item-at uses place one below is in
-    let same : one ≡ name = cc in
-    rw (← same) once
-
-pub found-here : (have : List Interface) (uses : List (List ℕ)) (place : ℕ) (one : List ℕ) → place < length uses → one ≡ get_or uses place one
-    → is_there have one ≡ true → IsFound have uses place
-found-here have uses place one below is found name at =
-    let there = item-at uses place one below is in
-    let same : one ≡ name = cc in
-    rw (← same) found
-
-place-below : (uses : List (List ℕ)) (place : ℕ) (one : List ℕ) → slice_get uses place ≡ Some one → place < length uses
-place-below [] zero one at = cc
-place-below [] (suc place) one at = cc
-place-below (t ∷ uses) zero one at = omega arith
-place-below (t ∷ uses) (suc place) one at = let rest = place-below uses place one at in omega arith
-
-pub no-duplicate : (uses : List (List ℕ)) (end : ℕ) → length uses ≤ end → ((place : ℕ) → place < end → IsOnce uses place)
-    → (name : List ℕ) → IsDuplicate uses name → ⊥
-no-duplicate uses end past all name d =
-    let below = place-below uses d.place name d.used in
-    let no : is_repeated (take d.place uses) name ≡ false = all d.place (omega arith) name d.used in
-    let yes = d.repeated in
-    cc
-
-pub none-missing : (have : List Interface) (uses : List (List ℕ)) (end : ℕ) → length uses ≤ end → ((place : ℕ) → place < end → IsFound have uses place)
-    → (name : List ℕ) → IsMissing have uses name → ⊥
-none-missing have uses end past all name m =
-    let below = place-below uses m.place name m.used in
-    let yes : is_there have name ≡ true = all m.place (omega arith) name m.used in
-    let no = m.absent in
-    cc
 
 pub with_uses-push : (have : List Interface) (environment : Environment) (names : List (List ℕ)) (name : List ℕ)
     → with_uses have environment (names ++ name ∷ []) ≡ with_use have (with_uses have environment names) name
@@ -79,13 +40,3 @@ pub resolved-next : (have : List Interface) (own : List ℕ) (uses : List (List 
     → resolved have own (take (place + 1) uses) ≡ with_use have (resolved have own (take place uses)) name
 resolved-next have own uses place name below is =
     ap (resolved have own) (take-next uses place name (item-at uses place name below is)) ∙ with_uses-push have (first own) (take place uses) name
-
-pub resolved-end : (have : List Interface) (own : List ℕ) (uses : List (List ℕ)) (place : ℕ) → length uses ≤ place
-    → resolved have own (take place uses) ≡ resolved have own uses
-resolved-end have own uses place past = ap (resolved have own) (take_all place uses past)
-
-pub cause-of-names : (have : List Interface) (own : List ℕ) (uses : List (List ℕ)) (error : ResolveError) → IsNameCause have uses error → IsCause have own uses error
-cause-of-names have own uses (MissingUnit name) cause = cause
-cause-of-names have own uses (DuplicateUse name) cause = cause
-cause-of-names have own uses (Mismatch name) cause = absurd cause
-cause-of-names have own uses NoMemory cause = tt

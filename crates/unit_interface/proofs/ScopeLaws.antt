@@ -1,5 +1,5 @@
 -- Steps of the loop over the types of an interface, in a scope.
-use Rattle.std.proofs.Common.{◌≡◌, ℕ, ◌+◌, List, [], true, false, inl, sym, ap, subst, ◌∙◌, add-one}
+use Rattle.std.proofs.Common.{◌≡◌, ℕ, ◌+◌, List, [], true, inl, sym, ap, ◌∙◌, add-one}
 use Rattle.std.specs.Prelude.{Some, slice_get, get_or}
 use Rattle.type_layout.specs.declared.definitions.TypeId.{TypeId}
 use Rattle.type_layout.specs.declared.definitions.TypeDef.{TypeDef}
@@ -9,8 +9,8 @@ use Rattle.scopes.specs.Environment.{Environment}
 use Rattle.unit_interface.specs.declared.merge.MergeError.{MergeError}
 use Rattle.unit_interface.specs.declared.merge.MergeError.TheVariants.{Mismatch, NoMemory}
 use Rattle.unit_interface.specs.Merge.{renumbered, is_new, with_merged, merged}
-use Rattle.unit_interface.specs.Misfits.{IsMisfitCause, IsMisfitAt, IsOutOfPlace, IsCause}
-use Rattle.unit_interface.proofs.MergeLaws.{merged-new, merged-old}
+use Rattle.unit_interface.specs.Misfits.{IsMisfitCause, IsMisfitAt}
+use Rattle.unit_interface.proofs.MergeLaws.{merged-new}
 
 pub merge-step : (env now new : Environment) (other : Table) (ids : List TypeId) (number : ℕ)
     → now ≡ record env { types = merged other ids env.types number }
@@ -18,14 +18,6 @@ pub merge-step : (env now new : Environment) (other : Table) (ids : List TypeId)
     → new ≡ record env { types = merged other ids env.types (number + 1) }
 merge-step env now new other ids number so_far step =
     rw add-one (step ∙ ap (λ (e : Environment). (let next : Environment = record e { types = with_merged other ids e.types number } in next)) so_far)
-
-pub merge-stop : (env now : Environment) (other : Table) (ids : List TypeId) (number : ℕ) (error : MergeError)
-    → now ≡ record env { types = merged other ids env.types number } → IsMisfitAt ids now.types other number error → IsCause ids env.types other error
-merge-stop env now other ids number Mismatch so_far unfit = record {
-  number = number;
-  unfit = subst (λ (e : Environment). IsOutOfPlace ids e.types other number) so_far unfit;
-}
-merge-stop env now other ids number NoMemory so_far unfit = tt
 
 -- a new type was added
 pub type-added : (env new : Environment) (other : Table) (ids : List TypeId) (number : ℕ) (one added : TypeDef) (origin : Origin) (name : List ℕ)
@@ -36,11 +28,6 @@ pub type-added : (env new : Environment) (other : Table) (ids : List TypeId) (nu
 type-added env new other ids number one added origin name at from named new_id is step =
     step ∙ ap (λ (d : TypeDef). (let e : Environment = record env { types = with_type env.types name origin.number d } in e)) is
     ∙ ap (λ (t : Table). (let e : Environment = record env { types = t } in e)) (sym (merged-new other env.types ids number one origin name at from named new_id))
-
--- a type that was there stays
-pub type-kept : (env : Environment) (other : Table) (ids : List TypeId) (number : ℕ) → is_new ids env.types number ≡ false
-    → env ≡ record env { types = with_merged other ids env.types number }
-type-kept env other ids number old = ap (λ (t : Table). (let e : Environment = record env { types = t } in e)) (sym (merged-old other env.types ids number old))
 
 -- a new type that could not be added
 pub type-unfit : (env : Environment) (other : Table) (ids : List TypeId) (number : ℕ) (one added : TypeDef) (origin : Origin) (name : List ℕ) (error : MergeError)

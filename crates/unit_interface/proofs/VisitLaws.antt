@@ -1,18 +1,8 @@
 -- One visit.
-use Rattle.std.proofs.Common.{◌≡◌, ℕ, zero, suc, ◌-◌, Bool, true, false, cond, List, [], get_or, refl, sym, ap, ◌∙◌, arith, nat_eq, ◌≢◌}
+use Rattle.std.proofs.Common.{◌≡◌, ℕ, zero, suc, ◌-◌, Bool, false, cond, List, [], get_or, refl, sym, ap, ◌∙◌, arith, nat_eq, ◌≢◌}
 use Rattle.std.specs.List.{list_any}
 use Rattle.unit_interface.specs.declared.visits.Progress.{Progress}
 use Rattle.unit_interface.specs.Order.{meet, finish, visit_each, visit}
-
-pub visit_none : (edges : List (List ℕ)) (progress : Progress) (place room : ℕ) → room ≡ 0 → visit room edges progress place ≡ progress
-visit_none edges progress place zero none = refl
-visit_none edges progress place (suc room) none = absurd (cc)
-
-pub visit_met : (edges : List (List ℕ)) (progress : Progress) (place room : ℕ) → list_any (nat_eq place) progress.met ≡ true
-    → visit room edges progress place ≡ progress
-visit_met edges progress place zero met = refl
-visit_met edges progress place (suc room) met =
-    ap (λ (b : Bool). cond b progress (finish place (visit_each (visit room edges) (meet place progress) (get_or edges place [])))) met
 
 pub visit_new : (edges : List (List ℕ)) (progress : Progress) (place room less : ℕ) → room ≢ 0 → less ≡ room - 1
     → list_any (nat_eq place) progress.met ≡ false

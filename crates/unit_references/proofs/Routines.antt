@@ -98,10 +98,6 @@ pub record Found (Asked : Prototype → Type 0) (site : Site) (around : List ℕ
   pub asked : Asked seen
   pub leads : Leads site around routine seen ⊎ Overlaid site routine seen
 
-no_owner : (o : Option TypeId) → (is_some o ≡ true → ⊥) → o ≡ None
-no_owner None h = refl
-no_owner (Some ty) h = absurd (h refl)
-
 module _ (program : Program) (sound : HasSoundUnits program) (unit : TypedUnit) (listed : IsUnit program unit) (number : ℕ) (withs : List TypeId) where
   abbrev site : Site
   site = site_in program unit number

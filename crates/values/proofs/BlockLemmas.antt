@@ -266,9 +266,6 @@ placed size rows i d e =
     let p = position-Some (λ (row : Row). eqb row.size size) rows i d e in
     at_place size rows i d p.0 p.1 p.2
 
-pub within : (size : ℕ) (rows : List Row) (i : ℕ) → position (λ row. eqb row.size size) rows ≡ Some i → i < length rows
-within size rows i e = (position-Some (λ (row : Row). eqb row.size size) rows i (first_block 0) e).0
-
 pub record IsNowhere (size : ℕ) (rows : List Row) : Type 0 where
   pub live : live_of size rows ≡ 0
   pub most : most_of size rows ≡ 0

@@ -181,13 +181,6 @@ mag-abs : (z : ℤ) → mag z ≤ unsigned_abs z
 mag-abs (pos n) = omega arith
 mag-abs (negsuc n) = omega arith
 
-pub product-small : (a b : ℤ) → FitsSigned w32 a → FitsSigned w32 b → mag (a *ℤ b) ≤ 2 ^ 62
-product-small a b f g =
-    let p = mul-le (unsigned_abs a) (unsigned_abs b) (2 ^ 31) (2 ^ 31) (abs-small a f) (abs-small b g) in
-    let e = unsigned_abs-mul a b in
-    let m = mag-abs (a *ℤ b) in
-    omega arith
-
 pub small-fits : (z : ℤ) → mag z ≤ 2 ^ 62 → FitsSigned w64 z
 small-fits z h = record { sfits = omega arith }
 

@@ -118,9 +118,6 @@ subset_laws = record { below = below; from_elements = from_elements; same = same
 
 -- ---- bytes
 
-weight : (v : Bool) → ℕ
-weight v = cond v 1 0
-
 weight-if : (v : Bool) (n : ℕ) → weight_if v n ≡ cond v 1 0 * 2 ^ n
 weight-if true n = omega arith
 weight-if false n = omega arith

@@ -101,10 +101,6 @@ found_first : (part text : List ℕ) → 0 < position_of part text → StandsBeh
 found_first [] text h = absurd (omega arith)
 found_first (b ∷ part) text h = (found 1 (b ∷ part) text h).stands
 
--- the place is not behind one at which the part stands
-IsNotAfter : ℕ → ℕ → ℕ → Type 0
-IsNotAfter place n q = (0 < q) × (q ≤ place + n)
-
 not_after_by : (place b n : ℕ) (part text before behind : List ℕ) (v : Bool) → starts_with nat_eq (b ∷ text) part ≡ v → 0 < place → b ∷ text ≡ before ++ (part ++ behind) → length before ≡ n
     → ((k : ℕ) (front : List ℕ) → text ≡ front ++ (part ++ behind) → length front ≡ k → (0 < place_from (place + 1) part text) × (place_from (place + 1) part text ≤ place + 1 + k))
     → (0 < cond v place (place_from (place + 1) part text)) × (cond v place (place_from (place + 1) part text) ≤ place + n)

@@ -5,36 +5,8 @@ use Rattle.std.specs.Prelude.{if◌then◌else◌}
 use Rattle.x86_table.specs.declared.instr.Cond.TheVariants as cond
 use Rattle.x86_table.specs.declared.line.Line.{Line}
 use Rattle.x86_table.specs.declared.line.Line.TheVariants.{One, Label, JumpShort, JumpNear, CallNear}
-use Rattle.x86_table.specs.Lines.{line_size, code_size, marks, label_from, label_place, LineReaches, ReachesFrom, ShortJumpsReach, LineShortens, Shortens}
-use Rattle.x86_table.specs.Standing.{label_line_from, label_line, HasLabel, LabelsAreOnce, LineAlike, Alike, offset_of}
-
-line_alike_itself : (x : Line) → LineAlike x x
-line_alike_itself (One i) = refl
-line_alike_itself (Label l) = refl
-line_alike_itself (JumpShort c l) = refl
-line_alike_itself (JumpNear l) = refl
-line_alike_itself (CallNear l) = refl
-
-shortened_line_alike : (x z y : Line) → LineAlike x z → LineShortens x y → (w : Line) × LineAlike y w × LineShortens z w
-shortened_line_alike (One i) (One j) y h g = (One j, subst (λ v. LineAlike v (One j)) (sym g) h, refl)
-shortened_line_alike (One i) (Label l) y h g = absurd h
-shortened_line_alike (One i) (JumpShort c l) y h g = absurd h
-shortened_line_alike (One i) (JumpNear l) y h g = absurd h
-shortened_line_alike (One i) (CallNear l) y h g = absurd h
-shortened_line_alike (Label l) z y h g = (y, line_alike_itself y, subst (λ v. LineShortens v y) (sym h) g)
-shortened_line_alike (JumpShort c l) z y h g = (y, line_alike_itself y, subst (λ v. LineShortens v y) (sym h) g)
-shortened_line_alike (JumpNear l) z y h g = (y, line_alike_itself y, subst (λ v. LineShortens v y) (sym h) g)
-shortened_line_alike (CallNear l) z y h g = (y, line_alike_itself y, subst (λ v. LineShortens v y) (sym h) g)
-
--- what shortens some lines shortens lines that are alike
-pub shortened_alike : (xs zs ys : List Line) → Alike xs zs → Shortens xs ys → (ws : List Line) × Alike ys ws × Shortens zs ws
-shortened_alike [] zs ys h g = ([], subst (λ v. Alike v []) (sym g) refl, subst (λ v. Shortens v []) (sym h) refl)
-shortened_alike (x ∷ xs) [] ys h g = absurd h
-shortened_alike (x ∷ xs) (z ∷ zs) [] h g = absurd g
-shortened_alike (x ∷ xs) (z ∷ zs) (y ∷ ys) h g =
-    let a = shortened_line_alike x z y h.0 g.0 in
-    let b = shortened_alike xs zs ys h.1 g.1 in
-    (a.0 ∷ b.0, (a.1, b.1), (a.2, b.2))
+use Rattle.x86_table.specs.Lines.{line_size, code_size, marks, label_from, label_place, LineReaches, ReachesFrom, ShortJumpsReach}
+use Rattle.x86_table.specs.Standing.{HasLabel, LabelsAreOnce, LineAlike, Alike, offset_of}
 
 alike_line_size : (x y : Line) → LineAlike x y → line_size y ≡ line_size x
 alike_line_size (One i) (One j) h = sym h
@@ -75,14 +47,6 @@ alike_label_from p (x ∷ xs) (y ∷ ys) l h = rw (alike_marks x y l h.0, alike_
 
 pub alike_label_place : (xs ys : List Line) → Alike xs ys → label_place ys ≡ label_place xs
 alike_label_place xs ys h = λ i l. alike_label_from 0 xs ys l h i
-
-alike_label_line_from : (k : ℕ) (xs ys : List Line) (l : ℕ) → Alike xs ys → label_line_from k ys l ≡ label_line_from k xs l
-alike_label_line_from k [] ys l h = ap (λ v. label_line_from k v l) h
-alike_label_line_from k (x ∷ xs) [] l h = absurd h
-alike_label_line_from k (x ∷ xs) (y ∷ ys) l h = rw (alike_marks x y l h.0, alike_label_line_from (k + 1) xs ys l h.1) refl
-
-pub alike_label_line : (xs ys : List Line) → Alike xs ys → label_line ys ≡ label_line xs
-alike_label_line xs ys h = λ i l. alike_label_line_from 0 xs ys l h i
 
 alike_line_reaches : (labels : ℕ → ℕ) (p : ℕ) (x y : Line) → LineAlike x y → LineReaches labels p x → LineReaches labels p y
 alike_line_reaches labels p (One i) (One j) h r = tt

@@ -1,5 +1,5 @@
 -- Bytes spell one operand.
-use Rattle.std.proofs.Common.{◌≡◌, ◌≢◌, ℕ, ◌+◌, ◌*◌, ◌<◌, ◌/◌, ◌%◌, List, [], ◌∷◌, ◌++◌, Option, arith, refl, ap}
+use Rattle.std.proofs.Common.{◌≡◌, ◌≢◌, ℕ, ◌+◌, ◌*◌, ◌<◌, ◌/◌, ◌%◌, List, [], ◌++◌, Option, arith, ap}
 use Rattle.std.specs.Prelude.{None, Some}
 use Rattle.std.proofs.lemmas.Grind.{common_steps}
 use Rattle.x86_table.specs.declared.operand.SegReg.{SegReg}
@@ -86,15 +86,3 @@ byte_unique (byte.Reg r) (byte.Reg s) f g x y hf hg es e = grind (arith, byte_re
 byte_unique (byte.Reg r) (byte.Mem n) f g x y hf hg es e = grind (arith, place_code-lt n.place)
 byte_unique (byte.Mem m) (byte.Reg s) f g x y hf hg es e = grind (arith, place_code-lt m.place)
 byte_unique (byte.Mem m) (byte.Mem n) f g x y hf hg es e = grind (arith, memory_unique)
-
--- where the first byte says a memory operand
-pub no_word : (o : WordOperand) (field first : ℕ) (tail rest : List ℕ) → field < 8 → first < 192 → first ∷ tail ≡ word_modrm field o ++ rest → (m : Memory) × (o ≡ word.Mem m)
-unfolding word_modrm memory_modrm
-no_word (word.Reg r) field first tail rest hf lt h = absurd (grind arith)
-no_word (word.Mem m) field first tail rest hf lt h = (m, refl)
-
--- where the first byte says a memory operand
-pub no_byte : (o : ByteOperand) (field first : ℕ) (tail rest : List ℕ) → field < 8 → first < 192 → first ∷ tail ≡ byte_modrm field o ++ rest → (m : Memory) × (o ≡ byte.Mem m)
-unfolding byte_modrm memory_modrm
-no_byte (byte.Reg r) field first tail rest hf lt h = absurd (grind arith)
-no_byte (byte.Mem m) field first tail rest hf lt h = (m, refl)
