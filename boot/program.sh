@@ -1,0 +1,244 @@
+# shellcheck shell=bash
+# Which file is the program `tp` for the sources of this clone, and how it comes to be. Read by ./tp, ./test and boot/renew.
+#   crates/tp/out/tp  what rt built over proved crates: for these sources where none of them is newer
+#   boot/tp.gz        the same, packed, for x86-64 Linux: for the sources whose sum is boot/sum
+#   boot/tp           boot/tp.gz unpacked, which git ignores
+top=$(dirname "$(dirname "$(readlink -f "${BASH_SOURCE[0]}")")")
+out=$top/crates/tp/out
+built=$out/tp
+packed=$top/boot/tp.gz
+unpacked=$top/boot/tp
+# There while a build is at work, or after one that was killed: its program may be cut off. Its time is that of the build's start.
+mark=$out/tp.started
+
+# The lines of crates.txt for tp and the crates below it, in the order in which rt proves them: each after those that it uses.
+crate_lines() {
+    awk '
+        function visit(name,   i, n, words) {
+            if (name in seen || !(name in uses)) return
+            seen[name] = 1
+            n = split(uses[name], words, /[ \t,]+/)
+            for (i = 1; i <= n; i++) visit(words[i])
+            print line[name]
+        }
+        { sub(/[ \t]*#.*/, "") }
+        NF {
+            name = $1
+            sub(/:.*/, "", name)
+            line[name] = $0
+            uses[name] = index($0, ":") ? substr($0, index($0, ":") + 1) : ""
+        }
+        END { visit("tp") }' "$top/crates.txt"
+}
+
+# Sets `names` to the crates at and below tp, and `sources` to where the texts stand that determine the program and its proofs.
+find_sources() {
+    local name part
+    mapfile -t names < <(crate_lines | sed 's/[: ].*//')
+    sources=(HANDLES)
+    for name in "${names[@]}"; do
+        for part in src specs proofs; do
+            [ ! -d "$top/crates/$name/$part" ] || sources+=("crates/$name/$part")
+        done
+    done
+}
+
+# The sum of these texts, by their names and bytes, so that it is the same in any folder, with git or without.
+sum_of_sources() (
+    cd "$top" || exit
+    export LC_ALL=C
+    {
+        crate_lines
+        find "${sources[@]}" -type f \( -name '*.rt' -o -name '*.antt' -o -name HANDLES \) -print0 | sort -z | xargs -0 sha256sum
+    } | sha256sum | cut -d ' ' -f 1
+)
+
+# Whether the program $1 is there and find's test $2 (-newer or -cnewer) holds of none of these files and folders beside the sources.
+is_newest() (
+    cd "$top" || exit
+    [ -x "$1" ] && [ -z "$(find "${sources[@]}" "${@:3}" "$2" "$1" -print -quit)" ]
+)
+
+is_built() {
+    [ ! -e "$mark" ] && is_newest "$built" -newer crates.txt
+}
+
+# Whether boot/tp was unpacked after all that it stands for was put here. By the time of that, which unlike a file's own time no
+# tar or cp sets back.
+is_unpacked() {
+    [ -f "$packed" ] && [ -f "$top/boot/sum" ] && is_newest "$unpacked" -cnewer crates.txt boot/sum boot/tp.gz
+}
+
+# Unpacks the boot program where it stands for the sources, or says in `why` why it can't be used.
+unpack() {
+    local new
+    why='there is no boot program'
+    [ -f "$packed" ] && [ -f "$top/boot/sum" ] || return 1
+    why='boot/ cannot be written'
+    new=$(mktemp "$top/boot/.new.XXXXXX") || return 1
+    # (unpacked before the sum is taken, so that a source that is edited meanwhile is newer)
+    if ! gzip -dc "$packed" >"$new" || ! chmod 755 "$new"; then
+        why='boot/tp.gz cannot be unpacked'
+    elif [ "$(sum_of_sources)" != "$(cat "$top/boot/sum")" ]; then
+        why='the boot program was built from other sources'
+    elif ! "$new" --version </dev/null >/dev/null 2>&1; then
+        why='the boot program does not run here, as it is for x86-64 Linux with glibc 2.34 or later'
+    elif mv -f "$new" "$unpacked"; then
+        return 0
+    fi
+    rm -f "$new"
+    return 1
+}
+
+# Sets `program` to one that stands for the sources, if there is one without a build.
+at_hand() {
+    find_sources
+    program=$built
+    is_built && return
+    program=$unpacked
+    is_unpacked || unpack
+}
+
+# What the function $1 of the program's source answers, help_text or version_text, so that the script need not say it once more.
+text_of() {
+    local source=$top/crates/commands/src/texts.rt
+    [ -f "$source" ] || return
+    printf '%b' "$(awk -v start="fn $1[(]" '
+        $0 ~ start { is_in = 1 }
+        is_in && /^ *"/ { is_text = 1; sub(/"/, "") }
+        is_text { sub(/^ */, ""); ends = sub(/"$/, ""); sub(/\\$/, ""); printf "%s", $0 }
+        ends { exit }' "$source")"
+}
+
+# Answers --help and --version, and refuses words that ask for nothing: for these nothing is built. Returns for the others.
+answer_words() {
+    local help commands options values known found=()
+    help=$(text_of help_text)
+    # (where the source has no such text, the program is built to answer)
+    [ -n "$help" ] || return
+    case "$#:${1-}" in
+    1:--help) text_of help_text; exit 0 ;;
+    1:--version) text_of version_text; exit 0 ;;
+    esac
+    # Its lines are such as `tp go NAME [--limit N]`.
+    commands=$(sed -n 's/^\(Usage:\)\{0,1\} *tp \([a-z][a-z]*\) .*/\2/p' <<<"$help")
+    options=$(grep -o -e '--[a-z][a-z-]*' <<<"$help")
+    values=$(grep -o -e '--[a-z][a-z-]* [A-Z]' <<<"$help")
+    while [ $# -gt 0 ]; do
+        case $1 in
+        --) found+=("${@:2}"); break ;;
+        -*)
+            grep -qxF -e "${1%%=*}" <<<"$options" || refuse "there is no option '$1'"
+            # (its value follows)
+            if grep -qF -e "$1 " <<<"$values" && [ $# -gt 1 ]; then shift; fi
+            ;;
+        *) found+=("$1") ;;
+        esac
+        shift
+    done
+    known="the commands are ${commands//$'\n'/, }"
+    [ ${#found[@]} -gt 0 ] || refuse "$known"
+    grep -qxF -e "${found[0]}" <<<"$commands" || refuse "there is no command '${found[0]}'; $known"
+    [ ${#found[@]} -gt 1 ] || refuse "${found[0]} wants a name"
+}
+
+refuse() {
+    echo "tp: $1; tp --help says more" >&2
+    exit 252
+}
+
+minutes() {
+    if [ "$1" -lt 3600 ]; then echo "$(($1 / 60)) min"; else echo "$(($1 / 3600)) h $(($1 / 60 % 60)) min"; fi
+}
+
+# Says until the process $1 ends how far the build with the log $2 is: on a terminal in one line, else in a line a minute.
+show_progress() {
+    local -A place
+    local number current='' said=0 how='reading the sources'
+    for number in "${!names[@]}"; do place[${names[number]}]=$number; done
+    while kill -0 "$1" 2>/dev/null; do
+        # rt proves one crate after another and names each as it begins.
+        number=$(tail -n 3000 "$2" | sed -n 's/^rt: chose --jobs [0-9]* for \([A-Za-z0-9_]*\).*/\1/p' | tail -n 1)
+        current=${number:-$current}
+        if [ -n "$current" ]; then how="${place[$current]-some} of ${#names[@]} crates proved, now $current"; fi
+        if [ -t 2 ]; then
+            printf '\r\033[Ktp: %s (%s)' "$how" "$(minutes $SECONDS)" >&2
+        elif [ $((SECONDS / 60)) -gt $said ]; then
+            said=$((SECONDS / 60))
+            echo "tp: $how ($(minutes $SECONDS))" >&2
+        fi
+        sleep 1 9>&-
+    done
+    [ ! -t 2 ] || printf '\r\033[K' >&2
+}
+
+put_back() {
+    [ ! -e "$out/tp.older" ] || mv -f "$out/tp.older" "$built"
+    rm -f "$mark"
+}
+
+# Builds and proves the program. The one that is there stays there unless that succeeds, and isn't used for the newer sources.
+build() {
+    local log=$out/tp.log job status
+    echo "tp: $why, and none is built here that is as new as the sources" >&2
+    if ! command -v rt >/dev/null; then
+        cat >&2 <<'END'
+tp: building it needs the command rt of the Rattle kit: unpack the kit, put its folder bin on PATH, and run this again
+tp: a build proves all crates below the program, in an hour or two. It wants 4 GB of memory for each check (25 GB are
+tp: comfortable) and 20 GB of disk
+END
+        return 252
+    fi
+    mkdir -p "$out" && exec 9>"$out/tp.lock" || return 252
+    if ! flock -n 9; then
+        echo 'tp: another build is at work in this clone; waiting for it' >&2
+        flock 9
+        if at_hand; then
+            exec 9>&-
+            return 0
+        fi
+    fi
+    echo "tp: proving and building ${#names[@]} crates, which takes an hour or two the first time, about 25 GB of memory and 20 GB of disk" >&2
+    echo "tp: the log is $log" >&2
+    : >"$log"
+    touch "$mark"
+    if [ -e "$built" ]; then
+        # A copy, since rt may link into the file, and the old one may be running.
+        mv -f "$built" "$out/tp.older" && cp -p "$out/tp.older" "$built"
+    fi
+    SECONDS=0
+    # In a group of its own, so that all of it ends where this script is stopped.
+    set -m
+    (cd "$top/crates/tp" && exec rt run -- --version) </dev/null >"$log" 2>&1 9>&- &
+    job=$!
+    set +m
+    trap 'kill -- "-$job" 2>/dev/null; put_back; echo >&2; exit 130' INT TERM HUP
+    show_progress $job "$log"
+    wait $job
+    status=$?
+    trap - INT TERM HUP
+    # The status is that of `tp --version`, so 0 only where rt built it and it ran.
+    if [ $status -ne 0 ] || [ ! -x "$built" ]; then
+        put_back
+        exec 9>&-
+        tail -n 40 "$log" >&2
+        echo "tp: the program could not be built; the log is $log" >&2
+        [ ! -e "$built" ] || echo 'tp: the program of an earlier build is still there, but is not run, as sources have changed since' >&2
+        return 252
+    fi
+    # (so that sources that were edited meanwhile are newer)
+    touch -r "$mark" "$built"
+    rm -f "$mark" "$out/tp.older"
+    exec 9>&-
+    echo "tp: built in $(minutes $SECONDS)" >&2
+    program=$built
+}
+
+# Whether the boot program is, byte for byte, the one that was built.
+boot_is_built() {
+    [ -f "$packed" ] && gzip -dc "$packed" | cmp -s - "$built"
+}
+
+boot_has_sum() {
+    [ -f "$top/boot/sum" ] && [ "$(sum_of_sources)" = "$(cat "$top/boot/sum")" ]
+}
