@@ -99,7 +99,7 @@ fn levels_with<'a>(
 }
 
 impl<'a> Callee<'a> {
-    // The bytes of its frame. A frame that passes 64 bits finds no room.
+    // The bytes of its frame. A frame that passes 64 bits is answered as out of memory.
     #[tactic(auto, using(crate::proofs::FrameSizes::frame_exact))]
     fn frame(&self) -> Result<u64, AllocError>
         ensures { IfOk result (λ bytes. bytes ≡ frame_of self.now.unit.now.types.types self.now.routine.now) }

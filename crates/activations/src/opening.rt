@@ -247,7 +247,7 @@ impl Callee<'_> {
             return Ok(Value::Void);
         };
         let number = result_number(self.routine)?;
-        let serial = first.checked_add(number).ok_or(Stop::NoRoom)?;
+        let serial = first.checked_add(number).ok_or(Stop::OutOfMemory)?;
         let sort = Sort::Of {
             types: &self.unit.types,
             ty,

@@ -59,7 +59,7 @@ pub(crate) fn variables_of(alloc: Global, routine: &Routine) -> Result<Vec<TypeI
     Ok(types)
 }
 
-/// The number of a function's result among its variables. A number that passes 64 bits finds no room.
+/// The number of a function's result among its variables. A number that passes 64 bits is answered as out of memory.
 pub(crate) fn result_number(routine: &Routine) -> Result<usize, AllocError>
     ensures { IfOk result (λ number. number ≡ result_number routine.now) }
 {

@@ -31,7 +31,7 @@ fn spot_through(alloc: Global, alias: bool, own: Spot, store: &Store) -> Result<
     }
 }
 
-// The object of a variable. A serial number that passes 64 bits finds no room.
+// The object of a variable. A serial number that passes 64 bits is answered as out of memory.
 fn own_spot(alloc: Global, first: usize, number: u32) -> Result<Spot, AllocError>
     ensures { IfOk result (λ spot. view_spot spot ≡ whole (first + number)) }
 {

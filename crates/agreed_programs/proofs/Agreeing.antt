@@ -12,7 +12,7 @@ use Rattle.typed_tree.specs.declared.units.Program.{Program}
 use Rattle.meaning.specs.Programs.{Sort, unit_named}
 use Rattle.declared_types.specs.Declared as d
 use Rattle.declared_types.specs.Declared.{declared}
-use Rattle.declared_types.specs.Agreement.{IsUnit, IsKnown, AreAgreed}
+use Rattle.declared_types.specs.Agreement.{IsUnit, IsKnown, AreConsistent}
 use Rattle.unit_interface.specs.declared.keys.Key.{Key}
 use Rattle.unit_interface.specs.declared.interfaces.Interface.{Interface}
 use Rattle.unit_interface.specs.Merge.{keys_of, place_of_key, new_id, renumbered}
@@ -20,12 +20,12 @@ use Rattle.unit_interface.specs.Exports.{in_type}
 use Rattle.unit_interface.specs.Keyed.{IsKeyed}
 use Rattle.unit_interface.proofs.KeyLaws.{same_itself}
 use Rattle.closed_constants.specs.Bounds.{AreBelow}
-use Rattle.told_types.specs.Told.{home_of, between, IsAlike, IsClosedTable, AreClosedHomes, Stands}
+use Rattle.told_types.specs.Consistency.{home_of, between, IsAlike, IsWellScopedTable, AreWellScopedHomes, Stands}
 use Rattle.told_types.proofs.Twice.{AllOf}
 use Rattle.told_types.proofs.Keys.{at_place}
 use Rattle.told_types.proofs.Named.{all_below, all_three, Low, low_type}
 use Rattle.told_types.proofs.Known.{keys_long, key_there, own_named, between_at, IsFirst, first_of}
-use Rattle.agreed_programs.specs.Told.{IsOwned, IsToldIn}
+use Rattle.agreed_programs.specs.Consistency.{IsOwned, IsConsistentIn}
 use Rattle.agreed_programs.proofs.Alike.{type_alike, itself, moved}
 use Rattle.agreed_programs.proofs.Keys.{class_of, same_key, declared_at}
 
@@ -36,7 +36,7 @@ abbrev IsIn : Table → Table → ℕ → Type 0
 IsIn home table x = Low (length table.types) (between home table) x
 
 -- which is what stands there
-lands : (home table : Table) (keyed : IsKeyed table) (closed : IsClosedTable table) (ty : TypeId) (key : Key) → slice_get (keys_of home) ty.0 ≡ Some key → IsIn home table ty.0
+lands : (home table : Table) (keyed : IsKeyed table) (closed : IsWellScopedTable table) (ty : TypeId) (key : Key) → slice_get (keys_of home) ty.0 ≡ Some key → IsIn home table ty.0
     → declared table (new_id (between home table) ty) ≡ Some (class_of key)
 lands home table keyed closed ty key at low =
     let new : TypeId = new_id (between home table) ty in
@@ -52,7 +52,7 @@ record IsPlaced (home table : Table) (unit : List ℕ) (first one : TypeDef) : T
   is : one ≡ renumbered (between home table) place first
   low : AllOf (IsIn home table) (in_type first)
 
-placed : (home table : Table) (closed : IsClosedTable table) (unit : List ℕ) (number : ℕ) (first one : TypeDef) → slice_get table.types number ≡ Some one → IsAlike home table first one → IsOwned table unit one
+placed : (home table : Table) (closed : IsWellScopedTable table) (unit : List ℕ) (number : ℕ) (first one : TypeDef) → slice_get table.types number ≡ Some one → IsAlike home table first one → IsOwned table unit one
     → IsPlaced home table unit first one
 placed home table closed unit number first one stands alike owned =
     let ids = between home table in
@@ -64,7 +64,7 @@ placed home table closed unit number first one stands alike owned =
       low = low_type (length table.types) ids alike.unit first (subst (λ (t : TypeDef). AreBelow (length table.types) (in_type t)) alike.is (own_named table number one closed stands));
     }
 
-module _ (home a b : Table) (at_home : IsClosedTable home) (ka : IsKeyed a) (kb : IsKeyed b) (ca : IsClosedTable a) (cb : IsClosedTable b) where
+module _ (home a b : Table) (at_home : IsWellScopedTable home) (ka : IsKeyed a) (kb : IsKeyed b) (ca : IsWellScopedTable a) (cb : IsWellScopedTable b) where
   abbrev InBoth : ℕ → Type 0
   InBoth x = (x < length home.types) × IsIn home a x × IsIn home b x
 
@@ -94,9 +94,9 @@ name_is one other = by (same_bytes one other) refl
         differs : (b : Bool) → b ≡ false → b ≡ true → ⊥
         differs b is not = cc
 
-module _ (have : List Interface) (homes : AreClosedHomes have) where
+module _ (have : List Interface) (homes : AreWellScopedHomes have) where
   -- a type of a unit's table is as at home, where it is at home
-  alike_there : (unit : TypedUnit) → IsToldIn have unit → (number : ℕ) (key : Key) (one : TypeDef) → slice_get (keys_of unit.types) number ≡ Some key → slice_get unit.types.types number ≡ Some one
+  alike_there : (unit : TypedUnit) → IsConsistentIn have unit → (number : ℕ) (key : Key) (one : TypeDef) → slice_get (keys_of unit.types) number ≡ Some key → slice_get unit.types.types number ≡ Some one
       → (home : Table) → home_of have key.unit ≡ Some home → (f : IsFirst home key) → IsAlike home unit.types f.first one
   alike_there unit t number key one at stands home is f =
       elim (name_is key.unit unit.name) [
@@ -104,7 +104,7 @@ module _ (have : List Interface) (homes : AreClosedHomes have) where
         | inr other ↦ t.told.alike number f.place key home f.first one other at stands is f.at f.stands
       ]
 
-  module _ (u v : TypedUnit) (tu : IsToldIn have u) (tv : IsToldIn have v) (x y : ℕ) (key : Key) (one other : TypeDef) (at : slice_get (keys_of u.types) x ≡ Some key) (there : slice_get (keys_of v.types) y ≡ Some key)
+  module _ (u v : TypedUnit) (tu : IsConsistentIn have u) (tv : IsConsistentIn have v) (x y : ℕ) (key : Key) (one other : TypeDef) (at : slice_get (keys_of u.types) x ≡ Some key) (there : slice_get (keys_of v.types) y ≡ Some key)
       (stands : slice_get u.types.types x ≡ Some one) (found : slice_get v.types.types y ≡ Some other) where
     by_home : (home : Table) → home_of have key.unit ≡ Some home → Stands (keys_of home) key → d.AreAlike u.types one v.types other
     by_home home is s =
@@ -130,7 +130,7 @@ module _ (have : List Interface) (homes : AreClosedHomes have) where
           ]
         ]
 
-  module _ (program : Program) (each : (unit : TypedUnit) → IsUnit program unit → IsToldIn have unit) where
+  module _ (program : Program) (each : (unit : TypedUnit) → IsUnit program unit → IsConsistentIn have unit) where
     same_unit : (u v : TypedUnit) → IsUnit program u → IsUnit program v → (name : List ℕ) → name ≡ u.name → name ≡ v.name → u ≡ v
     same_unit u v listed also name near both = same_Some u v (sym listed ∙ ap (unit_named program) (sym near ∙ both) ∙ also)
 
@@ -146,7 +146,7 @@ module _ (have : List Interface) (homes : AreClosedHomes have) where
         let there : slice_get (keys_of q.unit.types) b.ty.0 ≡ Some k.0 = subst (λ (key : Key). slice_get (keys_of q.unit.types) b.ty.0 ≡ Some key) (same_key l.0 k.0 is) l.1 in
         units_agree p.unit q.unit tu tv a.ty.0 b.ty.0 k.0 one other k.1 there stands found (same_unit p.unit q.unit p.listed q.listed k.0.unit)
 
-    pub program_agrees : AreAgreed program
+    pub program_agrees : AreConsistent program
     program_agrees = record {
       lawful = λ unit listed. (each unit listed).lawful;
       alike = λ a b one other p q stands found same.

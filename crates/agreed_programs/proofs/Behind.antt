@@ -11,10 +11,10 @@ use Rattle.unit_interface.specs.Misfits.{is_enumeration}
 use Rattle.unit_interface.specs.Keyed.{IsKeyed}
 use Rattle.unit_interface.proofs.KeyLaws.{keyed_with, key_place}
 use Rattle.type_denoters.specs.Additions.{count_of}
-use Rattle.told_types.specs.Told.{next_key, AreFollowed}
+use Rattle.told_types.specs.Consistency.{next_key, AreFollowed}
 use Rattle.told_types.specs.Laws.{IsWithDeclared}
 use Rattle.told_types.proofs.Keys.{not_found}
-use Rattle.agreed_programs.specs.Told.{AreOwned}
+use Rattle.agreed_programs.specs.Consistency.{AreOwned}
 use Rattle.agreed_programs.specs.Methods.{HasDeclaredMethods}
 use Rattle.agreed_programs.proofs.Counts.{count_next}
 use Rattle.agreed_programs.proofs.Keeping.{with_own, Stays}

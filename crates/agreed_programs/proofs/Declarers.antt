@@ -15,7 +15,7 @@ use Rattle.typed_tree.specs.declared.units.Program.{Program}
 use Rattle.meaning.specs.Trees.{Key as Class}
 use Rattle.meaning.specs.Programs.{Sort, definition, class_key}
 use Rattle.declared_types.specs.Declared.{declared}
-use Rattle.declared_types.specs.Agreement.{IsUnit, IsKnown, AreAgreed}
+use Rattle.declared_types.specs.Agreement.{IsUnit, IsKnown, AreConsistent}
 use Rattle.sound_standards.specs.Laws.{HasClasses}
 use Rattle.declared_classes.specs.Laws.{IsDeclared, HasDeclarers}
 use Rattle.scopes.specs.Predeclared.{system, type_list, type_table}
@@ -38,7 +38,7 @@ use Rattle.program_laws.proofs.Sources.{stands, named_by, shown_some}
 use Rattle.program_laws.proofs.Depth.{of_source}
 use Rattle.program_laws.proofs.Closing as closing
 use Rattle.program_laws.proofs.Closing.{new_of}
-use Rattle.told_types.specs.Told.{home_of, between, IsAlike}
+use Rattle.told_types.specs.Consistency.{home_of, between, IsAlike}
 use Rattle.told_types.proofs.Known.{keys_long, key_there, IsFirst, first_of}
 use Rattle.told_types.proofs.Shown.{shown_key}
 use Rattle.told_interfaces.proofs.Inherited.{homes, told_within}
@@ -46,7 +46,7 @@ use Rattle.agreed_programs.specs.Laws.{DeclarersLaw, ClassesLaw}
 use Rattle.agreed_programs.proofs.Keys.{class_of, declared_at}
 use Rattle.agreed_programs.proofs.Agreeing.{name_is}
 use Rattle.agreed_programs.proofs.First.{Each, at_each}
-use Rattle.agreed_programs.proofs.Units.{IsSoTold, typed_name}
+use Rattle.agreed_programs.proofs.Units.{IsConsistentTable, typed_name}
 use Rattle.agreed_programs.proofs.Units as units
 use Rattle.agreed_programs.proofs.Whole.{not_system, contains_at, listed, typed_at, all_agree}
 use Rattle.agreed_programs.proofs.Listed.{all_listed}
@@ -117,7 +117,7 @@ module _ (alike : ShowsAlike) (sources : List Source) (have : List Interface) (o
   places = start_order (all_uses sources) 0
 
   -- what a unit's table tells
-  so_told : (place : ℕ) (s : Source) → slice_get sources place ≡ Some s → (unit : typed.Unit) → IsUnitOf have s unit → IsSoTold have s.name unit.types
+  so_told : (place : ℕ) (s : Source) → slice_get sources place ≡ Some s → (unit : typed.Unit) → IsUnitOf have s unit → IsConsistentTable have s.name unit.types
   so_told place s at unit is =
       let n = named_by (IsShownIn sources have) have s.name o.shown (shown_some have s.name (all place s at)) in
       let no_system = not_system sources place s (kinds place s at) in
@@ -193,6 +193,6 @@ all_declared alike held name texts sources gathers program is =
     record { declarers = sort_declared alike sources u.have o u.interfaces.all u.kinds program u.typed (all_listed held name texts sources gathers program is) }
 
 -- so each class of an object type is found by its key
-pub all_classes : ((program : Program) → AreAgreed program → HasDeclarers program → HasClasses program) → ShowsAlike → ClassesLaw
+pub all_classes : ((program : Program) → AreConsistent program → HasDeclarers program → HasClasses program) → ShowsAlike → ClassesLaw
 all_classes law alike held name texts sources gathers program is kept =
     law program (all_agree alike held name texts sources gathers program is kept) (all_declared alike held name texts sources gathers program is)

@@ -5,7 +5,7 @@ use Rattle.type_layout.specs.Table.{HasMethodsOf}
 use Rattle.scopes.specs.Predeclared.{system, type_list, type_table}
 use Rattle.unit_interface.specs.declared.keys.Key.{Key}
 use Rattle.unit_interface.specs.Merge.{keys_of}
-use Rattle.agreed_programs.specs.Told.{AreOwned}
+use Rattle.agreed_programs.specs.Consistency.{AreOwned}
 
 -- each element of a list
 abbrev pub Each : {A : Type 0} → (A → Type 0) → List A → Type 0

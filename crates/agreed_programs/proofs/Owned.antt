@@ -14,7 +14,7 @@ use Rattle.unit_interface.proofs.KeyLaws as keys
 use Rattle.unit_interface.proofs.KeyLaws.{keys_with, key_place, is_added, merged_so}
 use Rattle.unit_interface.proofs.KeptLaws.{slice_get-seam}
 use Rattle.unit_interface.proofs.FittingLaws.{has_methods}
-use Rattle.agreed_programs.specs.Told.{IsOwned, AreOwned}
+use Rattle.agreed_programs.specs.Consistency.{IsOwned, AreOwned}
 
 some_type : (one other : TypeDef) → Some one ≡ Some other → one ≡ other
 some_type one other same = cc

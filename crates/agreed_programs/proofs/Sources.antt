@@ -21,7 +21,7 @@ use Rattle.program_laws.proofs.Depth.{of_source}
 use Rattle.program_laws.proofs.Closing.{new_of}
 use Rattle.told_interfaces.proofs.Inherited.{told_within}
 use Rattle.agreed_programs.proofs.Units as units
-use Rattle.agreed_programs.proofs.Units.{IsSoTold, IsFirstScope, AreUsedSo}
+use Rattle.agreed_programs.proofs.Units.{IsConsistentTable, IsFirstScope, AreUsedSo}
 use Rattle.agreed_programs.proofs.Whole.{not_system, listed, typed_at}
 
 -- the unit is that of a source, by the rules alone
@@ -30,7 +30,7 @@ pub record IsOfSource (have : List Interface) (unit : typed.Unit) : Type 0 where
   pub typed : IsTypedAs source.name source.says (outer_scope have source) have source.tree (view_unit unit)
   pub first : IsFirstScope source.name (outer_scope have source)
   pub used : AreUsedSo have source.name source.says (outer_scope have source) source.tree (view_unit unit) typed
-  pub told : IsSoTold have source.name unit.types
+  pub told : IsConsistentTable have source.name unit.types
 
 pub source_of : (held : Folder) (name : List ℕ) (texts : List Text) (sources : List Source) → Gathers held name texts sources
     → (program : Program) (is : IsProgram sources program) (unit : typed.Unit) → IsUnit program unit → IsOfSource is.units.have unit

@@ -10,13 +10,13 @@ use Rattle.unit_interface.specs.declared.interfaces.Interface.{Interface}
 use Rattle.unit_interface.specs.Merge.{keys_of, renumbered}
 use Rattle.unit_interface.specs.Exports.{in_type}
 use Rattle.closed_constants.specs.Bounds.{AreBelow}
-use Rattle.told_types.specs.Told.{between, next_key, IsOther, AreOthersAlike, AreOthersFronted, IsClosedTable, AreClosedHomes, IsToldBut}
+use Rattle.told_types.specs.Consistency.{between, next_key, IsOther, AreOthersAlike, AreOthersFronted, IsWellScopedTable, AreWellScopedHomes, IsConsistentWithOthers}
 use Rattle.told_types.specs.Laws.{IsWithDeclared}
 use Rattle.told_types.proofs.Known.{keys_long, own_named}
 use Rattle.told_types.proofs.Carried.{stays_same}
 use Rattle.told_types.proofs.Longer.{in_parts}
 
-module _ (have : List Interface) (homes : AreClosedHomes have) (name : List ℕ) (table longer : Table) (told : IsToldBut have name table) (closed : IsClosedTable table) (h : IsWithDeclared name table longer) where
+module _ (have : List Interface) (homes : AreWellScopedHomes have) (name : List ℕ) (table longer : Table) (told : IsConsistentWithOthers have name table) (closed : IsWellScopedTable table) (h : IsWithDeclared name table longer) where
   pub stays : (number : ℕ) (key : Key) → slice_get (keys_of table) number ≡ Some key → slice_get (keys_of longer) number ≡ Some key
   stays number key at =
       ap (λ (ks : List Key). slice_get ks number) h.more_keys ∙ slice_get-append (keys_of table) h.keys number (slice_get_within (keys_of table) number key at) ∙ at
@@ -48,7 +48,7 @@ module _ (have : List Interface) (homes : AreClosedHomes have) (name : List ℕ)
       let s = told.fronted number place key from low high other (other_in number (next_key key) other at) is there f in
       record { place = s.place; at = stays s.place key s.at }
 
-  pub told_on : IsToldBut have name longer
+  pub told_on : IsConsistentWithOthers have name longer
   told_on = record {
     keyed = h.keyed;
     alike = alike;

@@ -38,14 +38,14 @@ use Rattle.closed_routines.proofs.Staying.{Nothing, Stays, stays, stay_on, stay_
 use Rattle.closed_routines.proofs.Routing.{draft_stays, stage_stays, heading_stays, part_of_stays}
 use Rattle.interface_laws.proofs.UsesGrow.{used_grows}
 use Rattle.program_laws.specs.Closing.{AreInOrder}
-use Rattle.told_types.specs.Told.{home_of, Stands, AreClosedHomes, AreAtHome, IsTold, IsToldBut}
+use Rattle.told_types.specs.Consistency.{home_of, Stands, AreWellScopedHomes, AreAtHome, IsConsistent, IsConsistentWithOthers}
 use Rattle.told_types.proofs.Known.{type_there}
 use Rattle.told_types.proofs.Longer.{told_all}
 use Rattle.told_types.proofs.Shown.{shown_key}
 use Rattle.told_interfaces.proofs.Inherited.{own_home, homes, no_own, each_told, scopes_told, scopes_home}
-use Rattle.fitting_types.specs.Fits.{IsToldScope}
+use Rattle.fitting_types.specs.Fits.{IsConsistentScope}
 use Rattle.fitting_types.proofs.Uses.{closed_table, first_scope}
-use Rattle.agreed_programs.specs.Told.{AreOwned}
+use Rattle.agreed_programs.specs.Consistency.{AreOwned}
 use Rattle.agreed_programs.proofs.Counts.{count_grows}
 use Rattle.agreed_programs.proofs.Keeping.{KeepsTo}
 use Rattle.agreed_programs.proofs.Behind.{AreNumbered, IsOwnBehind, is_declared, behind_itself, behind_stays}
@@ -97,8 +97,8 @@ behind_complete name g all d e c =
 -- ---- one source
 
 -- a table that tells of the types of others what these tell, with methods of the units that declare their types
-pub record IsSoTold (have : List Interface) (name : List ℕ) (table : Table) : Type 0 where
-  pub told : IsToldBut have name table
+pub record IsConsistentTable (have : List Interface) (name : List ℕ) (table : Table) : Type 0 where
+  pub told : IsConsistentWithOthers have name table
   pub owned : AreOwned table
 
 -- Behind the units that the implementation part uses, types of others are at home, and the unit's own are those behind its interface part.
@@ -124,10 +124,10 @@ module _ (sources : List Source) (have : List Interface) (o : AreInOrder sources
   abbrev g : Environment
   g = outer_scope have s
 
-  abbrev all_homes : AreClosedHomes have
+  abbrev all_homes : AreWellScopedHomes have
   all_homes = homes sources have o
 
-  scope : IsToldScope have g
+  scope : IsConsistentScope have g
   scope = scopes_told sources have o name (names_of (outer_units s))
 
   home : AreAtHome have g.types
@@ -148,15 +148,15 @@ module _ (sources : List Source) (have : List Interface) (o : AreInOrder sources
   behind_first : (h : Environment) → KeepsTo name g h → IsOwnBehind name g.types h.types
   behind_first h k = k.keeps (IsOwnBehind name g.types) (behind_stays name g.types) start
 
-  told_first : (h : Environment) → KeepsTo name g h → IsToldBut have name h.types
+  told_first : (h : Environment) → KeepsTo name g h → IsConsistentWithOthers have name h.types
   told_first h k = told_on have all_homes name g.types h.types (told_all have name g.types scope.told home) (closed_table g scope.complete) (is_declared name g.types h.types (behind_first h k))
 
-  of_program : (uses : List Identifier) (all : Works) (body : CompoundStatement) (unit : Whole) → (program_judged name s.says g uses all body).holds unit → IsSoTold have name unit.types
+  of_program : (uses : List Identifier) (all : Works) (body : CompoundStatement) (unit : Whole) → (program_judged name s.says g uses all body).holds unit → IsConsistentTable have name unit.types
   of_program uses all body unit h =
       let f = h.made in
       let d = f.made in
       let k = program_keeps name g all d.part d.holds in
-      subst (IsSoTold have name) (sym (ended_types name f.part [] (Some body) d.part unit d.made)) (record { told = told_first d.part.scope k; owned = (behind_first d.part.scope k).longer.owned })
+      subst (IsConsistentTable have name) (sym (ended_types name f.part [] (Some body) d.part unit d.made)) (record { told = told_first d.part.scope k; owned = (behind_first d.part.scope k).longer.owned })
 
   -- ---- units
 
@@ -165,7 +165,7 @@ module _ (sources : List Source) (have : List Interface) (o : AreInOrder sources
     home_mine = own_home have name mine no_system is_mine
 
     -- what others tell of the unit's types is what it shows
-    tells_own : (w : Whole) → Shows w mine → IsTold have w.types → (word : List ℕ) → is_overlay word ≡ false → (i : Interface) → interface_named have word ≡ Some i → TellsOwn have name w.types i
+    tells_own : (w : Whole) → Shows w mine → IsConsistent have w.types → (word : List ℕ) → is_overlay word ≡ false → (i : Interface) → interface_named have word ≡ Some i → TellsOwn have name w.types i
     tells_own w shown told word is i found number key there own =
         let tells = each_told sources have o word is i found in
         let h = tells.at_home number key there in
@@ -173,7 +173,7 @@ module _ (sources : List Source) (have : List Interface) (o : AreInOrder sources
         let stands : Stands (keys_of mine.types) key = subst (λ (table : Table). Stands (keys_of table) key) same h.stands in
         shown_key (with_nothing_else w) mine shown told.keyed stands.place key stands.at
 
-    module _ (d : Drafted) (k : KeepsTo name g d.scope) (complete : IsCompleteScope d.scope) (told : IsTold have d.scope.types)
+    module _ (d : Drafted) (k : KeepsTo name g d.scope) (complete : IsCompleteScope d.scope) (told : IsConsistent have d.scope.types)
         (tells : (word : List ℕ) → is_overlay word ≡ false → (i : Interface) → interface_named have word ≡ Some i → TellsOwn have name d.scope.types i) where
       first : IsOwnBehind name g.types d.scope.types
       first = behind_first d.scope k
@@ -199,7 +199,7 @@ module _ (sources : List Source) (have : List Interface) (o : AreInOrder sources
             let more = count_grows d.scope.types h.types grows.units grows.origins name of.place grows.has_units grows.has_origins (of.named ∙ ap (λ (u : List ℕ). Some u) own) in
             omega (arith, low, more)
 
-        told_used : IsToldBut have name h.types
+        told_used : IsConsistentWithOthers have name h.types
         told_used = record {
           keyed = own_used.scope.told.keyed;
           alike = λ number p key from f one other there stands is at_home found. own_used.scope.told.alike number p key from f one there stands is at_home found;
@@ -209,7 +209,7 @@ module _ (sources : List Source) (have : List Interface) (o : AreInOrder sources
         }
 
         -- and behind the implementation part
-        behind_last : (last : Environment) → KeepsTo name h last → IsSoTold have name last.types
+        behind_last : (last : Environment) → KeepsTo name h last → IsConsistentTable have name last.types
         behind_last last keeps =
             let begun = behind_itself name h.types own_used.scope.told.keyed own_used.scope.told.followed numbered own_used.table.owned in
             let b = keeps.keeps (IsOwnBehind name h.types) (behind_stays name h.types) begun in
@@ -219,14 +219,14 @@ module _ (sources : List Source) (have : List Interface) (o : AreInOrder sources
 
     -- the table tells what the others tell, and the others tell of the unit's types what it has
     record IsToldFirst (d : Drafted) : Type 0 where
-      told : IsTold have d.scope.types
+      told : IsConsistent have d.scope.types
       tells : (word : List ℕ) → is_overlay word ≡ false → (i : Interface) → interface_named have word ≡ Some i → TellsOwn have name d.scope.types i
 
     abbrev AreToldFirst : (tree : Tree) (unit : Whole) → IsTypedAs name s.says g have tree unit → Type 0
     AreToldFirst (t.Program heading uses all body) unit h = Unit {0}
     AreToldFirst (t.Unit here own uses outer interface all body) unit h = IsToldFirst h.made.part
 
-    first_told : (tree : Tree) (unit : Whole) (h : IsTypedAs name s.says g have tree unit) (shows : IsShownAs name s.says g tree mine) → IsTold have shows.unit.types → AreToldFirst tree unit h
+    first_told : (tree : Tree) (unit : Whole) (h : IsTypedAs name s.says g have tree unit) (shows : IsShownAs name s.says g tree mine) → IsConsistent have shows.unit.types → AreToldFirst tree unit h
     first_told (t.Program heading uses all body) unit h shows within = tt
     first_told (t.Unit here own uses outer interface all body) unit h shows within =
         let n = h.made in
@@ -236,11 +236,11 @@ module _ (sources : List Source) (have : List Interface) (o : AreInOrder sources
         let holds : (outlined name s.says g tree).holds w = record { part = h.part; holds = h.holds; made = record { part = d; holds = n.holds; made = refl } } in
         let same : shows.unit ≡ w = (exact (outlined name s.says g) (lawful_outlined name s.says g)).one tree shows.unit w shows.holds holds in
         let shown : Shows w mine = subst (λ (x : Whole). Shows x mine) same shows.shows in
-        let told : IsTold have d.scope.types = subst (λ (x : Whole). IsTold have x.types) same within in
+        let told : IsConsistent have d.scope.types = subst (λ (x : Whole). IsConsistent have x.types) same within in
         record { told = told; tells = tells_own w shown told }
 
     -- so it is behind the units that the implementation part uses
-    pub used_so : (tree : Tree) (unit : Whole) (h : IsTypedAs name s.says g have tree unit) (shows : IsShownAs name s.says g tree mine) → IsTold have shows.unit.types → AreUsedSo have name s.says g tree unit h
+    pub used_so : (tree : Tree) (unit : Whole) (h : IsTypedAs name s.says g have tree unit) (shows : IsShownAs name s.says g tree mine) → IsConsistent have shows.unit.types → AreUsedSo have name s.says g tree unit h
     used_so (t.Program heading uses all body) unit h shows within = tt
     used_so (t.Unit here own uses outer interface all body) unit h shows within =
         let n = h.made in
@@ -252,7 +252,7 @@ module _ (sources : List Source) (have : List Interface) (o : AreInOrder sources
           own = own_used d (interface_keeps name g interface.items d n.holds) (behind_complete name g interface.items d n.holds scope.complete) f.told f.tells (drop outer uses.items) u.part u.holds;
         }
 
-    pub of_source : (tree : Tree) (unit : Whole) → IsTypedAs name s.says g have tree unit → (shows : IsShownAs name s.says g tree mine) → IsTold have shows.unit.types → IsSoTold have name unit.types
+    pub of_source : (tree : Tree) (unit : Whole) → IsTypedAs name s.says g have tree unit → (shows : IsShownAs name s.says g tree mine) → IsConsistent have shows.unit.types → IsConsistentTable have name unit.types
     of_source (t.Program heading uses all body) unit h shows within = of_program uses.items (view_declarations all.items) body unit h
     of_source (t.Unit here own uses outer interface all body) unit h shows within =
         let n = h.made in
@@ -261,5 +261,5 @@ module _ (sources : List Source) (have : List Interface) (o : AreInOrder sources
         let st = u.made in
         let f = first_told (t.Unit here own uses outer interface all body) unit h shows within in
         let keeps = all_keep name unit_site (stage (knowing d u.part) []) (view_declarations all.items) st.part st.holds in
-        subst (IsSoTold have name) (sym (ended_types name h.part (items_of d.scope) body st.part.draft unit st.made))
+        subst (IsConsistentTable have name) (sym (ended_types name h.part (items_of d.scope) body st.part.draft unit st.made))
         (behind_last d (interface_keeps name g interface.items d n.holds) (behind_complete name g interface.items d n.holds scope.complete) f.told f.tells (drop outer uses.items) u.part u.holds st.part.draft.scope keeps)

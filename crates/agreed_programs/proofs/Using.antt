@@ -11,11 +11,11 @@ use Rattle.unit_interface.specs.Merge.{keys_of, with_types}
 use Rattle.unit_interface.specs.Keyed.{IsKeyed}
 use Rattle.unit_interface.specs.Resolve.{is_overlay, interface_named, with_overlay, with_found, with_use, with_uses}
 use Rattle.tp_check_decl.specs.Interfaces.{all_used}
-use Rattle.told_types.specs.Told.{Stands, AreClosedHomes, AreAtHome, AreOthersAtHome}
+use Rattle.told_types.specs.Consistency.{Stands, AreWellScopedHomes, AreAtHome, AreOthersAtHome}
 use Rattle.told_types.proofs.Arrived.{key_from}
-use Rattle.fitting_types.specs.Fits.{IsToldScope, IsToldUse}
+use Rattle.fitting_types.specs.Fits.{IsConsistentScope, IsConsistentUse}
 use Rattle.fitting_types.proofs.Uses.{used_told}
-use Rattle.agreed_programs.specs.Told.{AreOwned}
+use Rattle.agreed_programs.specs.Consistency.{AreOwned}
 use Rattle.agreed_programs.proofs.Owned.{types_owned}
 use Rattle.agreed_programs.proofs.First.{first_owned}
 
@@ -44,7 +44,7 @@ module _ (have : List Interface) (name : List ℕ) (base : Table) where
     owned = types_owned table other keyed h.owned;
   }
 
-  use_own : (g : Environment) (word : List ℕ) → IsToldScope have g → IsToldUse have word → (is_overlay word ≡ false → (i : Interface) → interface_named have word ≡ Some i → TellsOwn i)
+  use_own : (g : Environment) (word : List ℕ) → IsConsistentScope have g → IsConsistentUse have word → (is_overlay word ≡ false → (i : Interface) → interface_named have word ≡ Some i → TellsOwn i)
       → IsOwnTable have name base g.types → IsOwnTable have name base (with_use have g word).types
   use_own g word scope told tells h = by (is_overlay word) refl (interface_named have word) refl
     where
@@ -55,10 +55,10 @@ module _ (have : List Interface) (name : List ℕ) (base : Table) where
 
   -- behind several units
   pub record IsOwnScope (g : Environment) : Type 0 where
-    pub scope : IsToldScope have g
+    pub scope : IsConsistentScope have g
     pub table : IsOwnTable have name base g.types
 
-  module _ (homes : AreClosedHomes have) (told : (word : List ℕ) → IsToldUse have word) (tells : (word : List ℕ) → is_overlay word ≡ false → (i : Interface) → interface_named have word ≡ Some i → TellsOwn i) where
+  module _ (homes : AreWellScopedHomes have) (told : (word : List ℕ) → IsConsistentUse have word) (tells : (word : List ℕ) → is_overlay word ≡ false → (i : Interface) → interface_named have word ≡ Some i → TellsOwn i) where
     next_own : (g : Environment) (word : List ℕ) → IsOwnScope g → IsOwnScope (with_use have g word)
     next_own g word h = record { scope = used_told have homes g word h.scope (told word); table = use_own g word h.scope (told word) (tells word) h.table }
 
@@ -68,8 +68,8 @@ module _ (have : List Interface) (name : List ℕ) (base : Table) where
 
 -- ---- scopes that sources are read over
 
-module _ (have : List Interface) (homes : AreClosedHomes have) (told : (word : List ℕ) → IsToldUse have word) where
-  use_owned : (g : Environment) (word : List ℕ) → IsToldScope have g → AreOwned g.types → AreOwned (with_use have g word).types
+module _ (have : List Interface) (homes : AreWellScopedHomes have) (told : (word : List ℕ) → IsConsistentUse have word) where
+  use_owned : (g : Environment) (word : List ℕ) → IsConsistentScope have g → AreOwned g.types → AreOwned (with_use have g word).types
   use_owned g word scope h = by (is_overlay word) refl (interface_named have word) refl
     where
       by : (b : Bool) → is_overlay word ≡ b → (found : Option Interface) → interface_named have word ≡ found → AreOwned (cond b (with_overlay g) (with_found g found)).types
@@ -77,11 +77,11 @@ module _ (have : List Interface) (homes : AreClosedHomes have) (told : (word : L
       by false is None at = h
       by false is (Some i) at = types_owned g.types i.types scope.told.keyed h
 
-  pub uses_owned : (g : Environment) (words : List (List ℕ)) → IsToldScope have g → AreOwned g.types → AreOwned (with_uses have g words).types
+  pub uses_owned : (g : Environment) (words : List (List ℕ)) → IsConsistentScope have g → AreOwned g.types → AreOwned (with_uses have g words).types
   uses_owned g [] scope h = h
   uses_owned g (word ∷ words) scope h = uses_owned (with_use have g word) words (used_told have homes g word scope (told word)) (use_owned g word scope h)
 
-  pub outer_owned : (name : List ℕ) (words : List (List ℕ)) → IsToldScope have (first name) → AreOwned (with_uses have (first name) words).types
+  pub outer_owned : (name : List ℕ) (words : List (List ℕ)) → IsConsistentScope have (first name) → AreOwned (with_uses have (first name) words).types
   outer_owned name words scope = uses_owned (first name) words scope first_owned
 
 -- ---- used units open no block

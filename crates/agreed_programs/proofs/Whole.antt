@@ -27,13 +27,13 @@ use Rattle.program_laws.proofs.Sources.{named_by, shown_some}
 use Rattle.program_laws.proofs.Depth.{of_source}
 use Rattle.program_laws.proofs.Closing as closing
 use Rattle.program_laws.proofs.Closing.{new_of}
-use Rattle.told_types.specs.Told.{home_of, IsClosedTable, IsToldBut}
+use Rattle.told_types.specs.Consistency.{home_of, IsWellScopedTable, IsConsistentWithOthers}
 use Rattle.told_types.proofs.Known.{own_named}
 use Rattle.told_interfaces.proofs.Inherited.{own_home, homes, told_within}
 use Rattle.fitting_types.specs.Fits.{HaveOwnMethods}
 use Rattle.fitting_types.proofs.Own.{own_told}
-use Rattle.agreed_programs.specs.Told.{AreOwned, IsToldIn}
-use Rattle.agreed_programs.specs.Laws.{IsKeptTable, AgreedLaw}
+use Rattle.agreed_programs.specs.Consistency.{AreOwned, IsConsistentIn}
+use Rattle.agreed_programs.specs.Laws.{IsKeptTable, ConsistencyLaw}
 use Rattle.agreed_programs.proofs.Agreeing.{program_agrees}
 use Rattle.agreed_programs.proofs.Units.{typed_name}
 use Rattle.agreed_programs.proofs.Units as units
@@ -118,7 +118,7 @@ kept_at units number unit kept at =
 methods_of : (name : List ℕ) (table : Table) → AreOwned table → HaveOwnMethods name table
 methods_of name table owned number key one at mine stands = (let o = owned number key one at stands in (o.place, o.methods))
 
-lawful : (table : Table) → IsKeptTable table → IsClosedTable table → IsLawful table
+lawful : (table : Table) → IsKeptTable table → IsWellScopedTable table → IsLawful table
 lawful table kept closed = record {
   well_formed = kept.well_formed;
   short = kept.short;
@@ -127,20 +127,20 @@ lawful table kept closed = record {
 
 module _ (alike : ShowsAlike) (sources : List Source) (have : List Interface) (o : AreInOrder sources have) (place : ℕ) (s : Source) (at : slice_get sources place ≡ Some s) (no_system : same_bytes s.name system ≡ false)
     (mine : Interface) (is_mine : interface_named have s.name ≡ Some mine) (unit : typed.Unit) (is : IsUnitOf have s unit) (kept : IsKeptTable unit.types) where
-  told_in : IsToldIn have unit
+  told_in : IsConsistentIn have unit
   told_in =
       let of = of_source sources (new_of sources have o) have o.shown place s mine at is_mine in
       let so = units.of_source sources have o place s at no_system mine is_mine s.tree (view_unit unit) is.typed of.shows (told_within sources have o place s mine at no_system is_mine of) in
       let c = closing.units sources have o s unit is in
-      let closed : IsClosedTable unit.types = record { paired = c.ordered.paired; types = c.types } in
+      let closed : IsWellScopedTable unit.types = record { paired = c.ordered.paired; types = c.types } in
       let named : unit.name ≡ s.name = typed_name s.name s.says (outer_scope have s) have s.tree (view_unit unit) is.typed in
-      let but : IsToldBut have unit.name unit.types = subst (λ (n : List ℕ). IsToldBut have n unit.types) (sym named) so.told in
+      let but : IsConsistentWithOthers have unit.name unit.types = subst (λ (n : List ℕ). IsConsistentWithOthers have n unit.types) (sym named) so.told in
       let home : home_of have unit.name ≡ Some mine.types = ap (home_of have) named ∙ own_home have s.name mine no_system is_mine in
       let shows : Shows (view_unit unit) mine = alike sources have o s unit (contains_at sources place s at) is mine is_mine in
       let told = own_told have (with_nothing_else (view_unit unit)) mine shows but closed home (methods_of unit.name unit.types so.owned) in
       record { lawful = lawful unit.types kept closed; closed = closed; owned = so.owned; told = but; own = λ table there. told.alike }
 
-pub all_agree : ShowsAlike → AgreedLaw
+pub all_agree : ShowsAlike → ConsistencyLaw
 all_agree alike held name texts sources gathers program is kept =
     let u = is.units in
     let o : AreInOrder sources u.have = record { held = held; name = name; texts = texts; gathers = gathers; acyclic = u.acyclic; shown = u.interfaces.shown } in

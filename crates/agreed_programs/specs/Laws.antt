@@ -11,14 +11,14 @@ use Rattle.typed_tree.specs.declared.units.Program.{Program}
 use Rattle.unit_interface.specs.declared.interfaces.Interface.{Interface}
 use Rattle.sound_standards.specs.Laws.{HasClasses}
 use Rattle.declared_classes.specs.Laws.{HasDeclarers}
-use Rattle.declared_types.specs.Agreement.{IsUnit, IsShort, AreAgreed}
+use Rattle.declared_types.specs.Agreement.{IsUnit, IsShort, AreConsistent}
 use Rattle.front_end.specs.Typed.{IsProgram}
-use Rattle.told_types.specs.Told.{AreClosedHomes}
-use Rattle.agreed_programs.specs.Told.{IsToldIn}
+use Rattle.told_types.specs.Consistency.{AreWellScopedHomes}
+use Rattle.agreed_programs.specs.Consistency.{IsConsistentIn}
 
 -- Units whose tables tell of types what the interfaces of the units that declare these tell agree on all types.
-abbrev pub ToldLaw : Type 0
-ToldLaw = (have : List Interface) → AreClosedHomes have → (program : Program) → ((unit : TypedUnit) → IsUnit program unit → IsToldIn have unit) → AreAgreed program
+abbrev pub TableConsistencyLaw : Type 0
+TableConsistencyLaw = (have : List Interface) → AreWellScopedHomes have → (program : Program) → ((unit : TypedUnit) → IsUnit program unit → IsConsistentIn have unit) → AreConsistent program
 
 -- what each table of types keeps: its types stand behind their parts within the limits, and a byte tells the size of a string type
 pub record IsKeptTable (table : Table) : Type 0 where
@@ -26,9 +26,9 @@ pub record IsKeptTable (table : Table) : Type 0 where
   pub short : (k : ℕ) (one : TypeDef) → slice_get table.types k ≡ Some one → IsShort one
 
 -- The units of a program agree on all types.
-abbrev pub AgreedLaw : Type 0
-AgreedLaw = (held : Folder) (name : List ℕ) (texts : List Text) (sources : List Source) → Gathers held name texts sources
-    → (program : Program) → IsProgram sources program → All (λ (unit : TypedUnit). IsKeptTable unit.types) program.units → AreAgreed program
+abbrev pub ConsistencyLaw : Type 0
+ConsistencyLaw = (held : Folder) (name : List ℕ) (texts : List Text) (sources : List Source) → Gathers held name texts sources
+    → (program : Program) → IsProgram sources program → All (λ (unit : TypedUnit). IsKeptTable unit.types) program.units → AreConsistent program
 
 -- And each is found by its name.
 abbrev pub ListedLaw : Type 0

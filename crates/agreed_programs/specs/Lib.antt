@@ -1,4 +1,4 @@
 pub mod Methods
-pub mod Told
+pub mod Consistency
 pub mod Laws
 pub mod Below

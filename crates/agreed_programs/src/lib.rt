@@ -3,5 +3,5 @@
 
 mod laws;
 
-pub use laws::agreed_program_laws;
+pub use laws::consistent_program_laws;
 pub use program_laws::program_laws;

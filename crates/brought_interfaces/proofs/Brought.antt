@@ -17,7 +17,7 @@ use Rattle.method_rules.specs.Slots.{methods_of}
 use Rattle.closed_constants.specs.Bounds.{AreBelow, in_names, in_lists}
 use Rattle.closed_constants.specs.Ordered.{IsOrdered}
 use Rattle.closed_constants.proofs.Below.{below_first, below_last}
-use Rattle.closed_scopes.specs.Scopes.{AreClosed}
+use Rattle.closed_scopes.specs.Scopes.{AreWellScoped}
 use Rattle.sound_tables.proofs.Sound.{sound}
 use Rattle.checked_units.proofs.Below.{below_names}
 use Rattle.checked_units.specs.Below.{IsTabled}
@@ -68,7 +68,7 @@ tabled name table t before ordered grown below = record {
         let it = grown.methods class.0 high place method m in
         slice_get_within t.units method.routine.unit it.unit it.there
 
-pub interface_brings : AreClosed → InterfaceLaw
+pub interface_brings : AreWellScoped → InterfaceLaw
 interface_brings closing name g i s known table complete named shown fits faithful fit =
     let h = with_interface g i in
     let grown = grown_to name g.types i.types (ids_in g.types i.types) faithful.foreign (length i.types.types) in

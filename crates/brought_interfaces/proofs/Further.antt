@@ -6,7 +6,7 @@ use Rattle.unit_interface.specs.declared.interfaces.Interface.{Interface}
 use Rattle.unit_interface.specs.Merge.{with_interface}
 use Rattle.unit_interface.specs.Fitting.{types_fit, found_fits}
 use Rattle.unit_interface.specs.Resolve.{interface_named, with_found, with_overlay, with_use}
-use Rattle.closed_scopes.specs.Scopes.{AreClosed, IsCompleteScope}
+use Rattle.closed_scopes.specs.Scopes.{AreWellScoped, IsCompleteScope}
 use Rattle.constant_values.specs.Laws.{StayConstants}
 use Rattle.sound_tables.specs.Laws.{IsFit}
 use Rattle.routines.specs.Drafts.{knowing}
@@ -17,7 +17,7 @@ use Rattle.checked_units.proofs.Bringing.{brought_draft}
 use Rattle.brought_interfaces.specs.Laws.{FurtherLaw}
 use Rattle.brought_interfaces.proofs.Brought.{interface_brings}
 
-pub further_keeps : AreClosed → StayConstants → FurtherLaw
+pub further_keeps : AreWellScoped → StayConstants → FurtherLaw
 further_keeps closing stay name have one i other found shown d h r named faithful k room =
     let g : Environment = d.scope in
     let used : with_use have g one.name ≡ with_interface g i =

@@ -15,14 +15,14 @@ use Rattle.cell_store.specs.Finding.{view_trap, Gets}
 use Rattle.cell_store.specs.Parts.{byte_cell}
 
 -- bytes that were found, with those of the rest behind them
-abbrev pub after_front : List ℕ → Found (List ℕ) → Found (List ℕ)
-after_front front found = found >>= λ rest. Ok (front ++ rest)
+abbrev pub after_prefix : List ℕ → Found (List ℕ) → Found (List ℕ)
+after_prefix front found = found >>= λ rest. Ok (front ++ rest)
 
 -- the bytes of so many cells from one on
 abbrev pub bytes_from : ℕ → ℕ → List Tree → Found (List ℕ)
 bytes_from i count cells = bytes_in (count - i) (view_parts (drop i cells))
 
-regroup : (front : List ℕ) (byte : ℕ) (rest : Found (List ℕ)) → after_front front (rest >>= λ bytes. Ok (byte ∷ bytes)) ≡ after_front (front ++ byte ∷ []) rest
+regroup : (front : List ℕ) (byte : ℕ) (rest : Found (List ℕ)) → after_prefix front (rest >>= λ bytes. Ok (byte ∷ bytes)) ≡ after_prefix (front ++ byte ∷ []) rest
 regroup front byte (Ok bytes) = ap Ok (sym (append_assoc front (byte ∷ []) bytes))
 regroup front byte (Err trap) = refl
 
@@ -33,30 +33,30 @@ one_of i cells count d h less =
     ∙ ap (λ (rest : List Tree). bytes_in (suc (count - (i + 1))) (view_parts rest)) (drop-cons cells i d h)
     ∙ ap (λ j. byte_in (view_tree (get_or cells i d)) >>= λ byte. bytes_in (count - (i + 1)) (view_parts (drop j cells)) >>= λ bytes. Ok (byte ∷ bytes)) (sym (add-one i))
 
-pub bytes_more : (front : List ℕ) (byte i : ℕ) (cells : List Tree) (count : ℕ) (d : Tree) → i < length cells → i < count → byte_in (view_tree (get_or cells i d)) ≡ Ok byte → after_front front (bytes_from i count cells) ≡ after_front (front ++ byte ∷ []) (bytes_from (i + 1) count cells)
+pub bytes_more : (front : List ℕ) (byte i : ℕ) (cells : List Tree) (count : ℕ) (d : Tree) → i < length cells → i < count → byte_in (view_tree (get_or cells i d)) ≡ Ok byte → after_prefix front (bytes_from i count cells) ≡ after_prefix (front ++ byte ∷ []) (bytes_from (i + 1) count cells)
 bytes_more front byte i cells count d h less e =
-    ap (after_front front) (one_of i cells count d h less)
-    ∙ ap (λ (b : Found ℕ). after_front front (b >>= λ byte. bytes_from (i + 1) count cells >>= λ bytes. Ok (byte ∷ bytes))) e
+    ap (after_prefix front) (one_of i cells count d h less)
+    ∙ ap (λ (b : Found ℕ). after_prefix front (b >>= λ byte. bytes_from (i + 1) count cells >>= λ bytes. Ok (byte ∷ bytes))) e
     ∙ regroup front byte (bytes_from (i + 1) count cells)
 
-bytes_trap : (front : List ℕ) (trap : Trap) (i : ℕ) (cells : List Tree) (count : ℕ) (d : Tree) → i < length cells → i < count → byte_in (view_tree (get_or cells i d)) ≡ Err trap → after_front front (bytes_from i count cells) ≡ Err trap
+bytes_trap : (front : List ℕ) (trap : Trap) (i : ℕ) (cells : List Tree) (count : ℕ) (d : Tree) → i < length cells → i < count → byte_in (view_tree (get_or cells i d)) ≡ Err trap → after_prefix front (bytes_from i count cells) ≡ Err trap
 bytes_trap front trap i cells count d h less e =
-    ap (after_front front) (one_of i cells count d h less)
-    ∙ ap (λ (b : Found ℕ). after_front front (b >>= λ byte. bytes_from (i + 1) count cells >>= λ bytes. Ok (byte ∷ bytes))) e
+    ap (after_prefix front) (one_of i cells count d h less)
+    ∙ ap (λ (b : Found ℕ). after_prefix front (b >>= λ byte. bytes_from (i + 1) count cells >>= λ bytes. Ok (byte ∷ bytes))) e
 
-front_none : (found : Found (List ℕ)) → after_front [] found ≡ found
+front_none : (found : Found (List ℕ)) → after_prefix [] found ≡ found
 front_none (Ok bytes) = refl
 front_none (Err trap) = refl
 
-pub bytes_first : (cells : List Tree) (count : ℕ) → bytes_in count (view_parts cells) ≡ after_front [] (bytes_from 0 count cells)
+pub bytes_first : (cells : List Tree) (count : ℕ) → bytes_in count (view_parts cells) ≡ after_prefix [] (bytes_from 0 count cells)
 bytes_first cells count =
     let all : count ≡ count - 0 = omega arith in
     ap (λ n. bytes_in n (view_parts cells)) all ∙ sym (front_none (bytes_from 0 count cells))
 
 -- a byte that isn't found stops the bytes
 pub bytes_stop : {A : Type 0} (view : A → List ℕ) (stop : Stop) (front : List ℕ) (i : ℕ) (cells : List Tree) (count : ℕ) (d : Tree) (whole : Found (List ℕ)) → i < length cells → i < count
-    → whole ≡ after_front front (bytes_from i count cells) → Gets {A = ℕ} (λ byte. byte) (Err stop) (byte_in (view_tree (get_or cells i d))) → Gets view (Err stop) whole
-bytes_stop view stop.NoRoom front i cells count d whole h less e byte = tt
+    → whole ≡ after_prefix front (bytes_from i count cells) → Gets {A = ℕ} (λ byte. byte) (Err stop) (byte_in (view_tree (get_or cells i d))) → Gets view (Err stop) whole
+bytes_stop view stop.OutOfMemory front i cells count d whole h less e byte = tt
 bytes_stop view (stop.Trapped trap) front i cells count d whole h less e byte = e ∙ bytes_trap front (view_trap trap) i cells count d h less byte
 
 -- ---- writing

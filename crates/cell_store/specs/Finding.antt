@@ -16,8 +16,8 @@ abbrev pub Finds : {A B : Type 0} → (A → B) → Result A Trap → Found B �
 Finds view (Ok x) found = found ≡ Ok (view x)
 Finds view (Err trap) found = found ≡ Err (view_trap trap)
 
--- the same, but where there is no room nothing is said
+-- the same, but where memory runs out nothing is said
 abbrev pub Gets : {A B : Type 0} → (A → B) → Result A Stop → Found B → Type 0
 Gets view (Ok x) found = found ≡ Ok (view x)
-Gets view (Err stop.NoRoom) found = Unit {0}
+Gets view (Err stop.OutOfMemory) found = Unit {0}
 Gets view (Err (stop.Trapped trap)) found = found ≡ Err (view_trap trap)

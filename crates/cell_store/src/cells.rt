@@ -248,7 +248,7 @@ fn text_behind_length(alloc: Global, text: &[u8], cells: &[Tree]) -> Result<Tree
     Ok(tree)
 }
 
-// A cell that holds a length. A length that passes 32 bits finds no room.
+// A cell that holds a length. A length that passes 32 bits is answered as out of memory.
 fn length_cell(length: usize) -> Result<Tree, AllocError>
     ensures { IfOk result (λ cell. view_tree cell ≡ holding (Ordinal (pos length))) }
 {

@@ -133,7 +133,7 @@ impl Value {
         }
     }
 
-    /// The number of an ordinal that is a byte. One above 255, which no string of a typed program holds, finds no room.
+    /// The number of an ordinal that is a byte. One above 255, which no string of a typed program holds, is answered as out of memory.
     pub fn byte(&self) -> Result<u8, Stop>
         ensures { Gets (λ byte. byte) result (byte_of (view_value self.now)) }
     {
@@ -191,7 +191,7 @@ fn number_as_byte(z: i32) -> Result<u8, Stop>
         return Err(Stop::Trapped(Trap::IllTyped));
     }
     if z > 255 {
-        return Err(Stop::NoRoom);
+        return Err(Stop::OutOfMemory);
     }
     Ok(z as u8)
 }

@@ -158,7 +158,7 @@ fn add_block(blocks: &mut Blocks, bytes: u16, heap: u32) -> Result<(), Stop>
     match blocks.add(bytes, heap) {
         Ok(()) => Ok(()),
         Err(AddError::HeapFull) => Err(Stop::Trapped(Trap::Error(203))),
-        Err(AddError::NoMemory) => Err(Stop::NoRoom),
+        Err(AddError::NoMemory) => Err(Stop::OutOfMemory),
     }
 }
 

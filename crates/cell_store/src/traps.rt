@@ -19,27 +19,27 @@ pub enum Trap {
 #[derive(Clone, Copy, Debug, PartialEq, Eq)]
 pub enum Stop {
     /// Memory ran out, or a number passes the integers that hold such numbers here.
-    NoRoom,
+    OutOfMemory,
     Trapped(Trap),
 }
 
 impl From<AllocError> for Stop {
     ghost use Rattle.cell_store.specs.declared.traps.Stop.{Stop};
 
-    ghost from_gives = { λ _ stop. stop ≡ Stop.NoRoom };
+    ghost from_gives = { λ _ stop. stop ≡ Stop.OutOfMemory };
 
     fn from(_error: AllocError) -> Stop {
-        Stop::NoRoom
+        Stop::OutOfMemory
     }
 }
 
 impl<T: Drop> From<AllocFailed<T>> for Stop {
     ghost use Rattle.cell_store.specs.declared.traps.Stop.{Stop};
 
-    ghost from_gives = { λ _ stop. stop ≡ Stop.NoRoom };
+    ghost from_gives = { λ _ stop. stop ≡ Stop.OutOfMemory };
 
     fn from(_error: AllocFailed<T>) -> Stop {
-        Stop::NoRoom
+        Stop::OutOfMemory
     }
 }
 

@@ -23,7 +23,7 @@ use Rattle.scopes.specs.Environment.{Environment}
 use Rattle.unit_interface.specs.Exports.{in_option, in_params, in_header, in_methods, with_type}
 use Rattle.typed_nodes.specs.Tables.{IsInTable, IsResultIn, IsHeaderIn, NamesWithin, IsSound}
 use Rattle.wider_scopes.proofs.Types.{within_some}
-use Rattle.closed_constants.specs.Bounds.{AreBelow, in_entry, in_names, in_lists, in_open, IsClosedScope}
+use Rattle.closed_constants.specs.Bounds.{AreBelow, in_entry, in_names, in_lists, in_open, IsWellScopedEnvironment}
 use Rattle.closed_constants.proofs.Below.{below_both}
 use Rattle.closed_types.proofs.Entering.{IsAsked, type_below}
 use Rattle.known_names.specs.Known.{opening, IsEntry, EachOf, EachIn, AreKnown}
@@ -105,7 +105,7 @@ module _ (types : List TypeDef) where
   blocks_there s around (one ∷ rest) e h =
       below_both (length types) (in_names one.symbols) (in_open rest) (names_there s (opening one.kind around) one.symbols e h.0) (blocks_there s (opening one.kind around) rest e h.1)
 
-pub known_closed : (g : Environment) (s : Scope) → AreKnown g s → IsTabled g.types → IsClosedScope g
+pub known_closed : (g : Environment) (s : Scope) → AreKnown g s → IsTabled g.types → IsWellScopedEnvironment g
 known_closed g s h t = record {
   table = omega arith;
   system = (let count = length-append type_list begins.0 in let whole : length g.types.types ≡ length (type_list ++ begins.0) = ap (λ (all : List TypeDef). length all) begins.1 in omega (arith, count, whole));

@@ -38,7 +38,7 @@ use Rattle.routines.specs.Drafts.{Done, Numbered, Drafted, Stage, progress_of}
 use Rattle.routines.specs.Methods.{method_announced, awaiting}
 use Rattle.typed_nodes.specs.Tables.{IsInTable, IsResultIn, IsHeaderIn, NamesWithin}
 use Rattle.typed_methods.specs.Declared.{IsMethod, HasMethods}
-use Rattle.wider_scopes.specs.Wider.{IsSame, AreAmong}
+use Rattle.wider_scopes.specs.Weakening.{IsSame, AreAmong}
 use Rattle.closed_constants.specs.Ordered.{IsOrdered}
 use Rattle.closed_constants.specs.Bounds.{AreBelow}
 use Rattle.known_names.specs.Known.{open_in, AreNested, IsVariableIn, IsEntry, EachIn, IsPlaced, AreKnown}

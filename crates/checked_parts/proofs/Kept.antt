@@ -19,7 +19,7 @@ use Rattle.declarations.specs.Parts.{part_declared}
 use Rattle.routines.specs.Drafts.{Numbered, Drafted, Stage, stage, progress_of, next_number, next_for}
 use Rattle.routines.specs.Methods.{of_part, of_declarations}
 use Rattle.routines.specs.Blocks.{part_judged}
-use Rattle.closed_constants.specs.Bounds.{IsClosedScope}
+use Rattle.closed_constants.specs.Bounds.{IsWellScopedEnvironment}
 use Rattle.closed_routines.proofs.Declaring.{declared_stays}
 use Rattle.checked_routines.specs.Reading.{scope_of, IsBottom, with_inner}
 use Rattle.checked_routines.specs.Rooms.{HasRoom}
@@ -43,7 +43,7 @@ types_awaited unit (home.Routine level first) number g h all some k =
     let it = plain_types (ground unit (promises g all)) g all h h k in
     subst (λ (news : List Numbered). Awaits unit number g h news) (sym it.1) (plain_awaits unit number g h it.0)
 
-part_awaited : (unit : List ℕ) (where_at : Home) (number : ℕ) (p q : Progress) (one : DeclarationPart) → 1 ≤ length p.scope.blocks → IsClosedScope p.scope
+part_awaited : (unit : List ℕ) (where_at : Home) (number : ℕ) (p q : Progress) (one : DeclarationPart) → 1 ≤ length p.scope.blocks → IsWellScopedEnvironment p.scope
     → (part_declared unit where_at (next_for where_at (narrow number)) p one).holds q → Awaits unit number p.scope q.scope (of_part q.scope one)
 unfolding part_declared
 part_awaited unit where_at number p q (part_of.Constants here all) some closed k = plain_awaits unit number p.scope q.scope (constants_plain_part unit p all.items q k)

@@ -34,7 +34,7 @@ use Rattle.declarations.specs.Parts.{part_declared}
 use Rattle.typed_nodes.specs.Tables.{IsInTable}
 use Rattle.typed_nodes.proofs.Fields.{some_within}
 use Rattle.wider_scopes.proofs.Types.{within_some, more_kept}
-use Rattle.closed_constants.specs.Bounds.{AreBelow, in_entry, IsClosedScope}
+use Rattle.closed_constants.specs.Bounds.{AreBelow, in_entry, IsWellScopedEnvironment}
 use Rattle.closed_constants.proofs.Constants.{constant_below}
 use Rattle.closed_types.proofs.Entering.{bound_with_name}
 use Rattle.closed_types.proofs.Closing.{type_closed, part_closed}
@@ -109,7 +109,7 @@ types_on front back (one ∷ xs) ys h k = (in_more front back one h.0, types_on 
 
 -- Behind declarations that have no object types the scope is closed, and what they declare as variables has types of the table.
 pub record Declares (p q : Progress) : Type 0 where
-  pub closed : IsClosedScope q.scope
+  pub closed : IsWellScopedEnvironment q.scope
   pub plain : AddsPlain p.scope q.scope
   pub globals : List Global
   pub has_globals : q.globals ≡ p.globals ++ globals
@@ -118,7 +118,7 @@ pub record Declares (p q : Progress) : Type 0 where
   pub has_locals : q.locals ≡ p.locals ++ locals
   pub are_locals : AreTypes q.scope.types.types locals
 
-none_declared : (p q : Progress) → q ≡ p → IsClosedScope p.scope → Declares p q
+none_declared : (p q : Progress) → q ≡ p → IsWellScopedEnvironment p.scope → Declares p q
 none_declared p q e closed = subst (λ (x : Progress). Declares p x) (sym e) (record {
   closed = closed;
   plain = none_added p.scope p.scope refl;
@@ -151,12 +151,12 @@ then p q r a b =
 fit_back : (g h : Environment) → AddsPlain g h → IsFit h.types.types → IsFit g.types.types
 fit_back g h a fit = fit_front g.types.types a.types (subst (λ (types : List TypeDef). IsFit types) a.has_types fit)
 
-entered_closed : (g : Environment) (place : Place) (name : List ℕ) (one : Entry) (h : Environment) → (entered g place name one).holds h → IsClosedScope g → AreBelow (length g.types.types) (in_entry one) → IsClosedScope h
+entered_closed : (g : Environment) (place : Place) (name : List ℕ) (one : Entry) (h : Environment) → (entered g place name one).holds h → IsWellScopedEnvironment g → AreBelow (length g.types.types) (in_entry one) → IsWellScopedEnvironment h
 entered_closed g place name one h k closed low =
-    subst (λ (x : Environment). IsClosedScope x) (sym (is_entered g place name one h k).is) (bound_with_name (length g.types.types) g name one closed low)
+    subst (λ (x : Environment). IsWellScopedEnvironment x) (sym (is_entered g place name one h k).is) (bound_with_name (length g.types.types) g name one closed low)
 
 -- a name with variables
-with_row : (p : Progress) (g : Environment) (place : Place) (name : List ℕ) (one : Entry) (globals : List Global) (locals : List TypeId) → (entered p.scope place name one).holds g → IsClosedScope p.scope
+with_row : (p : Progress) (g : Environment) (place : Place) (name : List ℕ) (one : Entry) (globals : List Global) (locals : List TypeId) → (entered p.scope place name one).holds g → IsWellScopedEnvironment p.scope
     → AreBelow (length p.scope.types.types) (in_entry one) → AreGlobals p.scope.types.types globals → AreTypes p.scope.types.types locals → Declares p (progress g (p.globals ++ globals) (p.locals ++ locals))
 with_row p g place name one globals locals k closed low are have =
     let is = (is_entered p.scope place name one g k).is in
@@ -182,7 +182,7 @@ declares_at p q r e d = subst (λ (x : Progress). Declares p x) (sym e) d
 
 module _ (unit : List ℕ) where
   -- a type that is written
-  typed : (p : Progress) (one : Denoter) (made : Denoted) → (judged (ground unit []) p.scope one).holds made → IsClosedScope p.scope → Declares p (knowing p made.scope) × (made.ty.0 < length made.scope.types.types)
+  typed : (p : Progress) (one : Denoter) (made : Denoted) → (judged (ground unit []) p.scope one).holds made → IsWellScopedEnvironment p.scope → Declares p (knowing p made.scope) × (made.ty.0 < length made.scope.types.types)
   typed p one made k closed =
       let it = type_closed unit p.scope one made k closed in (
         record {
@@ -198,7 +198,7 @@ module _ (unit : List ℕ) where
         it.1,
       )
 
-  constant_row : (p : Progress) (one : ConstantDeclaration) (q : Progress) → (constant_declared unit p one).holds q → IsClosedScope p.scope → IsFit q.scope.types.types → Declares p q
+  constant_row : (p : Progress) (one : ConstantDeclaration) (q : Progress) → (constant_declared unit p one).holds q → IsWellScopedEnvironment p.scope → IsFit q.scope.types.types → Declares p q
   constant_row p (constant.Plain one value) q k closed fit =
       let named = k.holds in
       let low = constant_below (length p.scope.types.types) p.scope closed (view_simple value) named.part named.holds in
@@ -219,14 +219,14 @@ module _ (unit : List ℕ) where
       with_row mid last.part one.position.place one.name _ (beginning made.ty inner.part ∷ []) [] last.holds it.0.closed (it.1, tt) (record { has = there; first = size }, tt) tt in
       then p mid q it.0 (declares_at mid _ q last.made (without_locals mid last.part (mid.globals ++ beginning made.ty inner.part ∷ []) row))
 
-  pub constants_row : (p : Progress) (all : List ConstantDeclaration) (q : Progress) → (constants_declared unit p all).holds q → IsClosedScope p.scope → IsFit q.scope.types.types → Declares p q
+  pub constants_row : (p : Progress) (all : List ConstantDeclaration) (q : Progress) → (constants_declared unit p all).holds q → IsWellScopedEnvironment p.scope → IsFit q.scope.types.types → Declares p q
   constants_row p [] q k closed fit = none_declared p q k closed
   constants_row p (one ∷ rest) q k closed fit =
       let fits = fit_back k.part.scope q.scope (constants_plain unit k.part rest q k.made) fit in
       let first = constant_row p one k.part k.holds closed fits in
       then p k.part q first (constants_row k.part rest q k.made first.closed fit)
 
-variable_row : (where_at : Home) (ty : TypeId) (p : Progress) (one : Identifier) (q : Progress) → (variable_declared where_at ty p one).holds q → IsClosedScope p.scope → ty.0 < length p.scope.types.types → Declares p q
+variable_row : (where_at : Home) (ty : TypeId) (p : Progress) (one : Identifier) (q : Progress) → (variable_declared where_at ty p one).holds q → IsWellScopedEnvironment p.scope → ty.0 < length p.scope.types.types → Declares p q
 variable_row home.Unit ty p one q k closed low =
     let there : IsInTable p.scope.types.types ty = some_within p.scope.types.types ty.0 low in
     let row : Declares p (progress k.part (p.globals ++ unset ty ∷ []) (p.locals ++ [])) =
@@ -238,7 +238,7 @@ variable_row (home.Routine level first) ty p one q k closed low =
     with_row p k.part one.position.place one.name _ [] (ty ∷ []) k.holds closed (low, tt) tt (there, tt) in
     declares_at p _ q k.made (without_globals p k.part (p.locals ++ ty ∷ []) row)
 
-names_row : (where_at : Home) (ty : TypeId) (p : Progress) (all : List Identifier) (q : Progress) → (names_declared where_at ty p all).holds q → IsClosedScope p.scope → ty.0 < length p.scope.types.types → Declares p q
+names_row : (where_at : Home) (ty : TypeId) (p : Progress) (all : List Identifier) (q : Progress) → (names_declared where_at ty p all).holds q → IsWellScopedEnvironment p.scope → ty.0 < length p.scope.types.types → Declares p q
 names_row where_at ty p [] q k closed low = none_declared p q k closed
 names_row where_at ty p (one ∷ rest) q k closed low =
     let first = variable_row where_at ty p one k.part k.holds closed low in
@@ -247,12 +247,12 @@ names_row where_at ty p (one ∷ rest) q k closed low =
     then p k.part q first (names_row where_at ty k.part rest q k.made first.closed (omega (arith, count, low)))
 
 module _ (unit : List ℕ) where
-  group_row : (where_at : Home) (p : Progress) (one : VariableDeclaration) (q : Progress) → (group_declared unit where_at p one).holds q → IsClosedScope p.scope → Declares p q
+  group_row : (where_at : Home) (p : Progress) (one : VariableDeclaration) (q : Progress) → (group_declared unit where_at p one).holds q → IsWellScopedEnvironment p.scope → Declares p q
   group_row where_at p one q k closed =
       let it = typed unit p (view_denoter one.denoter) k.part k.holds closed in
       then p (knowing p k.part.scope) q it.0 (names_row where_at k.part.ty (knowing p k.part.scope) one.names.items q k.made it.0.closed it.1)
 
-  variables_row : (where_at : Home) (p : Progress) (all : List VariableDeclaration) (q : Progress) → (variables_declared unit where_at p all).holds q → IsClosedScope p.scope → Declares p q
+  variables_row : (where_at : Home) (p : Progress) (all : List VariableDeclaration) (q : Progress) → (variables_declared unit where_at p all).holds q → IsWellScopedEnvironment p.scope → Declares p q
   variables_row where_at p [] q k closed = none_declared p q k closed
   variables_row where_at p (one ∷ rest) q k closed =
       let first = group_row where_at p one k.part k.holds closed in
@@ -262,7 +262,7 @@ module _ (unit : List ℕ) where
 
 -- what is said of variables and of the scope behind any part
 pub record HasRows (p q : Progress) : Type 0 where
-  pub closed : IsClosedScope q.scope
+  pub closed : IsWellScopedEnvironment q.scope
   pub globals : List Global
   pub has_globals : q.globals ≡ p.globals ++ globals
   pub are_globals : AreGlobals q.scope.types.types globals
@@ -281,7 +281,7 @@ of_declares p q d = record {
   are_locals = d.are_locals;
 }
 
-pub part_rows : (unit : List ℕ) (where_at : Home) (next : Option ℕ) (p q : Progress) (one : DeclarationPart) → (part_declared unit where_at next p one).holds q → IsClosedScope p.scope → IsFit q.scope.types.types
+pub part_rows : (unit : List ℕ) (where_at : Home) (next : Option ℕ) (p q : Progress) (one : DeclarationPart) → (part_declared unit where_at next p one).holds q → IsWellScopedEnvironment p.scope → IsFit q.scope.types.types
     → HasRows p q
 unfolding part_declared
 part_rows unit where_at next p q (part_of.Constants here all) k closed fit = of_declares p q (constants_row unit p all.items q k closed fit)
@@ -302,5 +302,5 @@ part_rows unit where_at next p q (part_of.Variables here all) k closed fit = of_
 pub constants_plain_part : (unit : List ℕ) (p : Progress) (all : List ConstantDeclaration) (q : Progress) → (constants_declared unit p all).holds q → AddsPlain p.scope q.scope
 constants_plain_part unit p all q k = constants_plain unit p all q k
 
-pub variables_plain_part : (unit : List ℕ) (where_at : Home) (p : Progress) (all : List VariableDeclaration) (q : Progress) → (variables_declared unit where_at p all).holds q → IsClosedScope p.scope → AddsPlain p.scope q.scope
+pub variables_plain_part : (unit : List ℕ) (where_at : Home) (p : Progress) (all : List VariableDeclaration) (q : Progress) → (variables_declared unit where_at p all).holds q → IsWellScopedEnvironment p.scope → AddsPlain p.scope q.scope
 variables_plain_part unit where_at p all q k closed = (variables_row unit where_at p all q k closed).plain

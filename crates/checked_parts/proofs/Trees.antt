@@ -12,7 +12,7 @@ use Rattle.typed_tree.specs.declared.units.Global.{Global}
 use Rattle.typed_tree.specs.declared.units.Routine.{Routine}
 use Rattle.type_fits.specs.Routines.{listed, variables_of}
 use Rattle.well_formed.specs.Scopes.{Others, Scope}
-use Rattle.wider_scopes.specs.Wider.{AreAmong}
+use Rattle.wider_scopes.specs.Weakening.{AreAmong}
 use Rattle.routines.specs.Drafts.{Numbered}
 use Rattle.typed_nodes.proofs.Fields.{get-append}
 use Rattle.known_names.specs.Known.{at_level}

@@ -33,7 +33,7 @@ use Rattle.routines.specs.Drafts.{Done, Numbered, Drafted, knowing, Stage, stage
 use Rattle.routines.specs.Headings.{Opened}
 use Rattle.routines.specs.Insides.{variables_beside, variables_before, site_in, inside, done, closed}
 use Rattle.routines.specs.Blocks.{block_judged}
-use Rattle.wider_scopes.specs.Wider.{IsSame}
+use Rattle.wider_scopes.specs.Weakening.{IsSame}
 use Rattle.checked_statements.specs.Trees.{depth_in}
 use Rattle.checked_statements.proofs.Checked.{stated_well}
 use Rattle.known_names.specs.Known.{open_in, first_in, AreNested, IsPlaced, AreKnown, scope_over}

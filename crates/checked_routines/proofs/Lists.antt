@@ -5,7 +5,7 @@ use Rattle.std.specs.Prelude.{slice_get}
 use Rattle.type_layout.specs.declared.definitions.TypeId.{TypeId}
 use Rattle.typed_tree.specs.declared.units.Routine.{Routine}
 use Rattle.routines.specs.Drafts.{Done, Numbered, with_done, finishing}
-use Rattle.wider_scopes.specs.Wider.{IsSame}
+use Rattle.wider_scopes.specs.Weakening.{IsSame}
 use Rattle.checked_routines.specs.Reading.{tree_of, Frame, with_locals, trees_of}
 
 -- ---- variables of one routine

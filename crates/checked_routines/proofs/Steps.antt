@@ -10,7 +10,7 @@ use Rattle.type_layout.proofs.Local.{slice_get-append}
 use Rattle.typed_tree.specs.declared.units.Routine.{Routine}
 use Rattle.type_fits.specs.Routines.{listed, variables_of}
 use Rattle.well_formed.specs.Scopes.{Others, Scope, HasType}
-use Rattle.wider_scopes.specs.Wider.{AreAmong}
+use Rattle.wider_scopes.specs.Weakening.{AreAmong}
 use Rattle.scopes.specs.declared.entries.Entry.{Entry}
 use Rattle.scopes.specs.declared.searches.OpenBlock.{OpenBlock}
 use Rattle.scopes.specs.Symbols.{SymbolList}

@@ -16,7 +16,7 @@ use Rattle.type_layout.proofs.Local.{slice_get-append}
 use Rattle.typed_tree.specs.declared.units.Routine.{Routine}
 use Rattle.type_fits.specs.Fits.{definition, IsObject}
 use Rattle.well_formed.specs.Scopes.{Prototype, Others, Scope, HasRoutine, IsRoutineAt}
-use Rattle.wider_scopes.specs.Wider.{AreAmong}
+use Rattle.wider_scopes.specs.Weakening.{AreAmong}
 use Rattle.well_formed.specs.WellFormed.{IsOwner}
 use Rattle.scopes.specs.declared.entries.Entry.{Entry}
 use Rattle.scopes.specs.declared.entries.Entry.TheVariants as entry

@@ -26,7 +26,7 @@ use Rattle.routines.specs.Insides.{statements_of}
 use Rattle.tp_check_decl.specs.Units.{Finished, Whole, view_routine, view_unit, finished, main_part}
 use Rattle.tp_check_decl.specs.Endings.{all_finished, main_judged, ended}
 use Rattle.typed_nodes.specs.Tables.{IsInTable, IsResultIn, IsHeaderIn, IsSound}
-use Rattle.wider_scopes.specs.Wider.{IsSame, Widens}
+use Rattle.wider_scopes.specs.Weakening.{IsSame, Weakens}
 use Rattle.wider_scopes.specs.Laws.{StatementsStay}
 use Rattle.checked_statements.specs.Trees.{depth_in}
 use Rattle.checked_statements.proofs.Checked.{stated_well}
@@ -100,7 +100,7 @@ module _ (stay : StatementsStay) (d : Drafted) (r : IsRead d []) (all behind : L
 
   -- the scope of a routine of the unit has all that the draft's has
   widens : (number : ℕ) (around : List ℕ) (then : Scope) → Extends then draft → IsSound then.types → AreNested then.routines (number ∷ around) → AreNested draft.routines (number ∷ around)
-      → Widens (scope_over then (number ∷ around)) (scope_in others unit number)
+      → Weakens (scope_over then (number ∷ around)) (scope_in others unit number)
   widens number around then e sound nested_then nested = record {
     defined = sound.defined;
     types = (e.types.0, sym types_are ∙ e.types.1);
@@ -178,8 +178,8 @@ module _ (stay : StatementsStay) (d : Drafted) (r : IsRead d []) (all behind : L
   no_one n zero e = let bad : ⊥ = cc in bad
   no_one n (suc place) e = let bad : ⊥ = cc in bad
 
-  widens_main : (number : ℕ) → Widens (scope_over draft []) (scope_in others unit number)
-  widens_main number = record {
+  weakens_main : (number : ℕ) → Weakens (scope_over draft []) (scope_in others unit number)
+  weakens_main number = record {
     defined = r.known.sound.defined;
     types = ([], sym types_are ∙ sym (append-nil draft.types));
     others = among_itself others;
@@ -197,7 +197,7 @@ module _ (stay : StatementsStay) (d : Drafted) (r : IsRead d []) (all behind : L
       let room : depth_in (view_statements body.statements.items) + 0 ≤ 2147483648 = (let k = kept.depth in omega (arith, k)) in
       let well : IsStatement (scope_over draft (open_in d.scope)) typed_body =
       stated_well (compound (view_statements body.statements.items)) d.scope (scope_over draft (open_in d.scope)) agrees typed_body kept.literals room h in
-      stay (scope_over draft []) (scope_in others unit number) (widens_main number) typed_body (subst (λ (ns : List ℕ). IsStatement (scope_over draft ns) typed_body) none well)
+      stay (scope_over draft []) (scope_in others unit number) (weakens_main number) typed_body (subst (λ (ns : List ℕ). IsStatement (scope_over draft ns) typed_body) none well)
 
   main_well : (name : List ℕ) (typed_body : Statement) (number : ℕ) (routine : Routine) → main_part name typed_body ≡ view_routine routine → IsStatement (scope_in others unit number) typed_body → IsRoutine others unit number routine
   main_well name typed_body number routine is well =

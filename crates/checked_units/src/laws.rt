@@ -8,7 +8,7 @@ pub fn checked_unit_laws()
     ensures bare { BareLaw }
     ensures used { UsedLaw }
 {
-    wider_scopes::wider_laws();
+    wider_scopes::weakening_laws();
     constant_values::constant_value_law();
     checked_parts::part_keeping_law();
 }

@@ -10,7 +10,7 @@ use Rattle.scopes.specs.Symbols.{SymbolList, entry_of}
 use Rattle.scopes.specs.Members.{first_of, member_of}
 use Rattle.scopes.specs.Environment.{Environment, Meaning, named, member, line_of, in_symbols, in_block, in_blocks, in_units, find}
 use Rattle.unit_interface.specs.Exports.{with_type}
-use Rattle.closed_constants.specs.Bounds.{AreBelow, in_entry, in_names, in_lists, in_open, IsBoundOf, IsClosedScope}
+use Rattle.closed_constants.specs.Bounds.{AreBelow, in_entry, in_names, in_lists, in_open, IsBoundOf, IsWellScopedEnvironment}
 use Rattle.closed_constants.proofs.Below.{below_both, below_first, below_last, below_more}
 
 module _ (n : ℕ) where
@@ -98,5 +98,5 @@ bound_more n m g more h =
     }
 
 -- a closed scope is below what is no less than its table
-pub closed_below : (n : ℕ) (g : Environment) → IsClosedScope g → length g.types.types ≤ n → IsBoundOf n g
+pub closed_below : (n : ℕ) (g : Environment) → IsWellScopedEnvironment g → length g.types.types ≤ n → IsBoundOf n g
 closed_below n g h more = bound_more (length g.types.types) n g more h

@@ -59,8 +59,8 @@ pub record IsBoundOf (n : ℕ) (g : Environment) : Type 0 where
   pub blocks : AreBelow n (in_open g.blocks)
 
 -- each type that the scope names is one of its table
-abbrev pub IsClosedScope : Environment → Type 0
-IsClosedScope g = IsBoundOf (length g.types.types) g
+abbrev pub IsWellScopedEnvironment : Environment → Type 0
+IsWellScopedEnvironment g = IsBoundOf (length g.types.types) g
 
 -- ---- the laws
 

@@ -6,7 +6,7 @@ use Rattle.scopes.specs.declared.entries.BlockKind.{BlockKind}
 use Rattle.scopes.specs.declared.searches.OpenBlock.{OpenBlock}
 use Rattle.scopes.specs.Environment.{Environment, with_block, with_name, without_block}
 use Rattle.type_denoters.specs.Additions.{Denoted, entered}
-use Rattle.closed_constants.specs.Bounds.{AreBelow, in_entry, in_names, in_open, IsBoundOf, IsClosedScope}
+use Rattle.closed_constants.specs.Bounds.{AreBelow, in_entry, in_names, in_open, IsBoundOf, IsWellScopedEnvironment}
 use Rattle.closed_constants.specs.Ordered.{IsOrdered}
 use Rattle.closed_constants.proofs.Below.{below_both, below_first, below_last}
 use Rattle.closed_constants.proofs.Names.{closed_below}
@@ -87,5 +87,5 @@ stay_closed asked g = record {
 -- ---- closed scopes
 
 -- a scope that was grown from a closed one is closed
-pub grown_closed : (g h : Environment) → Stays Nothing g h → IsClosedScope g → IsClosedScope h
+pub grown_closed : (g h : Environment) → Stays Nothing g h → IsWellScopedEnvironment g → IsWellScopedEnvironment h
 grown_closed g h s closed = s.bound (length h.types.types) (closed_below (length h.types.types) g closed s.longer) (omega arith) tt

@@ -11,7 +11,7 @@ use Rattle.scopes.specs.declared.entries.Entry.TheVariants.{Ty, Std}
 use Rattle.scopes.specs.Symbols.{SymbolList, has}
 use Rattle.scopes.specs.Predeclared.{type_id, type_list, type_table, with_known, with_types, with_standard, number_entry, with_constants, type_names, standard, predeclared, first}
 use Rattle.unit_interface.specs.Exports.{with_type}
-use Rattle.closed_constants.specs.Bounds.{AreBelow, in_entry, in_names, IsClosedScope}
+use Rattle.closed_constants.specs.Bounds.{AreBelow, in_entry, in_names, IsWellScopedEnvironment}
 use Rattle.closed_constants.proofs.Below.{below_both, below_first, below_last}
 use Rattle.closed_constants.specs.Ordered.{IsOrdered}
 use Rattle.closed_scopes.specs.Scopes.{IsCompleteScope}
@@ -74,7 +74,7 @@ types_below (suc (suc (suc (suc (suc (suc (suc (suc (suc zero))))))))) = (omega 
 types_below (suc (suc (suc (suc (suc (suc (suc (suc (suc (suc zero)))))))))) = (omega arith, tt)
 types_below (suc (suc (suc (suc (suc (suc (suc (suc (suc (suc (suc by))))))))))) = tt
 
-first_closed : (name : List ℕ) → IsClosedScope (first name)
+first_closed : (name : List ℕ) → IsWellScopedEnvironment (first name)
 first_closed name = record {
   table = omega arith;
   system = omega arith;

@@ -18,7 +18,7 @@ use Rattle.unit_interface.specs.Exports.{in_type, in_items, behind, is_in, IsRea
 use Rattle.unit_interface.proofs.ReachLaws.{goes_along}
 use Rattle.closed_constants.specs.Bounds.{AreBelow}
 use Rattle.closed_constants.proofs.Below.{at_push, below_both}
-use Rattle.closed_scopes.specs.Scopes.{IsClosedInterface}
+use Rattle.closed_scopes.specs.Scopes.{IsWellScopedInterface}
 use Rattle.closed_scopes.proofs.Merging.{has}
 use Rattle.closed_scopes.proofs.Renumbering.{AllOf, all_first, new_type, shown_items}
 use Rattle.closed_scopes.proofs.Using.{TypesBelow, new_behind}
@@ -179,7 +179,7 @@ module _ (unit : typed.Unit) (paired : length unit.types.origins ≡ length unit
       by_flag number (is_in reached number) table (with_kept unit.types ids table number) refl before
       (λ met. subst P (sym is) (keep number table one.one name o.one.number one.at ((omega arith), met) before))
 
-  closed_so : IsClosedInterface (shown unit reached)
+  closed_so : IsWellScopedInterface (shown unit reached)
   closed_so =
       let k = kept_to count (omega arith) in
       let long = k.counted in
@@ -190,5 +190,5 @@ module _ (unit : typed.Unit) (paired : length unit.types.origins ≡ length unit
       }
 
 pub shown_closed : (unit : typed.Unit) (interface : Interface) → length unit.types.origins ≡ length unit.types.types → AreBelow (length unit.types.types) (in_items unit.items)
-    → TypesBelow (length unit.types.types) unit.types.types → IsInterfaceOf unit interface → IsClosedInterface interface
-shown_closed unit interface paired items types h = subst IsClosedInterface (sym h.is) (closed_so unit paired items types h.reached h.exactly)
+    → TypesBelow (length unit.types.types) unit.types.types → IsInterfaceOf unit interface → IsWellScopedInterface interface
+shown_closed unit interface paired items types h = subst IsWellScopedInterface (sym h.is) (closed_so unit paired items types h.reached h.exactly)

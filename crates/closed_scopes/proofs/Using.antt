@@ -14,10 +14,10 @@ use Rattle.unit_interface.specs.Exports.{in_type, behind}
 use Rattle.unit_interface.specs.Merge.{ids_in, new_id, renumbered, is_new, with_interface}
 use Rattle.unit_interface.specs.Resolve.{overlay, overlay_items, with_overlay, is_overlay, interface_named, with_found, with_use, with_uses}
 use Rattle.unit_interface.specs.Fitting.{types_fit, found_fits, use_fits, uses_fit}
-use Rattle.closed_constants.specs.Bounds.{AreBelow, in_names, in_lists, IsClosedScope}
+use Rattle.closed_constants.specs.Bounds.{AreBelow, in_names, in_lists, IsWellScopedEnvironment}
 use Rattle.closed_constants.proofs.Below.{at_push, below_both, below_first, below_last}
 use Rattle.closed_constants.proofs.Names.{closed_below}
-use Rattle.closed_scopes.specs.Scopes.{IsCompleteScope, IsClosedInterface, IsClosedUse, AreClosedUses}
+use Rattle.closed_scopes.specs.Scopes.{IsCompleteScope, IsWellScopedInterface, IsWellScopedUse, AreWellScopedUses}
 use Rattle.closed_scopes.proofs.Merging.{with_first, has, met, longer, id_low}
 use Rattle.closed_scopes.proofs.Fitting.{AreTogether, ordered_behind, together}
 use Rattle.closed_scopes.proofs.Renumbering.{new_type, new_items}
@@ -47,7 +47,7 @@ grown_by : (b : Bool) (one two : Table) (n : ℕ) → b ≡ true → n ≤ lengt
 grown_by true one two n e h = h
 grown_by false one two n e h = absurd (let f : false ≡ true = e in cc)
 
-module _ (table : Table) (i : Interface) (paired : length table.origins ≡ length table.types) (closed : IsClosedInterface i) (united : AreTogether table i.types) where
+module _ (table : Table) (i : Interface) (paired : length table.origins ≡ length table.types) (closed : IsWellScopedInterface i) (united : AreTogether table i.types) where
   abbrev count : ℕ
   count = length i.types.types
 
@@ -115,8 +115,8 @@ in_more n [] names h k = below_both n (in_names names) [] k tt
 in_more n (first ∷ lists) names h k =
     below_both n (in_names first) (in_lists (lists ++ names ∷ [])) (below_first n (in_names first) (in_lists lists) h) (in_more n lists names (below_last n (in_names first) (in_lists lists) h) k)
 
-interface_closed : (g : Environment) (interface : Interface) → length g.types.origins ≡ length g.types.types → IsClosedScope g → IsClosedInterface interface → AreTogether g.types interface.types
-    → IsClosedScope (with_interface g interface)
+interface_closed : (g : Environment) (interface : Interface) → length g.types.origins ≡ length g.types.types → IsWellScopedEnvironment g → IsWellScopedInterface interface → AreTogether g.types interface.types
+    → IsWellScopedEnvironment (with_interface g interface)
 interface_closed g interface paired h closed whole =
     let n = length (with_first g.types interface.types (length interface.types.types)).types in
     let more = up_to_all g.types interface paired closed whole 0 (omega arith) in
@@ -131,7 +131,7 @@ interface_closed g interface paired h closed whole =
       blocks = b.blocks;
     }
 
-overlay_closed : (g : Environment) → IsClosedScope g → IsClosedScope (with_overlay g)
+overlay_closed : (g : Environment) → IsWellScopedEnvironment g → IsWellScopedEnvironment (with_overlay g)
 overlay_closed g h =
     let n = length g.types.types in
     let most = h.system in
@@ -148,18 +148,18 @@ overlay_closed g h =
 
 -- ---- complete scopes
 
-pub interface_complete : (g : Environment) (interface : Interface) → IsCompleteScope g → IsClosedInterface interface → types_fit g.types interface.types ≡ true → IsCompleteScope (with_interface g interface)
+pub interface_complete : (g : Environment) (interface : Interface) → IsCompleteScope g → IsWellScopedInterface interface → types_fit g.types interface.types ≡ true → IsCompleteScope (with_interface g interface)
 interface_complete g interface h closed fits = record {
   ordered = ordered_behind g.types interface.types closed.paired fits h.ordered;
   closed = interface_closed g interface h.ordered.paired h.closed closed (together g.types interface.types h.ordered.paired closed.paired fits);
 }
 
-found_complete : (g : Environment) (found : Option Interface) → IsCompleteScope g → ((interface : Interface) → found ≡ Some interface → IsClosedInterface interface) → found_fits g found ≡ true
+found_complete : (g : Environment) (found : Option Interface) → IsCompleteScope g → ((interface : Interface) → found ≡ Some interface → IsWellScopedInterface interface) → found_fits g found ≡ true
     → IsCompleteScope (with_found g found)
 found_complete g None h closed fits = h
 found_complete g (Some interface) h closed fits = interface_complete g interface h (closed interface refl) fits
 
-pub use_complete : (have : List Interface) (g : Environment) (name : List ℕ) → IsCompleteScope g → IsClosedUse have name → use_fits have g name ≡ true → IsCompleteScope (with_use have g name)
+pub use_complete : (have : List Interface) (g : Environment) (name : List ℕ) → IsCompleteScope g → IsWellScopedUse have name → use_fits have g name ≡ true → IsCompleteScope (with_use have g name)
 use_complete have g name h closed fits = by (is_overlay name) refl fits
   where
     by : (b : Bool) → is_overlay name ≡ b → (b || found_fits g (interface_named have name)) ≡ true → IsCompleteScope (cond b (with_overlay g) (with_found g (interface_named have name)))
@@ -167,14 +167,14 @@ use_complete have g name h closed fits = by (is_overlay name) refl fits
     by false is e = found_complete g (interface_named have name) h (closed is) e
 
 -- its table has no fewer types
-found_longer : (g : Environment) (found : Option Interface) → IsCompleteScope g → ((interface : Interface) → found ≡ Some interface → IsClosedInterface interface) → found_fits g found ≡ true
+found_longer : (g : Environment) (found : Option Interface) → IsCompleteScope g → ((interface : Interface) → found ≡ Some interface → IsWellScopedInterface interface) → found_fits g found ≡ true
     → length g.types.types ≤ length (with_found g found).types.types
 found_longer g None h closed fits = omega arith
 found_longer g (Some interface) h closed fits =
     let c = closed interface refl in
     up_to_all g.types interface h.ordered.paired c (together g.types interface.types h.ordered.paired c.paired fits) 0 (omega arith)
 
-pub use_longer : (have : List Interface) (g : Environment) (name : List ℕ) → IsCompleteScope g → IsClosedUse have name → use_fits have g name ≡ true
+pub use_longer : (have : List Interface) (g : Environment) (name : List ℕ) → IsCompleteScope g → IsWellScopedUse have name → use_fits have g name ≡ true
     → length g.types.types ≤ length (with_use have g name).types.types
 use_longer have g name h closed fits = by (is_overlay name) refl fits
   where
@@ -187,7 +187,7 @@ both_true : (a b : Bool) → (a && b) ≡ true → (a ≡ true) × (b ≡ true)
 both_true true b e = (refl, e)
 both_true false b e = (let f : false ≡ true = e in cc)
 
-pub uses_complete : (have : List Interface) (g : Environment) (names : List (List ℕ)) → IsCompleteScope g → AreClosedUses have names → uses_fit have g names ≡ true → IsCompleteScope (with_uses have g names)
+pub uses_complete : (have : List Interface) (g : Environment) (names : List (List ℕ)) → IsCompleteScope g → AreWellScopedUses have names → uses_fit have g names ≡ true → IsCompleteScope (with_uses have g names)
 uses_complete have g [] h closed fits = h
 uses_complete have g (name ∷ names) h closed fits =
     let both = both_true (use_fits have g name) (uses_fit have (with_use have g name) names) fits in

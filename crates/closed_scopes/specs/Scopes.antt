@@ -8,37 +8,37 @@ use Rattle.unit_interface.specs.Exports.{in_items, with_type, IsInterfaceOf}
 use Rattle.unit_interface.specs.Merge.{with_interface}
 use Rattle.unit_interface.specs.Resolve.{is_overlay, interface_named, with_use, with_uses}
 use Rattle.unit_interface.specs.Fitting.{types_fit, use_fits, uses_fit}
-use Rattle.closed_constants.specs.Bounds.{AreBelow, IsClosedScope}
+use Rattle.closed_constants.specs.Bounds.{AreBelow, IsWellScopedEnvironment}
 use Rattle.closed_constants.specs.Ordered.{IsOrdered}
 
 -- the table is ordered, and each type that the scope names is one of it
 pub record IsCompleteScope (g : Environment) : Type 0 where
   pub ordered : IsOrdered g.types
-  pub closed : IsClosedScope g
+  pub closed : IsWellScopedEnvironment g
 
 -- the types of an interface, and its items, name types of its table alone; each type has its origin
-pub record IsClosedInterface (interface : Interface) : Type 0 where
+pub record IsWellScopedInterface (interface : Interface) : Type 0 where
   pub paired : length interface.types.origins ≡ length interface.types.types
   pub items : AreBelow (length interface.types.types) (in_items interface.items)
   pub types : (by : ℕ) → AreBelow (length interface.types.types) (with_type by (slice_get interface.types.types by))
 
 -- what stands among some interfaces for a unit is closed; OVERLAY needs none
-abbrev pub IsClosedUse : List Interface → List ℕ → Type 0
-IsClosedUse have name = is_overlay name ≡ false → (interface : Interface) → interface_named have name ≡ Some interface → IsClosedInterface interface
+abbrev pub IsWellScopedUse : List Interface → List ℕ → Type 0
+IsWellScopedUse have name = is_overlay name ≡ false → (interface : Interface) → interface_named have name ≡ Some interface → IsWellScopedInterface interface
 
-abbrev pub AreClosedUses : List Interface → List (List ℕ) → Type 0
-AreClosedUses have [] = Unit {0}
-AreClosedUses have (name ∷ names) = IsClosedUse have name × AreClosedUses have names
+abbrev pub AreWellScopedUses : List Interface → List (List ℕ) → Type 0
+AreWellScopedUses have [] = Unit {0}
+AreWellScopedUses have (name ∷ names) = IsWellScopedUse have name × AreWellScopedUses have names
 
-pub record AreClosed : Type 0 where
+pub record AreWellScoped : Type 0 where
   -- before any unit is used
   pub first : (name : List ℕ) → IsCompleteScope (first name)
   -- with a unit whose types fit
-  pub interface : (g : Environment) (interface : Interface) → IsCompleteScope g → IsClosedInterface interface → types_fit g.types interface.types ≡ true → IsCompleteScope (with_interface g interface)
+  pub interface : (g : Environment) (interface : Interface) → IsCompleteScope g → IsWellScopedInterface interface → types_fit g.types interface.types ≡ true → IsCompleteScope (with_interface g interface)
   -- with a unit, or several of them, by their names
-  pub used : (have : List Interface) (g : Environment) (name : List ℕ) → IsCompleteScope g → IsClosedUse have name → use_fits have g name ≡ true → IsCompleteScope (with_use have g name)
-  pub all_used : (have : List Interface) (g : Environment) (names : List (List ℕ)) → IsCompleteScope g → AreClosedUses have names → uses_fit have g names ≡ true
+  pub used : (have : List Interface) (g : Environment) (name : List ℕ) → IsCompleteScope g → IsWellScopedUse have name → use_fits have g name ≡ true → IsCompleteScope (with_use have g name)
+  pub all_used : (have : List Interface) (g : Environment) (names : List (List ℕ)) → IsCompleteScope g → AreWellScopedUses have names → uses_fit have g names ≡ true
       → IsCompleteScope (with_uses have g names)
   -- what a unit shows is closed, where its types and its items name types of its table
   pub shown : (unit : typed.Unit) (interface : Interface) → length unit.types.origins ≡ length unit.types.types → AreBelow (length unit.types.types) (in_items unit.items)
-      → ((by : ℕ) → AreBelow (length unit.types.types) (with_type by (slice_get unit.types.types by))) → IsInterfaceOf unit interface → IsClosedInterface interface
+      → ((by : ℕ) → AreBelow (length unit.types.types) (with_type by (slice_get unit.types.types by))) → IsInterfaceOf unit interface → IsWellScopedInterface interface

@@ -28,11 +28,11 @@ use Rattle.tp_check_decl.specs.Programs.{unit_site, empty_draft, declarations_ju
 use Rattle.tp_check_decl.specs.Interfaces.{item_of, items_in, items_by, items_of, declared, all_declared, interface_judged, all_used}
 use Rattle.tp_check_decl.specs.Shown.{outlined, with_nothing_else, IsShownAs}
 use Rattle.tp_check_decl.specs.Checked.{judged}
-use Rattle.interface_laws.specs.Agreement.{IsClosed}
-use Rattle.closed_scopes.specs.Scopes.{IsCompleteScope, IsClosedInterface, IsClosedUse}
+use Rattle.interface_laws.specs.Agreement.{IsWellScoped}
+use Rattle.closed_scopes.specs.Scopes.{IsCompleteScope, IsWellScopedInterface, IsWellScopedUse}
 use Rattle.closed_scopes.proofs.Showing.{shown_closed}
 use Rattle.closed_scopes.proofs.Using.{use_longer, use_complete}
-use Rattle.closed_tables.specs.Tables.{IsClosedUnit}
+use Rattle.closed_tables.specs.Tables.{IsWellScopedUnit}
 use Rattle.closed_constants.specs.Bounds.{AreBelow, in_entry, in_names, in_open, IsBoundOf}
 use Rattle.closed_constants.proofs.Below.{below_both, below_first, below_last}
 use Rattle.closed_constants.proofs.Names.{closed_below}
@@ -74,7 +74,7 @@ record IsUsed (g h : Environment) : Type 0 where
 used_at : (g h k : Environment) → k ≡ h → IsUsed g h → IsUsed g k
 used_at g h k e u = let P : Environment → Type 0 = λ x. IsUsed g x in subst P (sym e) u
 
-all_used_so : (have : List Interface) (g : Environment) (rest : List Identifier) (h : Environment) → (all_used have g rest).holds h → IsCompleteScope g → ((used : List ℕ) → IsClosedUse have used) → IsUsed g h
+all_used_so : (have : List Interface) (g : Environment) (rest : List Identifier) (h : Environment) → (all_used have g rest).holds h → IsCompleteScope g → ((used : List ℕ) → IsWellScopedUse have used) → IsUsed g h
 all_used_so have g [] h e c closed = used_at g g h e (record { longer = omega arith; complete = c })
 all_used_so have g (one ∷ rest) h e c closed =
     let next = with_use have g one.name in
@@ -119,38 +119,38 @@ below_in n (first ∷ rest) number h e = by (nat_eq number first) refl e (λ f. 
 
 -- ---- closed units
 
-closed_of : (g : Environment) (items : List Item) → IsCompleteScope g → AreBelow (length g.types.types) (in_items items) → IsClosedUnit g.types items
+closed_of : (g : Environment) (items : List Item) → IsCompleteScope g → AreBelow (length g.types.types) (in_items items) → IsWellScopedUnit g.types items
 closed_of g items h k = record { ordered = h.ordered; items = k; types = h.closed.types }
 
 complete_on : (g h : Environment) → Stays Nothing g h → IsCompleteScope g → IsCompleteScope h
 complete_on g h s c = record { ordered = s.ordered c.ordered; closed = grown_closed g h s c.closed }
 
 ended_closed : (name : List ℕ) (front : _) (items : List Item) (body : Option CompoundStatement) (d : Drafted) (unit : Whole) → (ended name front items body d).holds unit
-    → IsClosedUnit d.scope.types items → IsClosedUnit unit.types unit.items
-ended_closed name front items None d unit e h = let P : Whole → Type 0 = λ u. IsClosedUnit u.types u.items in subst P (sym e.made) h
-ended_closed name front items (Some body) d unit e h = let P : Whole → Type 0 = λ u. IsClosedUnit u.types u.items in subst P (sym e.made) h
+    → IsWellScopedUnit d.scope.types items → IsWellScopedUnit unit.types unit.items
+ended_closed name front items None d unit e h = let P : Whole → Type 0 = λ u. IsWellScopedUnit u.types u.items in subst P (sym e.made) h
+ended_closed name front items (Some body) d unit e h = let P : Whole → Type 0 = λ u. IsWellScopedUnit u.types u.items in subst P (sym e.made) h
 
-same_unit : (one made : Whole) → made ≡ one → IsClosedUnit one.types one.items → IsClosedUnit made.types made.items
-same_unit one made e h = let P : Whole → Type 0 = λ u. IsClosedUnit u.types u.items in subst P (sym e) h
+same_unit : (one made : Whole) → made ≡ one → IsWellScopedUnit one.types one.items → IsWellScopedUnit made.types made.items
+same_unit one made e h = let P : Whole → Type 0 = λ u. IsWellScopedUnit u.types u.items in subst P (sym e) h
 
 -- behind an interface part
 outer_complete : (name : List ℕ) (g : Environment) (all : List InterfaceDeclaration) (d : Drafted) → (interface_judged name g all).holds d → IsCompleteScope g → IsCompleteScope d.scope
 outer_complete name g all d e h = complete_on g d.scope (interface_stays name g all d e) h
 
-pub outline_closed : (name : List ℕ) (says : Directives) (g : Environment) (tree : Tree) (unit : Whole) → IsCompleteScope g → (outlined name says g tree).holds unit → IsClosedUnit unit.types unit.items
+pub outline_closed : (name : List ℕ) (says : Directives) (g : Environment) (tree : Tree) (unit : Whole) → IsCompleteScope g → (outlined name says g tree).holds unit → IsWellScopedUnit unit.types unit.items
 outline_closed name says g (t.Program heading uses all body) unit h e = same_unit _ unit e.made (closed_of g [] h tt)
 outline_closed name says g (t.Unit here own uses outer interface all body) unit h e =
     let d = e.made in
     let behind = outer_complete name g interface.items d.part d.holds h in
     same_unit _ unit d.made (closed_of d.part.scope (items_of d.part.scope) behind (shown_below (length d.part.scope.types.types) d.part.scope behind.closed))
 
-pub interface_closed : (name : List ℕ) (says : Directives) (g : Environment) (tree : Tree) (interface : Interface) → IsCompleteScope g → IsShownAs name says g tree interface → IsClosedInterface interface
+pub interface_closed : (name : List ℕ) (says : Directives) (g : Environment) (tree : Tree) (interface : Interface) → IsCompleteScope g → IsShownAs name says g tree interface → IsWellScopedInterface interface
 interface_closed name says g tree interface h e =
     let c = outline_closed name says g tree e.unit h e.holds in
     shown_closed (with_nothing_else e.unit) interface c.ordered.paired c.items c.types e.shows
 
-pub unit_closed : (name : List ℕ) (says : Directives) (g : Environment) (have : List Interface) (tree : Tree) (unit : Whole) → IsCompleteScope g → ((used : List ℕ) → IsClosedUse have used)
-    → (judged name says g have tree).holds unit → IsClosedUnit unit.types unit.items
+pub unit_closed : (name : List ℕ) (says : Directives) (g : Environment) (have : List Interface) (tree : Tree) (unit : Whole) → IsCompleteScope g → ((used : List ℕ) → IsWellScopedUse have used)
+    → (judged name says g have tree).holds unit → IsWellScopedUnit unit.types unit.items
 unit_closed name says g have (t.Program heading uses all body) unit c used h =
     let f = h.made in
     let d = f.made in
@@ -173,7 +173,7 @@ unit_closed name says g have (t.Unit here own uses outer interface all body) uni
     (closed_of last (items_of d.scope) (complete_on u.part last more middle.complete) (shown_below n d.scope (closed_below n d.scope first.closed low)))
 
 -- the law of `interface_laws` on closed tables, of closed units
-pub is_closed : (types : Table) (items : List Item) → IsClosedUnit types items → IsClosed types.types items
+pub is_closed : (types : Table) (items : List Item) → IsWellScopedUnit types items → IsWellScoped types.types items
 is_closed types items h =
     let n = length types.types in
     record {

@@ -12,21 +12,21 @@ use Rattle.tp_check_decl.specs.Shown.{outlined, Shows, IsShownAs}
 use Rattle.tp_check_decl.specs.Checked.{judged}
 use Rattle.closed_constants.specs.Bounds.{AreBelow}
 use Rattle.closed_constants.specs.Ordered.{IsOrdered}
-use Rattle.closed_scopes.specs.Scopes.{IsCompleteScope, IsClosedInterface, IsClosedUse}
+use Rattle.closed_scopes.specs.Scopes.{IsCompleteScope, IsWellScopedInterface, IsWellScopedUse}
 
 -- the table of a unit is ordered, and its types, and the unit's items, name types of it alone
-pub record IsClosedUnit (table : Table) (listed : List Item) : Type 0 where
+pub record IsWellScopedUnit (table : Table) (listed : List Item) : Type 0 where
   pub ordered : IsOrdered table
   pub items : AreBelow (length table.types) (in_items listed)
   pub types : (by : ℕ) → AreBelow (length table.types) (with_type by (slice_get table.types by))
 
 -- Over a complete scope, the unit of an interface part is closed, and what it shows; and so is a whole unit, where the interfaces
 -- are that its implementation part uses.
-pub record StayClosed : Type 0 where
-  pub outline : (name : List ℕ) (says : Directives) (g : Environment) (tree : Tree) (unit : Whole) → IsCompleteScope g → (outlined name says g tree).holds unit → IsClosedUnit unit.types unit.items
-  pub interface : (name : List ℕ) (says : Directives) (g : Environment) (tree : Tree) (interface : Interface) → IsCompleteScope g → IsShownAs name says g tree interface → IsClosedInterface interface
-  pub unit : (name : List ℕ) (says : Directives) (g : Environment) (have : List Interface) (tree : Tree) (unit : Whole) → IsCompleteScope g → ((used : List ℕ) → IsClosedUse have used)
-      → (judged name says g have tree).holds unit → IsClosedUnit unit.types unit.items
+pub record StayWellScoped : Type 0 where
+  pub outline : (name : List ℕ) (says : Directives) (g : Environment) (tree : Tree) (unit : Whole) → IsCompleteScope g → (outlined name says g tree).holds unit → IsWellScopedUnit unit.types unit.items
+  pub interface : (name : List ℕ) (says : Directives) (g : Environment) (tree : Tree) (interface : Interface) → IsCompleteScope g → IsShownAs name says g tree interface → IsWellScopedInterface interface
+  pub unit : (name : List ℕ) (says : Directives) (g : Environment) (have : List Interface) (tree : Tree) (unit : Whole) → IsCompleteScope g → ((used : List ℕ) → IsWellScopedUse have used)
+      → (judged name says g have tree).holds unit → IsWellScopedUnit unit.types unit.items
 
 -- the source has an interface part, and the unit shows what that shows, and nothing else
 pub record IsAlike (name : List ℕ) (says : Directives) (g : Environment) (tree : Tree) (unit : Whole) : Type 0 where

@@ -1,13 +1,13 @@
 //! The laws on the tables of checked units.
 
-ghost use Rattle.closed_tables.specs.Tables.{StayClosed, ShowAlike};
+ghost use Rattle.closed_tables.specs.Tables.{StayWellScoped, ShowAlike};
 
 use interface_laws::agreement_laws;
 
 /// Over a complete scope, the types behind a unit, and behind its interface part alone, name types of their table alone. So what the
 /// unit shows is what its interface part shows.
 pub fn table_laws()
-    ensures closed { StayClosed }
+    ensures closed { StayWellScoped }
     ensures alike { ShowAlike }
 {
     agreement_laws();

@@ -6,15 +6,15 @@ use Rattle.type_denoters.specs.Trees.{Denoter}
 use Rattle.type_denoters.specs.Additions.{Denoted}
 use Rattle.type_denoters.specs.Denoters.{ground, judged}
 use Rattle.type_parts.specs.Parts.{type_part}
-use Rattle.closed_constants.specs.Bounds.{IsClosedScope}
+use Rattle.closed_constants.specs.Bounds.{IsWellScopedEnvironment}
 use Rattle.closed_constants.specs.Ordered.{IsOrdered}
 use Rattle.closed_constants.proofs.Names.{closed_below}
 use Rattle.closed_types.proofs.Promising.{none_promised}
 use Rattle.closed_types.proofs.Denoting.{denoting}
 use Rattle.closed_types.proofs.Parts.{part_longer, part_bound}
 
-pub type_closed : (unit : List ℕ) (g : Environment) (one : Denoter) (made : Denoted) → (judged (ground unit []) g one).holds made → IsClosedScope g
-    → IsClosedScope made.scope × (made.ty.0 < length made.scope.types.types)
+pub type_closed : (unit : List ℕ) (g : Environment) (one : Denoter) (made : Denoted) → (judged (ground unit []) g one).holds made → IsWellScopedEnvironment g
+    → IsWellScopedEnvironment made.scope × (made.ty.0 < length made.scope.types.types)
 type_closed unit g one made e h =
     let types = denoting (ground unit []) g one made e in
     let long = types.reads.long in
@@ -22,7 +22,7 @@ type_closed unit g one made e h =
     let bound = closed_below n g h (omega arith) in
     (types.reads.bound n bound (omega arith) (none_promised n), types.ty n bound (omega arith) (none_promised n))
 
-pub part_closed : (unit : List ℕ) (next : Option ℕ) (g : Environment) (all : List TypeDeclaration) (h : Environment) → (type_part unit next g all).holds h → IsClosedScope g → IsClosedScope h
+pub part_closed : (unit : List ℕ) (next : Option ℕ) (g : Environment) (all : List TypeDeclaration) (h : Environment) → (type_part unit next g all).holds h → IsWellScopedEnvironment g → IsWellScopedEnvironment h
 part_closed unit next g all h e closed =
     let n = length h.types.types in
     part_bound n unit next g all h e (closed_below n g closed (part_longer unit next g all h e)) (omega arith)

@@ -1,4 +1,4 @@
-//! The code of arguments, of acts of the machine, and of stored routines does what they mean.
+//! The code of arguments, of effects of the machine, and of stored routines does what they mean.
 #![tactic(auto)]
 
 mod laws;

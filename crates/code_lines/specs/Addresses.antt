@@ -3,7 +3,7 @@ use Rattle.std.specs.Prelude.{ℕ, Bool, Option, Some, None}
 use Rattle.flat_code.specs.declared.memory.Place.{Place}
 use Rattle.flat_code.specs.Program.{Name, Key, UnitCode, named}
 
--- Offsets of data and virtual method tables in the data segment, offsets of routines in their own segment, and far pointers to routines. The error routine takes its code in AX; two acts of the machine are routines: one clears the overlay buffer, the other sets the installed flag.
+-- Offsets of data and virtual method tables in the data segment, offsets of routines in their own segment, and far pointers to routines. The error routine takes its code in AX; two effects of the machine are routines: one clears the overlay buffer, the other sets the installed flag.
 pub record Addresses : Type 0 where
   pub data_segment : ℕ
   pub datum : Key → ℕ

@@ -106,7 +106,7 @@ abbrev pub call_code : Context → ℕ → ℕ → List Line
 call_code x zero number = call_own_if x number (slice_get x.unit.routines number)
 call_code x (suc k) number = call_far (x.addresses.far (key_in x (suc k) number))
 
--- ## Acts of the machine
+-- ## Effects of the machine
 
 -- handle, segment, offset and count were pushed
 abbrev pub write_code : List Instr

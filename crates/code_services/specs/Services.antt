@@ -1,4 +1,4 @@
--- The routines of two acts of the machine: each has one instruction that does the act, and a far return.
+-- The routines of two effects of the machine: each has one instruction that does the act, and a far return.
 use Rattle.std.specs.Prelude.{◌≡◌, ℕ, List, [], ◌∷◌}
 use Rattle.x86_table.specs.declared.instr.Immediate.TheVariants as immediate
 use Rattle.x86_table.specs.declared.instr.Instr.{Instr}

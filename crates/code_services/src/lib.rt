@@ -1,4 +1,4 @@
-//! The two acts of the machine that are routines: overlays are cleared, and the installed flag is set.
+//! The two effects of the machine that are routines: overlays are cleared, and the installed flag is set.
 #![tactic(auto)]
 
 mod laws;

@@ -22,11 +22,11 @@ use Rattle.commands.specs.Files.{file_of}
 use Rattle.commands.specs.Go.{IsBuiltFrom, IsNotBuilt, IsNotGone, RanBuilt, WentTo, GoDid}
 use Rattle.commands.specs.Performs.{DidGo}
 use Rattle.commands.specs.Run.{limit_of}
-use Rattle.commands.specs.Turbo.{Headline, HasRun, HoldsExecutable, IsWritten, Written, IsGoEnd, IsFaultOrNoMemory, GoComplete, Faults, GoRefused, HoldsNoLiteral, IsOutside, Refuses, TookFront, Fronts, FilesAfter, TookErrors, Unchanged, WroteItsLine}
+use Rattle.commands.specs.Turbo.{Headline, HasRun, HoldsExecutable, IsWritten, Written, IsGoEnd, IsFaultOrNoMemory, GoComplete, Faults, GoRefused, HoldsNoLiteral, IsOutside, Refuses, TookPrefix, Prefixes, FilesAfter, TookErrors, Unchanged, WroteItsLine}
 use Rattle.commands.specs.World.{World, Lacks, IsUntouched}
 use Rattle.commands.proofs.AbsentLaws.{never_gathered, no_source}
 use Rattle.commands.proofs.HeldLaws.{does_so, holds_literal}
-use Rattle.commands.proofs.RanLaws.{told, limited, not_stopped, ends_so, stands_there, written_there, front_of_output, front_of_errors}
+use Rattle.commands.proofs.RanLaws.{told, limited, not_stopped, ends_so, stands_there, written_there, prefix_of_output, prefix_of_errors}
 use Rattle.commands.proofs.WordLaws.{not_both}
 
 pub still_risen : (old mid new : ℕ) → HasRisen old mid → mid ≤ new → HasRisen old new
@@ -50,17 +50,17 @@ no_refusal ends.FilesFault is = is
 
 -- ---- the headline
 
-gone_not : (result : Outcome) (name : List ℕ) (buffer : Option ℕ) (folder : Option Folder) (old new : ℕ) → IsNotGone result name buffer folder old new → HasRun result → ⊥
-gone_not (outcome.Refused r) name buffer folder old new reason has = has
-gone_not outcome.FilesFault name buffer folder old new reason has = has
-gone_not outcome.NoMemory name buffer folder old new reason has = has
-gone_not other name buffer folder old new reason has = reason
+go_not : (result : Outcome) (name : List ℕ) (buffer : Option ℕ) (folder : Option Folder) (old new : ℕ) → IsNotGone result name buffer folder old new → HasRun result → ⊥
+go_not (outcome.Refused r) name buffer folder old new reason has = has
+go_not outcome.FilesFault name buffer folder old new reason has = has
+go_not outcome.NoMemory name buffer folder old new reason has = has
+go_not other name buffer folder old new reason has = reason
 
 pub headline : (result : Outcome) (words : List (List ℕ)) (old mid : World) (errors : Option (List ℕ)) (faults : ℕ) → DidGo result words old mid → Headline words old (told mid errors faults) result
 headline result words old mid errors faults went = λ name options asked has. by name options has (went.did name options asked)
   where
     by : (name : List ℕ) (options : RunOptions) → HasRun result → GoDid result name options old mid → IfSome old.folder (λ held. HoldsExecutable held mid.folder name)
-    by name options has (inl gave) = absurd (gone_not result name options.buffer old.folder old.files_faults mid.files_faults gave.reason has)
+    by name options has (inl gave) = absurd (go_not result name options.buffer old.folder old.files_faults mid.files_faults gave.reason has)
     by name options has (inr ran) = stands_there old.folder mid.folder ran.0 name ran.2.bytes options old.streams mid.streams ran.2.run ran.2.written
 
 -- ---- what was written
@@ -87,13 +87,13 @@ written result words old mid errors faults went line = λ name options code aske
 
 -- ---- how it ends
 
-gone_complete : (folder : Option Folder) (result : Outcome) (name : List ℕ) (options : RunOptions) (old mid : World) (errors : Option (List ℕ)) (faults : ℕ) → IsNotGone result name options.buffer folder old.files_faults mid.files_faults
+go_complete : (folder : Option Folder) (result : Outcome) (name : List ℕ) (options : RunOptions) (old mid : World) (errors : Option (List ℕ)) (faults : ℕ) → IsNotGone result name options.buffer folder old.files_faults mid.files_faults
     → IfSome folder (λ held. IsGoEnd held name options result ⊎ IsFaultOrNoMemory result old (told mid errors faults))
-gone_complete None result name options old mid errors faults reason = tt
-gone_complete (Some held) (outcome.Refused r) name options old mid errors faults reason = inl reason.1
-gone_complete (Some held) outcome.FilesFault name options old mid errors faults reason = inr reason
-gone_complete (Some held) outcome.NoMemory name options old mid errors faults reason = inr tt
-gone_complete (Some held) other name options old mid errors faults reason = absurd reason
+go_complete None result name options old mid errors faults reason = tt
+go_complete (Some held) (outcome.Refused r) name options old mid errors faults reason = inl reason.1
+go_complete (Some held) outcome.FilesFault name options old mid errors faults reason = inr reason
+go_complete (Some held) outcome.NoMemory name options old mid errors faults reason = inr tt
+go_complete (Some held) other name options old mid errors faults reason = absurd reason
 
 ran_complete : (folder : Option Folder) (end : RunEnd) (name bytes : List ℕ) (options : RunOptions) (old mid : World) (errors : Option (List ℕ)) (faults : ℕ) → IfSome folder (λ held. RanBuilt held end name bytes options old.streams mid.streams)
     → Rises (Some end) old.streams mid.streams old.files_faults mid.files_faults → mid.streams.errors_faults ≤ faults
@@ -117,7 +117,7 @@ pub complete : (result : Outcome) (words : List (List ℕ)) (old mid : World) (e
 complete result words old mid errors faults went counted = λ name options asked. by name options (went.did name options asked)
   where
     by : (name : List ℕ) (options : RunOptions) → GoDid result name options old mid → IfSome old.folder (λ held. IsGoEnd held name options result ⊎ IsFaultOrNoMemory result old (told mid errors faults))
-    by name options (inl gave) = gone_complete old.folder result name options old mid errors faults gave.reason
+    by name options (inl gave) = go_complete old.folder result name options old mid errors faults gave.reason
     by name options (inr ran) =
         subst (λ (o : Outcome). IfSome old.folder (λ held. IsGoEnd held name options o ⊎ IsFaultOrNoMemory o old (told mid errors faults))) (sym ran.1)
         (ran_complete old.folder ran.0 name ran.2.bytes options old mid errors faults ran.2.run ran.2.rises counted)
@@ -134,14 +134,14 @@ ran_fault ends.OutputFault old mid errors faults rises counted = rises
 ran_fault ends.ErrorsFault old mid errors faults rises counted = still_risen old.streams.errors_faults mid.streams.errors_faults faults rises counted
 ran_fault ends.FilesFault old mid errors faults rises counted = rises
 
-gone_fault : (result : Outcome) (name : List ℕ) (buffer : Option ℕ) (old mid : World) (errors : Option (List ℕ)) (faults : ℕ) → IsNotGone result name buffer old.folder old.files_faults mid.files_faults → Faults old (told mid errors faults) result
-gone_fault (outcome.Refused r) name buffer old mid errors faults reason = tt
-gone_fault outcome.FilesFault name buffer old mid errors faults reason = reason
-gone_fault outcome.NoMemory name buffer old mid errors faults reason = tt
-gone_fault other name buffer old mid errors faults reason = absurd reason
+go_fault : (result : Outcome) (name : List ℕ) (buffer : Option ℕ) (old mid : World) (errors : Option (List ℕ)) (faults : ℕ) → IsNotGone result name buffer old.folder old.files_faults mid.files_faults → Faults old (told mid errors faults) result
+go_fault (outcome.Refused r) name buffer old mid errors faults reason = tt
+go_fault outcome.FilesFault name buffer old mid errors faults reason = reason
+go_fault outcome.NoMemory name buffer old mid errors faults reason = tt
+go_fault other name buffer old mid errors faults reason = absurd reason
 
 pub fault : (result : Outcome) (name : List ℕ) (options : RunOptions) (old mid : World) (errors : Option (List ℕ)) (faults : ℕ) → GoDid result name options old mid → mid.streams.errors_faults ≤ faults → Faults old (told mid errors faults) result
-fault result name options old mid errors faults (inl gave) counted = gone_fault result name options.buffer old mid errors faults gave.reason
+fault result name options old mid errors faults (inl gave) counted = go_fault result name options.buffer old mid errors faults gave.reason
 fault result name options old mid errors faults (inr ran) counted = subst (λ (o : Outcome). Faults old (told mid errors faults) o) (sym ran.1) (ran_fault ran.0 old mid errors faults ran.2.rises counted)
 
 -- ---- refusals
@@ -157,27 +157,27 @@ refused r words old mid went = λ name options asked. (reason r name options old
 
 -- ---- what the sinks took
 
-pub no_output : (folder : Option Folder) (name : List ℕ) (before after : Option (List ℕ)) → after ≡ before → IfSome folder (λ held. TookFront held name (λ (seen : Seen). seen.out) before after)
+pub no_output : (folder : Option Folder) (name : List ℕ) (before after : Option (List ℕ)) → after ≡ before → IfSome folder (λ held. TookPrefix held name (λ (seen : Seen). seen.out) before after)
 no_output None name before after same = tt
 no_output (Some held) name before after same = inl same
 
-pub fronts : (result : Outcome) (words : List (List ℕ)) (old mid : World) (errors : Option (List ℕ)) (faults : ℕ) → DidGo result words old mid → Fronts words old (told mid errors faults)
-fronts result words old mid errors faults went = λ name options asked. by name options (went.did name options asked)
+pub prefixes : (result : Outcome) (words : List (List ℕ)) (old mid : World) (errors : Option (List ℕ)) (faults : ℕ) → DidGo result words old mid → Prefixes words old (told mid errors faults)
+prefixes result words old mid errors faults went = λ name options asked. by name options (went.did name options asked)
   where
-    by : (name : List ℕ) (options : RunOptions) → GoDid result name options old mid → IfSome old.folder (λ held. TookFront held name (λ (seen : Seen). seen.out) old.streams.output mid.streams.output)
+    by : (name : List ℕ) (options : RunOptions) → GoDid result name options old mid → IfSome old.folder (λ held. TookPrefix held name (λ (seen : Seen). seen.out) old.streams.output mid.streams.output)
     by name options (inl gave) = no_output old.folder name old.streams.output mid.streams.output (ap (λ (o : Outside). o.output) gave.untouched.streams)
-    by name options (inr ran) = front_of_output old.folder ran.0 name ran.2.bytes options old.streams mid.streams ran.2.run
+    by name options (inr ran) = prefix_of_output old.folder ran.0 name ran.2.bytes options old.streams mid.streams ran.2.run
 
-pub no_errors : (folder : Option Folder) (name : List ℕ) (before after : Option (List ℕ)) → after ≡ before → IfSome folder (λ held. TookFront held name (λ (seen : Seen). seen.err) before after)
+pub no_errors : (folder : Option Folder) (name : List ℕ) (before after : Option (List ℕ)) → after ≡ before → IfSome folder (λ held. TookPrefix held name (λ (seen : Seen). seen.err) before after)
 no_errors None name before after same = tt
 no_errors (Some held) name before after same = inl same
 
 pub took_errors : (result : Outcome) (words : List (List ℕ)) (old mid : World) → DidGo result words old mid → TookErrors words old mid.streams.errors
 took_errors result words old mid went = λ name options asked. by name options (went.did name options asked)
   where
-    by : (name : List ℕ) (options : RunOptions) → GoDid result name options old mid → IfSome old.folder (λ held. TookFront held name (λ (seen : Seen). seen.err) old.streams.errors mid.streams.errors)
+    by : (name : List ℕ) (options : RunOptions) → GoDid result name options old mid → IfSome old.folder (λ held. TookPrefix held name (λ (seen : Seen). seen.err) old.streams.errors mid.streams.errors)
     by name options (inl gave) = no_errors old.folder name old.streams.errors mid.streams.errors (ap (λ (o : Outside). o.errors) gave.untouched.streams)
-    by name options (inr ran) = front_of_errors old.folder ran.0 name ran.2.bytes options old.streams mid.streams ran.2.run
+    by name options (inr ran) = prefix_of_errors old.folder ran.0 name ran.2.bytes options old.streams mid.streams ran.2.run
 
 -- ---- what is left as it was
 
@@ -188,12 +188,12 @@ wrote_its_line result old mid errors faults same line = record {
   errors = line ∙ ap (λ (o : Outside). append_known o.errors (line_of result)) same.streams;
 }
 
-gone_unchanged : (result : Outcome) (words : List (List ℕ)) (name : List ℕ) (buffer : Option ℕ) (old mid : World) (errors : Option (List ℕ)) (faults : ℕ) → IsNotGone result name buffer old.folder old.files_faults mid.files_faults → IsUntouched old mid
+go_unchanged : (result : Outcome) (words : List (List ℕ)) (name : List ℕ) (buffer : Option ℕ) (old mid : World) (errors : Option (List ℕ)) (faults : ℕ) → IsNotGone result name buffer old.folder old.files_faults mid.files_faults → IsUntouched old mid
     → errors ≡ append_known mid.streams.errors (line_of result) → Unchanged words old (told mid errors faults) result
-gone_unchanged (outcome.Refused r) words name buffer old mid errors faults reason same line = wrote_its_line (outcome.Refused r) old mid errors faults same line
-gone_unchanged outcome.FilesFault words name buffer old mid errors faults reason same line = λ name options asked. wrote_its_line outcome.FilesFault old mid errors faults same line
-gone_unchanged outcome.NoMemory words name buffer old mid errors faults reason same line = wrote_its_line outcome.NoMemory old mid errors faults same line
-gone_unchanged other words name buffer old mid errors faults reason same line = absurd reason
+go_unchanged (outcome.Refused r) words name buffer old mid errors faults reason same line = wrote_its_line (outcome.Refused r) old mid errors faults same line
+go_unchanged outcome.FilesFault words name buffer old mid errors faults reason same line = λ name options asked. wrote_its_line outcome.FilesFault old mid errors faults same line
+go_unchanged outcome.NoMemory words name buffer old mid errors faults reason same line = wrote_its_line outcome.NoMemory old mid errors faults same line
+go_unchanged other words name buffer old mid errors faults reason same line = absurd reason
 
 ran_unchanged : (end : RunEnd) (words : List (List ℕ)) (old new : World) → (end ≡ ends.FilesFault → ⊥) → Unchanged words old new (outcome_of end)
 ran_unchanged (ends.Ended code) words old new not = tt
@@ -208,7 +208,7 @@ pub unchanged : (result : Outcome) (words : List (List ℕ)) (old mid : World) (
 unchanged result words old mid errors faults went line = by (went.did went.name went.options went.asked)
   where
     by : GoDid result went.name went.options old mid → Unchanged words old (told mid errors faults) result
-    by (inl gave) = gone_unchanged result words went.name went.options.buffer old mid errors faults gave.reason gave.untouched line
+    by (inl gave) = go_unchanged result words went.name went.options.buffer old mid errors faults gave.reason gave.untouched line
     by (inr ran) = subst (λ (o : Outcome). Unchanged words old (told mid errors faults) o) (sym ran.1) (ran_unchanged ran.0 words old (told mid errors faults) ran.2.reads)
 
 -- ---- the files
@@ -241,13 +241,13 @@ missing_so held name buffer r lacks (inl none) = no_source held name lacks r non
 missing_so held name buffer r lacks (inr (inl other)) = absurd (never_gathered held name lacks other.is.texts other.is.sources other.is.gathers)
 missing_so held name buffer r lacks (inr (inr cannot)) = absurd (lacks_built held name cannot.bytes lacks cannot.built)
 
-gone_missing : (result : Outcome) (name : List ℕ) (buffer : Option ℕ) (folder : Option Folder) (old mid : World) (errors : Option (List ℕ)) (faults : ℕ) → Lacks folder (file_of name Source)
+go_missing : (result : Outcome) (name : List ℕ) (buffer : Option ℕ) (folder : Option Folder) (old mid : World) (errors : Option (List ℕ)) (faults : ℕ) → Lacks folder (file_of name Source)
     → IsNotGone result name buffer folder old.files_faults mid.files_faults → (result ≡ outcome.Refused (refusal.MissingFile (file_of name Source))) ⊎ IsFaultOrNoMemory result old (told mid errors faults)
-gone_missing result name buffer None old mid errors faults lacks reason = absurd lacks
-gone_missing (outcome.Refused r) name buffer (Some held) old mid errors faults lacks reason = inl (ap (λ (r : Refusal). outcome.Refused r) (missing_so held name buffer r lacks reason.1))
-gone_missing outcome.FilesFault name buffer (Some held) old mid errors faults lacks reason = inr reason
-gone_missing outcome.NoMemory name buffer (Some held) old mid errors faults lacks reason = inr tt
-gone_missing other name buffer (Some held) old mid errors faults lacks reason = absurd reason
+go_missing result name buffer None old mid errors faults lacks reason = absurd lacks
+go_missing (outcome.Refused r) name buffer (Some held) old mid errors faults lacks reason = inl (ap (λ (r : Refusal). outcome.Refused r) (missing_so held name buffer r lacks reason.1))
+go_missing outcome.FilesFault name buffer (Some held) old mid errors faults lacks reason = inr reason
+go_missing outcome.NoMemory name buffer (Some held) old mid errors faults lacks reason = inr tt
+go_missing other name buffer (Some held) old mid errors faults lacks reason = absurd reason
 
 ran_missing : (folder : Option Folder) (end : RunEnd) (name bytes : List ℕ) (options : RunOptions) (o o' : Outside) → Lacks folder (file_of name Source) → IfSome folder (λ held. RanBuilt held end name bytes options o o') → ⊥
 ran_missing None end name bytes options o o' lacks ran = lacks
@@ -258,13 +258,13 @@ outside_so held name buffer r lacking (inl none) = inl none
 outside_so held name buffer r lacking (inr (inl other)) = inr other
 outside_so held name buffer r lacking (inr (inr cannot)) = absurd (lacking cannot.built.program cannot.built.is (does_so held name cannot.bytes cannot.built).literal)
 
-gone_outside : (result : Outcome) (name : List ℕ) (buffer : Option ℕ) (folder : Option Folder) (old mid : World) (errors : Option (List ℕ)) (faults : ℕ) → HoldsNoLiteral folder name
+go_outside : (result : Outcome) (name : List ℕ) (buffer : Option ℕ) (folder : Option Folder) (old mid : World) (errors : Option (List ℕ)) (faults : ℕ) → HoldsNoLiteral folder name
     → IsNotGone result name buffer folder old.files_faults mid.files_faults → ((r : Refusal) × (result ≡ outcome.Refused r) × IsOutside folder name r) ⊎ IsFaultOrNoMemory result old (told mid errors faults)
-gone_outside result name buffer None old mid errors faults lacking reason = absurd lacking
-gone_outside (outcome.Refused r) name buffer (Some held) old mid errors faults lacking reason = inl (r, refl, outside_so held name buffer r lacking reason.1)
-gone_outside outcome.FilesFault name buffer (Some held) old mid errors faults lacking reason = inr reason
-gone_outside outcome.NoMemory name buffer (Some held) old mid errors faults lacking reason = inr tt
-gone_outside other name buffer (Some held) old mid errors faults lacking reason = absurd reason
+go_outside result name buffer None old mid errors faults lacking reason = absurd lacking
+go_outside (outcome.Refused r) name buffer (Some held) old mid errors faults lacking reason = inl (r, refl, outside_so held name buffer r lacking reason.1)
+go_outside outcome.FilesFault name buffer (Some held) old mid errors faults lacking reason = inr reason
+go_outside outcome.NoMemory name buffer (Some held) old mid errors faults lacking reason = inr tt
+go_outside other name buffer (Some held) old mid errors faults lacking reason = absurd reason
 
 ran_outside : (folder : Option Folder) (end : RunEnd) (name bytes : List ℕ) (options : RunOptions) (o o' : Outside) → HoldsNoLiteral folder name → IfSome folder (λ held. RanBuilt held end name bytes options o o') → ⊥
 ran_outside None end name bytes options o o' lacking ran = lacking
@@ -281,12 +281,12 @@ causes result words old mid errors faults went = record {
   where
     missing : (name : List ℕ) (options : RunOptions) → Lacks old.folder (file_of name Source) → GoDid result name options old mid
         → (result ≡ outcome.Refused (refusal.MissingFile (file_of name Source))) ⊎ IsFaultOrNoMemory result old (told mid errors faults)
-    missing name options lacks (inl gave) = gone_missing result name options.buffer old.folder old mid errors faults lacks gave.reason
+    missing name options lacks (inl gave) = go_missing result name options.buffer old.folder old mid errors faults lacks gave.reason
     missing name options lacks (inr ran) = absurd (ran_missing old.folder ran.0 name ran.2.bytes options old.streams mid.streams lacks ran.2.run)
 
     outside : (name : List ℕ) (options : RunOptions) → HoldsNoLiteral old.folder name → GoDid result name options old mid
         → ((r : Refusal) × (result ≡ outcome.Refused r) × IsOutside old.folder name r) ⊎ IsFaultOrNoMemory result old (told mid errors faults)
-    outside name options lacking (inl gave) = gone_outside result name options.buffer old.folder old mid errors faults lacking gave.reason
+    outside name options lacking (inl gave) = go_outside result name options.buffer old.folder old mid errors faults lacking gave.reason
     outside name options lacking (inr ran) = absurd (ran_outside old.folder ran.0 name ran.2.bytes options old.streams mid.streams lacking ran.2.run)
 
 -- ---- the line failed

@@ -39,7 +39,7 @@ not_mean words text name turns (inr version) mean = version_not words version.0 
 
 -- ---- outcomes by how a meaning stands
 
--- neither a refusal, nor a fault, nor want of memory
+-- neither a refusal, nor a fault, nor out of memory
 abbrev IsEnd : Outcome → Type 0
 IsEnd (outcome.Program code) = Unit {0}
 IsEnd (outcome.Undefined act) = Unit {0}
@@ -230,7 +230,7 @@ refused r words old mid meant = λ name turns asked. reason r name turns old mid
 
 -- ---- what is left as it was
 
--- The folder and the sinks are as they were, or the outcome is neither a refusal nor want of memory, nor a fault of the files.
+-- The folder and the sinks are as they were, or the outcome is neither a refusal nor out of memory, nor a fault of the files.
 pub record IsQuiet (result : Outcome) (old mid : World) : Type 0 where
   pub folder : mid.folder ≡ old.folder
   pub output : mid.streams.output ≡ old.streams.output

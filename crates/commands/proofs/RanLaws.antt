@@ -22,7 +22,7 @@ use Rattle.dos_runner.specs.declared.runner.RunEnd.TheVariants as ends
 use Rattle.dos_runner.specs.Run.{process_of}
 use Rattle.dos_runner.specs.Outside.{Outside, RunsTo}
 use Rattle.dos_runner.proofs.Composition.{risen_later}
-use Rattle.dos_runner.proofs.Conclusion.{Ends, TakesFronts, Concludes, concludes}
+use Rattle.dos_runner.proofs.Conclusion.{Ends, TakesPrefixes, Concludes, concludes}
 use Rattle.overlay_manager.specs.Manager.{Manager}
 use Rattle.overlay_runner.specs.declared.runner.Runner.{Runner}
 use Rattle.overlay_runner.specs.Event.{Rises}
@@ -35,7 +35,7 @@ use Rattle.commands.specs.Files.{file_of}
 use Rattle.commands.specs.Go.{DoesSoon, RanBuilt}
 use Rattle.commands.specs.Mean.{sinks_of}
 use Rattle.commands.specs.Run.{limit_of, retry_of, BeginsNamed, RunsFrom}
-use Rattle.commands.specs.Turbo.{HoldsExecutable, IsWritten, TookFront}
+use Rattle.commands.specs.Turbo.{HoldsExecutable, IsWritten, TookPrefix}
 use Rattle.commands.specs.World.{World, Holds}
 
 -- The world after more was written to the errors.
@@ -84,14 +84,14 @@ module _ (program : Program) (bytes : List ℕ) (does : DoesSoon program bytes) 
   pub ends_so : (code : ℕ) → RunsTo (ends.Ended code) limit start last o o' → (input : List ℕ) (turns : ℕ) → (mean program input turns).end ≡ Ended code
   ends_so code run input turns = ap (λ (x : Seen). x.end) (means statements program input turns does.literal.says) ∙ ap (λ (c : ℕ). Ended c) (sym (concluded (ends.Ended code) run).0)
 
-  -- the sinks took fronts of what the statements say
-  took_all : (code : ℕ) → RunsTo (ends.Ended code) limit start last o o' → TakesFronts (written statements) [] o o'
+  -- the sinks took prefixes of what the statements say
+  took_all : (code : ℕ) → RunsTo (ends.Ended code) limit start last o o' → TakesPrefixes (written statements) [] o o'
   took_all code run =
       let all = concluded (ends.Ended code) run in
       record { output = whole_prefix o.output o'.output (written statements) all.1; errors = whole_prefix o.errors o'.errors [] all.2 }
 
   -- a run that a limit cuts short took no less than one that a fault of the input cuts short there
-  took_some : (taken : ℕ) → RunsTo (ends.Limit taken) limit start last o o' → TakesFronts (written statements) [] o o'
+  took_some : (taken : ℕ) → RunsTo (ends.Limit taken) limit start last o o' → TakesPrefixes (written statements) [] o o'
   took_some taken run =
       let failed : Outside = record o' { input_faults = o.input_faults + 1 } in
       let cut : RunsTo ends.InputFault limit start last o failed = record {
@@ -109,10 +109,10 @@ module _ (program : Program) (bytes : List ℕ) (does : DoesSoon program bytes) 
         };
         limited = tt;
       } in
-      let fronts = concludes ends.InputFault limit start last (code_of statements) (written statements) [] (known_end program bytes does) o failed cut in
-      record { output = fronts.output; errors = fronts.errors }
+      let prefixes = concludes ends.InputFault limit start last (code_of statements) (written statements) [] (known_end program bytes does) o failed cut in
+      record { output = prefixes.output; errors = prefixes.errors }
 
-  took : (end : RunEnd) → RunsTo end limit start last o o' → TakesFronts (written statements) [] o o'
+  took : (end : RunEnd) → RunsTo end limit start last o o' → TakesPrefixes (written statements) [] o o'
   took (ends.Ended code) run = took_all code run
   took (ends.Limit taken) run = took_some taken run
   took (ends.Stopped cs ip why) run = absurd (concluded (ends.Stopped cs ip why) run)
@@ -164,16 +164,16 @@ written_there (Some held) name bytes options old mid errors faults code ran line
   all = λ one here. wrote_all one bytes (ran.built.does one here) (limit_of options) ran.last old mid errors faults code ran.run line;
 }
 
-pub front_of_output : (folder : Option Folder) (end : RunEnd) (name bytes : List ℕ) (options : RunOptions) (o o' : Outside) → IfSome folder (λ held. RanBuilt held end name bytes options o o')
-    → IfSome folder (λ held. TookFront held name (λ (seen : Seen). seen.out) o.output o'.output)
-front_of_output None end name bytes options o o' ran = tt
-front_of_output (Some held) end name bytes options o o' ran =
+pub prefix_of_output : (folder : Option Folder) (end : RunEnd) (name bytes : List ℕ) (options : RunOptions) (o o' : Outside) → IfSome folder (λ held. RanBuilt held end name bytes options o o')
+    → IfSome folder (λ held. TookPrefix held name (λ (seen : Seen). seen.out) o.output o'.output)
+prefix_of_output None end name bytes options o o' ran = tt
+prefix_of_output (Some held) end name bytes options o o' ran =
     inr (ran.built.program, ran.built.is, λ one here. took_output one bytes (ran.built.does one here) (limit_of options) ran.last o o' end ran.run)
 
-pub front_of_errors : (folder : Option Folder) (end : RunEnd) (name bytes : List ℕ) (options : RunOptions) (o o' : Outside) → IfSome folder (λ held. RanBuilt held end name bytes options o o')
-    → IfSome folder (λ held. TookFront held name (λ (seen : Seen). seen.err) o.errors o'.errors)
-front_of_errors None end name bytes options o o' ran = tt
-front_of_errors (Some held) end name bytes options o o' ran =
+pub prefix_of_errors : (folder : Option Folder) (end : RunEnd) (name bytes : List ℕ) (options : RunOptions) (o o' : Outside) → IfSome folder (λ held. RanBuilt held end name bytes options o o')
+    → IfSome folder (λ held. TookPrefix held name (λ (seen : Seen). seen.err) o.errors o'.errors)
+prefix_of_errors None end name bytes options o o' ran = tt
+prefix_of_errors (Some held) end name bytes options o o' ran =
     inr (ran.built.program, ran.built.is, λ one here. took_errors one bytes (ran.built.does one here) (limit_of options) ran.last o o' end ran.run)
 
 -- ---- programs that were opened

@@ -10,7 +10,7 @@ use Rattle.outcomes.specs.declared.outcome.Outcome.TheVariants as outcome
 use Rattle.outcomes.specs.Line.{line_of}
 use Rattle.dos_runner.specs.Outside.{Outside}
 use Rattle.commands.specs.Performs.{NamesNone, Performs}
-use Rattle.commands.specs.Turbo.{Headline, HasRun, Written, Complete, Faults, GoRefused, RunRefused, Refused, Misuses, Refuses, Fronts, FilesAfter, TookErrors, EndsWithLine, Unchanged, AfterLine, WentFiles, RanFiles, MeanRefused, MeantFiles, Tells}
+use Rattle.commands.specs.Turbo.{Headline, HasRun, Written, Complete, Faults, GoRefused, RunRefused, Refused, Misuses, Refuses, Prefixes, FilesAfter, TookErrors, EndsWithLine, Unchanged, AfterLine, WentFiles, RanFiles, MeanRefused, MeantFiles, Tells}
 use Rattle.commands.specs.World.{World, IsUntouched}
 use Rattle.commands.proofs.GoLaws.{no_output, no_errors, wrote_its_line}
 use Rattle.commands.proofs.RanLaws.{told}
@@ -130,13 +130,13 @@ refused (outcome.Stopped cs ip why) words old mid did = tt
 refused outcome.TurnLimit words old mid did = tt
 refused (outcome.Undefined act) words old mid did = tt
 
-pub fronts : (result : Outcome) (words : List (List ℕ)) (old mid : World) (errors : Option (List ℕ)) (faults : ℕ) → Performs result words old mid → Fronts words old (told mid errors faults)
-fronts result words old mid errors faults (inl misused) = λ name options asked. absurd (misused.none.go name options asked)
-fronts result words old mid errors faults (inr (inl went)) = go.fronts result words old mid errors faults went
-fronts result words old mid errors faults (inr (inr (inl ran))) = λ name options asked. absurd (not_both words name ran.name options ran.options asked ran.asked)
-fronts result words old mid errors faults (inr (inr (inr (inl out)))) = λ name options asked. no_output old.folder name old.streams.output mid.streams.output (ap (λ (o : Outside). o.output) out.untouched.streams)
-fronts result words old mid errors faults (inr (inr (inr (inr (inl shown))))) = λ name options asked. absurd (not_go words shown.text name options shown.asked asked)
-fronts result words old mid errors faults (inr (inr (inr (inr (inr meant))))) = λ name options asked. absurd (not_go_and_mean words name meant.name options meant.turns asked meant.asked)
+pub prefixes : (result : Outcome) (words : List (List ℕ)) (old mid : World) (errors : Option (List ℕ)) (faults : ℕ) → Performs result words old mid → Prefixes words old (told mid errors faults)
+prefixes result words old mid errors faults (inl misused) = λ name options asked. absurd (misused.none.go name options asked)
+prefixes result words old mid errors faults (inr (inl went)) = go.prefixes result words old mid errors faults went
+prefixes result words old mid errors faults (inr (inr (inl ran))) = λ name options asked. absurd (not_both words name ran.name options ran.options asked ran.asked)
+prefixes result words old mid errors faults (inr (inr (inr (inl out)))) = λ name options asked. no_output old.folder name old.streams.output mid.streams.output (ap (λ (o : Outside). o.output) out.untouched.streams)
+prefixes result words old mid errors faults (inr (inr (inr (inr (inl shown))))) = λ name options asked. absurd (not_go words shown.text name options shown.asked asked)
+prefixes result words old mid errors faults (inr (inr (inr (inr (inr meant))))) = λ name options asked. absurd (not_go_and_mean words name meant.name options meant.turns asked meant.asked)
 
 took_errors : (result : Outcome) (words : List (List ℕ)) (old mid : World) → Performs result words old mid → TookErrors words old mid.streams.errors
 took_errors result words old mid (inl misused) = λ name options asked. absurd (misused.none.go name options asked)
@@ -190,7 +190,7 @@ misuses inner result old mid errors faults is untouched line = record {
   output = ap (λ (o : Outside). o.output) untouched.streams;
 }
 
--- what comes of words that ask for nothing, with the line after it or a front of the line
+-- what comes of words that ask for nothing, with the line after it or a prefix of the line
 misused-so : (inner result : Outcome) (words : List (List ℕ)) (old mid : World) (errors : Option (List ℕ)) (faults : ℕ) → Performs inner words old mid → AfterLine result inner mid.streams.errors errors → NamesNone words → Misuses old (told mid errors faults) result
 misused-so inner result words old mid errors faults (inl misused) line none = misuses inner result old mid errors faults (inl misused.is) misused.untouched line
 misused-so inner result words old mid errors faults (inr (inl went)) line none = absurd (none.go went.name went.options went.asked)
@@ -231,7 +231,7 @@ causes result words old mid errors faults (inr (inr (inr (inr (inr meant))))) li
   unopened = λ name options error asked has why. absurd (not_run_and_mean words name meant.name options meant.turns asked meant.asked);
 }
 
--- what was built and run, with the line after it or a front of the line
+-- what was built and run, with the line after it or a prefix of the line
 went-files : (inner result : Outcome) (words : List (List ℕ)) (old mid : World) (errors : Option (List ℕ)) (faults : ℕ) → Performs inner words old mid → AfterLine result inner mid.streams.errors errors → WentFiles words old (told mid errors faults) result
 went-files inner result words old mid errors faults (inl misused) line = λ name options asked. absurd (misused.none.go name options asked)
 went-files inner result words old mid errors faults (inr (inl did)) line = went.went inner result words old mid errors faults did line
@@ -246,7 +246,7 @@ went_with_line result words old mid errors faults did line = went-files result r
 pub went_without_line : (inner : Outcome) (words : List (List ℕ)) (old mid : World) (errors : Option (List ℕ)) (faults : ℕ) → Performs inner words old mid → TakesPrefix mid.streams.errors errors (line_of inner) → WentFiles words old (told mid errors faults) outcome.ErrorsFault
 went_without_line inner words old mid errors faults did front = went-files inner outcome.ErrorsFault words old mid errors faults did (inr (refl, front))
 
--- what was run, with the line after it or a front of the line
+-- what was run, with the line after it or a prefix of the line
 ran-files : (inner result : Outcome) (words : List (List ℕ)) (old mid : World) (errors : Option (List ℕ)) (faults : ℕ) → Performs inner words old mid → AfterLine result inner mid.streams.errors errors → RanFiles words old (told mid errors faults) result
 ran-files inner result words old mid errors faults (inl misused) line = λ name options asked. absurd (misused.none.run name options asked)
 ran-files inner result words old mid errors faults (inr (inl went)) line = λ name options asked. absurd (not_both words went.name name went.options options went.asked asked)
@@ -261,7 +261,7 @@ ran_with_line result words old mid errors faults did line = ran-files result res
 pub ran_without_line : (inner : Outcome) (words : List (List ℕ)) (old mid : World) (errors : Option (List ℕ)) (faults : ℕ) → Performs inner words old mid → TakesPrefix mid.streams.errors errors (line_of inner) → RanFiles words old (told mid errors faults) outcome.ErrorsFault
 ran_without_line inner words old mid errors faults did front = ran-files inner outcome.ErrorsFault words old mid errors faults did (inr (refl, front))
 
--- what was shown of a meaning, with the line after it or a front of the line
+-- what was shown of a meaning, with the line after it or a prefix of the line
 means-files : (inner result : Outcome) (words : List (List ℕ)) (old mid : World) (errors : Option (List ℕ)) (faults : ℕ) → Performs inner words old mid → AfterLine result inner mid.streams.errors errors → MeantFiles words old (told mid errors faults) result
 means-files inner result words old mid errors faults (inl misused) line = λ name turns asked. absurd (misused.none.mean name turns asked)
 means-files inner result words old mid errors faults (inr (inl went)) line = λ name turns asked. absurd (not_go_and_mean words went.name name went.options turns went.asked asked)
@@ -296,7 +296,7 @@ complete_failed words old new mid counted rose =
       of_mean = mean.complete_failed words old new mid counted rose;
     }
 
--- what a text's output took, with the line after it or a front of the line
+-- what a text's output took, with the line after it or a prefix of the line
 tells-text : (inner result : Outcome) (words : List (List ℕ)) (old mid : World) (errors : Option (List ℕ)) (faults : ℕ) → Performs inner words old mid → AfterLine result inner mid.streams.errors errors → Tells words old (told mid errors faults) result
 tells-text inner result words old mid errors faults (inl misused) line = λ t asked. absurd (misused.none.text t asked)
 tells-text inner result words old mid errors faults (inr (inl went)) line = λ t asked. absurd (not_go words t went.name went.options asked went.asked)

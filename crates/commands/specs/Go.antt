@@ -95,7 +95,7 @@ pub record CannotBegin (held : Folder) (name : List ℕ) (buffer : Option ℕ) (
 abbrev pub IsNotBuilt : Folder → List ℕ → Option ℕ → Refusal → Type 0
 IsNotBuilt held name buffer r = FoundNone held name (outcome.Refused r) ⊎ (IsOfOtherForm held name r ⊎ CannotBegin held name buffer r)
 
--- Why it was not run. Faults and want of memory have no cause there.
+-- Why it was not run. Faults and out of memory have no cause there.
 abbrev pub HasNoRun : Folder → Outcome → List ℕ → Option ℕ → Type 0
 HasNoRun held (outcome.Refused r) name buffer = IsNotBuilt held name buffer r
 HasNoRun held outcome.FilesFault name buffer = Unit {0}

@@ -57,7 +57,7 @@ IsUnopened None name buffer error = ⊥
 IsUnopened (Some held) name buffer error =
     (bytes : List ℕ) × (held (file_of name Executable) ≡ Some bytes) × IsRefused bytes (file_of name Overlays) (held (file_of name Overlays)) buffer error
 
--- Why a program of this name did not begin, where the folder holds this. Faults and want of memory have no cause there.
+-- Why a program of this name did not begin, where the folder holds this. Faults and out of memory have no cause there.
 abbrev pub HasNoStart : Folder → Outcome → List ℕ → Option ℕ → Type 0
 HasNoStart held (outcome.Refused r) name buffer = LacksExecutable held r name ⊎ OpensNot held r name buffer
 HasNoStart held outcome.FilesFault name buffer = Unit {0}

@@ -72,7 +72,7 @@ abbrev pub Written : List (List ℕ) → World → World → Outcome → Type 0
 Written words old new result =
     (name : List ℕ) (options : RunOptions) (code : ℕ) → IsGo words name options → result ≡ outcome.Program code → IfSome old.folder (λ held. IsWritten held name result old new)
 
--- Faults, each counted by the object that is named, and want of memory.
+-- Faults, each counted by the object that is named, and out of memory.
 abbrev pub IsFaultOrNoMemory : Outcome → World → World → Type 0
 IsFaultOrNoMemory outcome.InputFault old new = HasRisen old.streams.input_faults new.streams.input_faults
 IsFaultOrNoMemory outcome.OutputFault old new = HasRisen old.streams.output_faults new.streams.output_faults
@@ -194,7 +194,7 @@ abbrev pub IsOutside : Option Folder → List ℕ → Refusal → Type 0
 IsOutside None name r = ⊥
 IsOutside (Some held) name r = FoundNone held name (outcome.Refused r) ⊎ IsOfOtherForm held name r
 
--- The last line was written, which an outcome is due, or the errors took a front of it and failed.
+-- The last line was written, which an outcome is due, or the errors took a prefix of it and failed.
 abbrev pub AfterLine : Outcome → Outcome → Option (List ℕ) → Option (List ℕ) → Type 0
 AfterLine result inner before after =
     ((result ≡ inner) × (after ≡ append_known before (line_of inner))) ⊎ ((result ≡ outcome.ErrorsFault) × TakesPrefix before after (line_of inner))
@@ -287,14 +287,14 @@ Unchanged words old new outcome.NoMemory = WroteItsLine old new outcome.NoMemory
 Unchanged words old new other = Unit {0}
 
 -- A stream is as it was, or took the first of what each program of the files means for it, on every input and within any number of turns.
-abbrev pub TookFront : Folder → List ℕ → (Seen → List ℕ) → Option (List ℕ) → Option (List ℕ) → Type 0
-TookFront held name part before after =
+abbrev pub TookPrefix : Folder → List ℕ → (Seen → List ℕ) → Option (List ℕ) → Option (List ℕ) → Type 0
+TookPrefix held name part before after =
     (after ≡ before) ⊎ ((program : Program) × IsProgramIn held name program
     × ((one : Program) → IsProgramIn held name one → (input : List ℕ) (turns : ℕ) → TakesPrefix before after (part (mean one input turns))))
 
 -- What the errors took of `go` before the line.
 abbrev pub TookErrors : List (List ℕ) → World → Option (List ℕ) → Type 0
-TookErrors words old before = (name : List ℕ) (options : RunOptions) → IsGo words name options → IfSome old.folder (λ held. TookFront held name (λ (seen : Seen). seen.err) old.streams.errors before)
+TookErrors words old before = (name : List ℕ) (options : RunOptions) → IsGo words name options → IfSome old.folder (λ held. TookPrefix held name (λ (seen : Seen). seen.err) old.streams.errors before)
 
 -- The errors end with the line that is due.
 abbrev pub EndsWithLine : List (List ℕ) → World → World → Outcome → Type 0
@@ -302,9 +302,9 @@ EndsWithLine words old new outcome.ErrorsFault = Unit {0}
 EndsWithLine words old new result = (before : Option (List ℕ)) × (new.streams.errors ≡ append_known before (line_of result)) × TookErrors words old before
 
 -- What the output took of `go`, whatever the outcome.
-abbrev pub Fronts : List (List ℕ) → World → World → Type 0
-Fronts words old new =
-    (name : List ℕ) (options : RunOptions) → IsGo words name options → IfSome old.folder (λ held. TookFront held name (λ (seen : Seen). seen.out) old.streams.output new.streams.output)
+abbrev pub Prefixes : List (List ℕ) → World → World → Type 0
+Prefixes words old new =
+    (name : List ℕ) (options : RunOptions) → IsGo words name options → IfSome old.folder (λ held. TookPrefix held name (λ (seen : Seen). seen.out) old.streams.output new.streams.output)
 
 -- The files afterwards: as they were, also after each run; or with an executable that agrees with the program that they held, as `go`
 -- leaves them.

@@ -1,7 +1,7 @@
 //! The top call.
 
 ghost use Rattle.std.specs.Prelude.{map, string_bytes};
-ghost use Rattle.commands.specs.Turbo.{Headline, Written, Complete, Fronts, FilesAfter, Faults, Refused, Refuses, Unchanged, WentFiles, RanFiles, MeantFiles, Tells, EndsWithLine};
+ghost use Rattle.commands.specs.Turbo.{Headline, Written, Complete, Prefixes, FilesAfter, Faults, Refused, Refuses, Unchanged, WentFiles, RanFiles, MeantFiles, Tells, EndsWithLine};
 ghost use Rattle.commands.specs.World.{world};
 
 use crate::perform::perform;
@@ -36,7 +36,7 @@ pub fn turbo<F: Files, S: Source, K: Sink, E: Sink>(
         (E.contents errors.old) (S.faults input.old) (K.faults output.old) (E.faults errors.old))
         (world (F.folder files.new) (F.faults files.new) (S.remaining input.new) (K.contents output.new)
         (E.contents errors.new) (S.faults input.new) (K.faults output.new) (E.faults errors.new)) result }
-    ensures fronts { Fronts (map string_bytes words.now)
+    ensures prefixes { Prefixes (map string_bytes words.now)
         (world (F.folder files.old) (F.faults files.old) (S.remaining input.old) (K.contents output.old)
         (E.contents errors.old) (S.faults input.old) (K.faults output.old) (E.faults errors.old))
         (world (F.folder files.new) (F.faults files.new) (S.remaining input.new) (K.contents output.new)

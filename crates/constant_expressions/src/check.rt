@@ -32,7 +32,7 @@ pub fn check_constant(
 ) -> Result<Constant, CheckError>
     // Every rule holds in the expression, and this is its value.
     ensures typed { IfOk result (λ c. IsConstant scope.now (view_simple tree.now) c) }
-    // What is a constant is answered, but for want of memory.
+    // What is a constant is answered, unless memory runs out.
     ensures complete { (c : Constant) → IsConstant scope.now (view_simple tree.now) c → IsAnswered itself c result }
     // What is told of fails there.
     ensures fails { IfErr result (λ error. Tells (FailsAt scope.now (view_simple tree.now)) error) }

@@ -19,14 +19,14 @@ use Rattle.type_parser.specs.Reading.{type_at, typed_inside}
 use Rattle.initializer_parser.specs.Reading.{initializer_at, valued_inside}
 use Rattle.parameter_parser.specs.Chains.{ReadsTo, Chain, chain_at}
 use Rattle.statement_parser.specs.Reading.{whole_compound_at}
-use Rattle.declaration_parser.specs.declared.front.PartStart.{PartStart}
-use Rattle.declaration_parser.specs.declared.front.PartStart.TheVariants as part
-use Rattle.declaration_parser.specs.declared.front.DeclarationStart.{DeclarationStart}
-use Rattle.declaration_parser.specs.declared.front.DeclarationStart.TheVariants as start
-use Rattle.declaration_parser.specs.declared.front.BehindRoutineName.{BehindRoutineName}
-use Rattle.declaration_parser.specs.declared.front.BehindRoutineName.TheVariants as behind
-use Rattle.declaration_parser.specs.declared.front.BodyStart.{BodyStart}
-use Rattle.declaration_parser.specs.declared.front.BodyStart.TheVariants as body
+use Rattle.declaration_parser.specs.declared.lookahead.PartStart.{PartStart}
+use Rattle.declaration_parser.specs.declared.lookahead.PartStart.TheVariants as part
+use Rattle.declaration_parser.specs.declared.lookahead.DeclarationStart.{DeclarationStart}
+use Rattle.declaration_parser.specs.declared.lookahead.DeclarationStart.TheVariants as start
+use Rattle.declaration_parser.specs.declared.lookahead.BehindRoutineName.{BehindRoutineName}
+use Rattle.declaration_parser.specs.declared.lookahead.BehindRoutineName.TheVariants as behind
+use Rattle.declaration_parser.specs.declared.lookahead.BodyStart.{BodyStart}
+use Rattle.declaration_parser.specs.declared.lookahead.BodyStart.TheVariants as body
 use Rattle.declaration_parser.specs.Starting.{declaration_start, behind_procedure, behind_function, body_start}
 
 -- ---- constants, types and variables

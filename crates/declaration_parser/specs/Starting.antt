@@ -2,13 +2,13 @@
 use Rattle.std.specs.Prelude.{Option, Some}
 use Rattle.pascal_grammar.specs.declared.kind.Kind.{Kind}
 use Rattle.pascal_grammar.specs.declared.kind.Kind.TheVariants as k
-use Rattle.declaration_parser.specs.declared.front.PartStart.TheVariants as p
-use Rattle.declaration_parser.specs.declared.front.DeclarationStart.{DeclarationStart}
-use Rattle.declaration_parser.specs.declared.front.DeclarationStart.TheVariants as d
-use Rattle.declaration_parser.specs.declared.front.BehindRoutineName.{BehindRoutineName}
-use Rattle.declaration_parser.specs.declared.front.BehindRoutineName.TheVariants as n
-use Rattle.declaration_parser.specs.declared.front.BodyStart.{BodyStart}
-use Rattle.declaration_parser.specs.declared.front.BodyStart.TheVariants as b
+use Rattle.declaration_parser.specs.declared.lookahead.PartStart.TheVariants as p
+use Rattle.declaration_parser.specs.declared.lookahead.DeclarationStart.{DeclarationStart}
+use Rattle.declaration_parser.specs.declared.lookahead.DeclarationStart.TheVariants as d
+use Rattle.declaration_parser.specs.declared.lookahead.BehindRoutineName.{BehindRoutineName}
+use Rattle.declaration_parser.specs.declared.lookahead.BehindRoutineName.TheVariants as n
+use Rattle.declaration_parser.specs.declared.lookahead.BodyStart.{BodyStart}
+use Rattle.declaration_parser.specs.declared.lookahead.BodyStart.TheVariants as b
 
 abbrev pub declaration_start : Option Kind → DeclarationStart
 declaration_start (Some k.Const) = d.Part p.Constants

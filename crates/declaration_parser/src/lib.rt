@@ -1,7 +1,7 @@
 //! Declarations of Turbo Pascal, read from lexemes.
 #![tactic(auto)]
 
-mod front;
+mod lookahead;
 mod item;
 mod list;
 mod node;
@@ -9,6 +9,6 @@ mod part;
 mod read;
 mod routine;
 
-pub use front::{DeclarationStart, PartStart, begins_declaration, declaration_start};
+pub use lookahead::{DeclarationStart, PartStart, begins_declaration, declaration_start};
 pub use part::read_part;
 pub use read::{read_block, read_declarations};

@@ -5,7 +5,7 @@ ghost use Rattle.source_tree.specs.Declarations.{constants_of, types_of, variabl
 ghost use Rattle.expression_parser.specs.Gives.{Gives};
 ghost use Rattle.declaration_parser.specs.Reading.{constants_at, types_at, variables_at};
 
-use crate::front::is_named;
+use crate::lookahead::is_named;
 use crate::item::{next_constant, next_type, next_variable};
 use expression_parser::ReadError;
 use parameter_parser::push;

@@ -5,7 +5,7 @@ ghost use Rattle.source_tree.specs.Declarations.{Words, of_part};
 ghost use Rattle.expression_parser.specs.Gives.{Gives};
 ghost use Rattle.declaration_parser.specs.Reading.{part_by};
 
-use crate::front::PartStart;
+use crate::lookahead::PartStart;
 use crate::list::{next_constants, next_types, next_variables};
 use expression_parser::{ReadError, mark};
 use pascal_grammar::{Kind, Lexeme};

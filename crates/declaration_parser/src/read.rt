@@ -18,7 +18,7 @@ use source_tree::{Block, Declaration};
 use std::alloc::Global;
 
 /// The declarations that the first lexemes spell, none where none is begun, and what stands behind them, where at most `depth`
-/// constructs may be open at once. An error is want of memory, or the first lexeme at fault.
+/// constructs may be open at once. An error is out of memory, or the first lexeme at fault.
 pub fn read_declarations(
     alloc: Global,
     depth: u32,

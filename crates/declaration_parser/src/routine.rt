@@ -6,7 +6,7 @@ ghost use Rattle.expression_parser.specs.Gives.{Gives};
 ghost use Rattle.declaration_parser.specs.Reading.{nested, block_at, body_at, declaration_at, declarations_at, procedure_at, function_at, constructor_at, destructor_at};
 ghost use Rattle.declaration_parser.specs.Views.{body_of};
 
-use crate::front::{
+use crate::lookahead::{
     BehindRoutineName, BodyStart, DeclarationStart, begins_declaration, behind_function,
     behind_procedure, body_start, declaration_start, deeper,
 };

@@ -22,8 +22,8 @@ use Rattle.type_denoters.specs.Denoters.{ground}
 use Rattle.type_denoters.proofs.DenoterLaws.{lawful_entered}
 use Rattle.type_denoters.proofs.DenoterLaws as denoters
 use Rattle.typed_constants.specs.Trees.{Initial, view_initializer}
-use Rattle.typed_constants.specs.FirstValues.{first_value}
-use Rattle.typed_constants.proofs.FirstValueLaws as first_values
+use Rattle.typed_constants.specs.Initializers.{first_value}
+use Rattle.typed_constants.proofs.InitializerLaws as first_values
 use Rattle.type_parts.specs.Parts.{type_part}
 use Rattle.type_parts.proofs.PartLaws.{lawful_part_of}
 use Rattle.declarations.specs.declared.homes.Home.{Home}

@@ -15,7 +15,7 @@ use Rattle.type_denoters.specs.Additions.{entered}
 use Rattle.type_denoters.specs.Denoters as types
 use Rattle.type_denoters.specs.Denoters.{ground}
 use Rattle.typed_constants.specs.Trees.{Initial, view_initializer}
-use Rattle.typed_constants.specs.FirstValues.{first_value}
+use Rattle.typed_constants.specs.Initializers.{first_value}
 use Rattle.declarations.specs.declared.homes.Home.TheVariants as home
 use Rattle.declarations.specs.Progress.{Progress, progress, knowing, number_behind, beginning}
 

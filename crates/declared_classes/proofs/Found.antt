@@ -16,7 +16,7 @@ use Rattle.object_vmt.proofs.SlotLaws.{same_bytes_refl}
 use Rattle.object_vmt.proofs.Lines.{same_bytes_is}
 use Rattle.meaning.specs.Trees.{Key}
 use Rattle.meaning.specs.Programs.{Sort, class_by, class_key, is_name, is_origin, sort_by, class_sort, unit_named}
-use Rattle.declared_types.specs.Agreement.{IsKnown, AreAgreed}
+use Rattle.declared_types.specs.Agreement.{IsKnown, AreConsistent}
 use Rattle.declared_types.proofs.Agreed.{within_get}
 use Rattle.sound_standards.specs.Laws.{HasClasses}
 use Rattle.declared_classes.specs.Laws.{IsDeclared, HasDeclarers}
@@ -88,7 +88,7 @@ key_by number class (Some name) e =
     let same : number ≡ class.number = is_number number class.number (both_left (number == class.number) (same_bytes class.unit name) e) in
     ap (λ (n : List ℕ). Some (key_with number n)) (sym unit) ∙ ap (λ k. Some (key_with k class.unit)) same
 
-module _ (program : Program) (agreed : AreAgreed program) where
+module _ (program : Program) (agreed : AreConsistent program) where
   -- what the table of the class's unit has
   class_found : (class : Key) → IsDeclared program class → (found : Sort) × (class_sort program class ≡ Some found) × IsKnown program found × (class_key found ≡ Some class)
   class_found class is =

@@ -20,7 +20,7 @@ use Rattle.object_vmt.specs.Rules.{kind_number, same_flag, same_param, same_para
 use Rattle.type_fits.specs.Fits.{shape_of, AreSameHeaders}
 use Rattle.meaning.specs.Programs.{Sort, definition, class_key, beside}
 use Rattle.declared_types.specs.Declared.{DeclaredMethod, declared, declared_header, declared_method, AreAlike}
-use Rattle.declared_types.specs.Agreement.{IsKnown, AreAgreed}
+use Rattle.declared_types.specs.Agreement.{IsKnown, AreConsistent}
 use Rattle.declared_types.proofs.Whole.{parent_below}
 use Rattle.declared_types.proofs.Agreed.{defined, known_within, known_at}
 use Rattle.sound_stores.specs.Worlds.{World}
@@ -90,7 +90,7 @@ map_both : (table : Table) (xs ys : List Method) → map (declared_method table)
 map_both table [] ys = refl
 map_both table (x ∷ xs) ys = ap (λ (l : List DeclaredMethod). declared_method table x ∷ l) (map_both table xs ys)
 
-module _ (program : Program) (agreed : AreAgreed program) where
+module _ (program : Program) (agreed : AreConsistent program) where
   -- headers that are tested to be the same
   pub headers_same : (table : Table) (one other : Header) → same_header one other ≡ true → declared_header table one ≡ declared_header table other
   headers_same table one other e =

@@ -12,7 +12,7 @@ use Rattle.type_fits.specs.Fits.{Descends}
 use Rattle.meaning.specs.Trees.{Key}
 use Rattle.meaning.specs.Programs.{Sort, class_key, beside, method_key}
 use Rattle.declared_types.specs.Declared.{DeclaredHeader, DeclaredMethod, declared_header}
-use Rattle.declared_types.specs.Agreement.{IsKnown, AreAgreed, IsOfLine}
+use Rattle.declared_types.specs.Agreement.{IsKnown, AreConsistent, IsOfLine}
 use Rattle.declared_types.proofs.Agreed.{defined}
 use Rattle.sound_stores.proofs.Seen.{reached_known, line_along}
 use Rattle.typed_programs.specs.WellTyped.{slot_method, IsMethod, HasMethods}
@@ -20,7 +20,7 @@ use Rattle.declared_methods.specs.Laws.{HasLawfulMethods}
 use Rattle.declared_methods.proofs.Tables.{in_line, answered, lower_answer, declared_by}
 use Rattle.declared_methods.proofs.Alike.{headers_same, slot_agree}
 
-module _ (program : Program) (agreed : AreAgreed program) (lawful : HasLawfulMethods program) where
+module _ (program : Program) (agreed : AreConsistent program) (lawful : HasLawfulMethods program) where
   answers : (sort : Sort) → IsKnown program sort → AnswersAlike sort.table.types
   answers sort known = subst (λ (table : Table). AnswersAlike table.types) (sym known.table) (lawful.answers known.unit known.listed)
 

@@ -15,7 +15,7 @@ use Rattle.meaning.specs.Trees.{Key}
 use Rattle.meaning.specs.Shapes.{Part, FieldPart, ClassPart, has_class_part, field_parts, class_parts, object_parts, parts_by, parts_at}
 use Rattle.meaning.specs.Programs.{Sort, definition, class_key, beside}
 use Rattle.declared_types.specs.Declared.{declared, declared_fields, AreAlike}
-use Rattle.declared_types.specs.Agreement.{IsKnown, IsLawful, AreAgreed}
+use Rattle.declared_types.specs.Agreement.{IsKnown, IsLawful, AreConsistent}
 use Rattle.declared_types.proofs.Whole.{above, parts_of_record, parts_of_object, parts_of_none, parent_below, fields_at, fields_of_record, fields_of_object, no_fields_of}
 
 -- ---- lists
@@ -76,7 +76,7 @@ keyed_object a b xs ys dynamic dynamic' fields fields' same d each =
     ∙ ap (λ l. keyed b ys ++ l) (keyed_append a (field_parts fields) (class_parts has) ∙ ap (λ l. l ++ keyed a (class_parts has)) own ∙ ap (λ l. keyed b (field_parts fields') ++ l) end ∙ sym (keyed_append b (field_parts fields') (class_parts has')))
     ∙ sym (keyed_append b ys (field_parts fields' ++ class_parts has'))
 
-module _ (program : Program) (agreed : AreAgreed program) where
+module _ (program : Program) (agreed : AreConsistent program) where
   pub lawful : (sort : Sort) → IsKnown program sort → IsLawful sort.table
   lawful sort known = subst IsLawful (sym known.table) (agreed.lawful known.unit known.listed)
 

@@ -17,7 +17,7 @@ use Rattle.meaning.specs.Trees.{Key}
 use Rattle.meaning.specs.Shapes.{Part, has_class_part, field_parts, class_parts, parts_at}
 use Rattle.meaning.specs.Programs.{Sort, definition, class_by, class_key, beside}
 use Rattle.declared_types.specs.Declared.{declared, AreAlike}
-use Rattle.declared_types.specs.Agreement.{IsKnown, AreAgreed, IsOfLine}
+use Rattle.declared_types.specs.Agreement.{IsKnown, AreConsistent, IsOfLine}
 use Rattle.declared_types.specs.Forms.{Form, line, part_form, part_forms, form_at, form_beside}
 use Rattle.declared_types.specs.Laws.{FieldOf, AgreementLaws}
 use Rattle.declared_types.proofs.Whole.{parts_of_object, parent_below, fields_at}
@@ -106,7 +106,7 @@ mapped_get f g (z ∷ xs) (y ∷ ys) (suc n) x same e = mapped_get f g xs ys n x
   rest : map f xs ≡ map g ys
   rest = cc
 
-module _ (program : Program) (agreed : AreAgreed program) where
+module _ (program : Program) (agreed : AreConsistent program) where
   pub form_if_object : (a : Sort) → IsKnown program a → IsObject (definition a) → (o : Option TypeDef) → definition a ≡ o → form_at a ≡ line (part_forms (form_beside a.table) (class_key a) (parts_at a.table.types a.ty))
   form_if_object a ka is (Some (type.ObjectOf parent dynamic fields methods)) e = object_form program agreed a ka parent dynamic fields methods e
   form_if_object a ka is (Some (type.Ordinal host low high)) e = absurd (subst IsObject e is)

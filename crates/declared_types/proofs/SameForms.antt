@@ -15,7 +15,7 @@ use Rattle.meaning.specs.Trees.{Key}
 use Rattle.meaning.specs.Shapes.{Part, FieldPart, ClassPart, field_parts, parts_at}
 use Rattle.meaning.specs.Programs.{Sort, definition, class_key, beside}
 use Rattle.declared_types.specs.Declared.{DeclaredHeader, declared, AreAlike}
-use Rattle.declared_types.specs.Agreement.{IsKnown, AreAgreed}
+use Rattle.declared_types.specs.Agreement.{IsKnown, AreConsistent}
 use Rattle.declared_types.specs.Forms.{Form, Cell, Number, Link, Routine, letter, repeated, line, part_form, part_forms, form_of, form_at, form_beside}
 use Rattle.declared_types.proofs.Whole.{PartsBelow, parts_of_object, parts_below, record_below, index_below, element_below, form_whole}
 use Rattle.declared_types.proofs.Agreed.{keyed, keyed_fields, defined, known_within, known_at, parts_agree}
@@ -31,7 +31,7 @@ bounds_pair a b (type.ObjectOf parent dynamic fields methods) (type.ObjectOf par
 bounds_pair a b (type.Procedural header) (type.Procedural header') is = refl
 bounds_pair a b one other is = absurd is
 
-module _ (program : Program) (agreed : AreAgreed program) where
+module _ (program : Program) (agreed : AreConsistent program) where
   pub bounds_agree : (a b : Sort) → IsKnown program a → IsKnown program b → class_key a ≡ class_key b → bounds_at a.table.types a.ty ≡ bounds_at b.table.types b.ty
   bounds_agree a b ka kb same =
       ap bounds_of ka.is ∙ bounds_pair a.table b.table ka.one kb.one (agreed.alike a b ka.one kb.one ka kb ka.is kb.is same) ∙ sym (ap bounds_of kb.is)

@@ -35,7 +35,7 @@ pub record IsLawful (table : Table) : Type 0 where
   pub targets : (k : ℕ) (target : TypeId) → slice_get table.types k ≡ Some (type.PointerTo target) → target.0 < length table.types
 
 -- each unit's table is lawful, and types that were declared at one place are alike
-pub record AreAgreed (program : Program) : Type 0 where
+pub record AreConsistent (program : Program) : Type 0 where
   pub lawful : (unit : TypedUnit) → IsUnit program unit → IsLawful unit.types
   pub alike : (a b : Sort) (one other : TypeDef) → IsKnown program a → IsKnown program b → definition a ≡ Some one → definition b ≡ Some other → class_key a ≡ class_key b
       → AreAlike a.table one b.table other

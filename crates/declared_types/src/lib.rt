@@ -2,11 +2,11 @@
 #![tactic(auto)]
 
 ghost use Rattle.typed_tree.specs.declared.units.Program.{Program};
-ghost use Rattle.declared_types.specs.Agreement.{AreAgreed};
+ghost use Rattle.declared_types.specs.Agreement.{AreConsistent};
 ghost use Rattle.declared_types.specs.Laws.{AgreementLaws};
 
 /// Where the units of a program agree on what was declared at each place, it has the same cells and the same fields in all of
 /// them, and an instance begins with the parts of each of its ancestors. It does nothing.
 pub fn declared_type_laws()
-    ensures { (program : Program) → AreAgreed program → AgreementLaws program }
+    ensures { (program : Program) → AreConsistent program → AgreementLaws program }
 {}

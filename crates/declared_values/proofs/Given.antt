@@ -12,7 +12,7 @@ use Rattle.typed_nodes.specs.Tables.{IsInTable}
 use Rattle.typed_nodes.proofs.Fields.{some_within}
 use Rattle.closed_constants.specs.Bounds.{AreBelow, in_entry, in_names, in_open}
 use Rattle.closed_constants.proofs.Below.{below_first, below_last}
-use Rattle.closed_types.specs.Closed.{StayClosed}
+use Rattle.closed_types.specs.WellScoped.{StayWellScoped}
 use Rattle.known_names.specs.Known.{opening, EachOf, EachIn}
 use Rattle.declared_names.specs.Declaring.{typing}
 use Rattle.declared_parts.specs.Declaring.{IsDeclaredIn, AreDeclaredIn}
@@ -50,7 +50,7 @@ module _ (where_at : Home) (q : Progress) where
   all_given [] d low constants = tt
   all_given (one ∷ rest) d low constants = (given one.1 d.0 low.0 constants.0, all_given rest d.1 low.1 constants.1)
 
-pub part_gives : StayClosed → ValueLaw
+pub part_gives : StayWellScoped → ValueLaw
 part_gives closing unit where_at next p q one k some begins closed values literals fit =
     let before : IsReady p.scope = record { begins = begins; closed = closed; values = values } in
     let ready = part_ready closing unit where_at next p q one k before literals fit in

@@ -7,7 +7,7 @@ use Rattle.scopes.specs.Predeclared.{type_list}
 use Rattle.scopes.specs.Environment.{Environment, with_name}
 use Rattle.type_denoters.specs.Additions.{entered}
 use Rattle.typed_nodes.specs.Tables.{IsSound}
-use Rattle.closed_constants.specs.Bounds.{AreBelow, in_entry, IsClosedScope}
+use Rattle.closed_constants.specs.Bounds.{AreBelow, in_entry, IsWellScopedEnvironment}
 use Rattle.closed_types.proofs.Entering.{bound_with_name}
 use Rattle.sound_tables.specs.Laws.{IsFit, HasPredeclared}
 use Rattle.sound_tables.proofs.Fits.{fit_front}
@@ -19,7 +19,7 @@ use Rattle.declared_values.proofs.Values.{values_named, values_names, values_typ
 
 pub record IsReady (g : Environment) : Type 0 where
   pub begins : HasPredeclared g.types.types
-  pub closed : IsClosedScope g
+  pub closed : IsWellScopedEnvironment g
   pub values : HasValues g
 
 pub ready_sound : (g : Environment) → IsReady g → IsFit g.types.types → IsSound g.types.types
@@ -40,7 +40,7 @@ name_ready g h place word one ready below constant k =
     subst (λ (e : Environment). IsReady e) (sym (entered_is g h place word one k)) named
 
 -- types, and names of types and of values
-pub declares_ready : (g h : Environment) → IsReady g → IsFit h.types.types → IsClosedScope h → Declares g h → IsReady h
+pub declares_ready : (g h : Environment) → IsReady g → IsFit h.types.types → IsWellScopedEnvironment h → Declares g h → IsReady h
 declares_ready g h ready fit closed d =
     let more = d.more in
     let begins = ready.begins in

@@ -23,7 +23,7 @@ use Rattle.declarations.specs.Variables.{variable_entry, variable_declared, name
 use Rattle.declarations.specs.Parts.{part_declared}
 use Rattle.wider_scopes.proofs.Types.{within_some}
 use Rattle.checked_expressions.specs.Literals.{AreLiterals}
-use Rattle.closed_types.specs.Closed.{StayClosed}
+use Rattle.closed_types.specs.WellScoped.{StayWellScoped}
 use Rattle.sound_tables.specs.Laws.{IsFit}
 use Rattle.constant_values.proofs.Kept.{value_there}
 use Rattle.constant_values.proofs.Constants.{constants_valued}
@@ -40,7 +40,7 @@ use Rattle.declared_values.proofs.Ready.{IsReady, ready_sound, fit_before, name_
 fit_added : (here_at : Home) (p q : Progress) → Adds here_at p q → IsFit q.scope.types.types → IsFit p.scope.types.types
 fit_added here_at p q adds fit = let more = adds.types in fit_before p.scope.types.types more.0 q.scope.types.types more.1 fit
 
-module _ (closing : StayClosed) (unit : List ℕ) (here_at : Home) where
+module _ (closing : StayWellScoped) (unit : List ℕ) (here_at : Home) where
   -- ---- constants
 
   plain_ready : (g h : Environment) (one : Identifier) (value : Tree) → (plain_constant g one value).holds h → IsReady g → AreLiterals value → IsFit g.types.types → IsReady h

@@ -10,7 +10,7 @@ use Rattle.scopes.specs.Environment.{Environment}
 use Rattle.declarations.specs.declared.homes.Home.{Home}
 use Rattle.declarations.specs.Progress.{Progress}
 use Rattle.typed_nodes.specs.Tables.{IsInTable, IsSound}
-use Rattle.closed_constants.specs.Bounds.{IsClosedScope}
+use Rattle.closed_constants.specs.Bounds.{IsWellScopedEnvironment}
 use Rattle.known_names.specs.Known.{EachOf, EachIn}
 use Rattle.constant_values.specs.Whole.{IsConstantOf}
 use Rattle.declared_names.specs.Declaring.{typing, with_names}
@@ -49,5 +49,5 @@ pub record Gives (home : Home) (p q : Progress) : Type 0 where
   pub locals : (back : List TypeId) × (q.locals ≡ p.locals ++ back)
   pub known : EachOf (IsGivenIn home q) names
   pub sound : IsSound q.scope.types.types
-  pub closed : IsClosedScope q.scope
+  pub closed : IsWellScopedEnvironment q.scope
   pub values : HasValues q.scope

@@ -139,7 +139,7 @@ on_the_way m n p q r first second over =
     let E : Process → Type 0 = λ x. Extends x r in
     subst E same (runs_on (n - m) parts.0 r parts.2)
 
--- a front of a front
+-- a prefix of a prefix
 pub shorter_prefix : (old new : Option (List ℕ)) (xs more whole : List ℕ) → whole ≡ xs ++ more → TakesPrefix old new xs → TakesPrefix old new whole
 shorter_prefix old new xs more whole parts prefix =
     let k : ℕ = prefix.count in
@@ -155,7 +155,7 @@ whole_prefix : (old new : Option (List ℕ)) (xs : List ℕ) → new ≡ append_
 whole_prefix old new xs all = record { count = length xs; within = omega arith; taken = all ∙ ap (append_known old) (sym (take_all (length xs) xs (omega arith))) }
 
 -- Both sinks took the first of the bytes that the process writes.
-pub record TakesFronts (out err : List ℕ) (o o' : Outside) : Type 0 where
+pub record TakesPrefixes (out err : List ℕ) (o o' : Outside) : Type 0 where
   pub output : TakesPrefix o.output o'.output out
   pub errors : TakesPrefix o.errors o'.errors err
 
@@ -165,9 +165,9 @@ abbrev pub Concludes : RunEnd → ℕ → (start : State) (code : ℕ) (out err 
 Concludes (ends.Ended result) limit start code out err known o o' = (result ≡ code) × (o'.output ≡ append_known o.output out) × (o'.errors ≡ append_known o.errors err)
 Concludes (ends.Stopped cs ip reason) limit start code out err known o o' = ⊥
 Concludes (ends.Limit taken) limit start code out err known o o' = (taken ≡ limit) × ((input : List ℕ) × (limit < (known input).events))
-Concludes ends.InputFault limit start code out err known o o' = TakesFronts out err o o'
-Concludes ends.OutputFault limit start code out err known o o' = TakesFronts out err o o'
-Concludes ends.ErrorsFault limit start code out err known o o' = TakesFronts out err o o'
+Concludes ends.InputFault limit start code out err known o o' = TakesPrefixes out err o o'
+Concludes ends.OutputFault limit start code out err known o o' = TakesPrefixes out err o o'
+Concludes ends.ErrorsFault limit start code out err known o o' = TakesPrefixes out err o o'
 Concludes ends.FilesFault limit start code out err known o o' = ⊥
 
 ended_is_over : (status : Status) (code : ℕ) → status ≡ Ended code → status ≢ Running
@@ -180,8 +180,8 @@ stopped_is_over status cs ip reason is e = let bad : ⊥ = cc in bad
 only : (gained : List ℕ) (over : Bool) → IsInput gained over gained
 only gained over = record { rest = []; parts = sym (append-nil gained); ended = λ e. refl }
 
--- where the call was cut short, the sinks took fronts
-fronts : (events : ℕ) (start : State) (over : Bool) (progress : Progress) (code : ℕ) (out err : List ℕ) (o o' : Outside) → IsRun events start over progress → Ends (process_of start progress.gained) code out err → TakesPrefix o.output o'.output progress.out → TakesPrefix o.errors o'.errors progress.err → TakesFronts out err o o'
+-- where the call was cut short, the sinks took prefixes
+fronts : (events : ℕ) (start : State) (over : Bool) (progress : Progress) (code : ℕ) (out err : List ℕ) (o o' : Outside) → IsRun events start over progress → Ends (process_of start progress.gained) code out err → TakesPrefix o.output o'.output progress.out → TakesPrefix o.errors o'.errors progress.err → TakesPrefixes out err o o'
 fronts events start over progress code out err o o' does known output errors =
     let p : Process = process_of start progress.gained in
     let q : Process = advanced progress.gained 0 [] [] progress in

@@ -26,7 +26,7 @@ use Rattle.syntax_tree.specs.Expressions.{of, word}
 use Rattle.expression_parser.specs.Gives.{Inside, ask, name_at}
 use Rattle.expression_parser.specs.Gives as g
 use Rattle.expression_parser.specs.Reading.{begins, tail_of, placed, placed_sign, relator_at, adder_at, multiplier_at, sign_found, optional_sign_at, sign_at, field_at, index_at, dereference_at, selectors_by, selectors_at, more_indexes_by, more_indexes_at, named_at, group_at, negation_at, set_at, arguments_at, argument_end_by, argument_end_at, call_by, call_at, named_factor_at, control_at, plain_by, closed_by, closed_factor_at, wrapped, factor_by, factor_at, factors_by, factors_at, term_at, terms_by, terms_at, simple_by, simple_at, relation_by, relation_at, expression_at, element_end_by, element_at, argument_width_by, argument_at, list_from, more_elements_at, elements_by, elements_at, more_arguments_at, expression_parts, inside}
-use Rattle.expression_parser.specs.declared.front.FactorStart.TheVariants as factor
+use Rattle.expression_parser.specs.declared.lookahead.FactorStart.TheVariants as factor
 use Rattle.expression_parser.specs.Starting.{selector_start, factor_start, closed_start, plain_start}
 use Rattle.expression_parser.proofs.Shapes.{begins_is, same_kind, word_asked, relator_asked, adder_asked, multiplier_asked, sign_asked, first_read, second_read, pair_read, operator_read}
 

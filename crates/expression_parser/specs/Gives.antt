@@ -17,7 +17,7 @@ use Rattle.predictive_grammar.specs.Readers.{Fault, Syntax, LeftOut, TooDeep, Re
 use Rattle.expression_parser.specs.declared.error.ReadError.{ReadError}
 use Rattle.expression_parser.specs.declared.error.ReadError.TheVariants as r
 
--- want of memory says nothing
+-- out of memory says nothing
 abbrev pub Fails : {Y : Type 0} → ReadError → Result Y (Fault Production) → Type 0
 Fails r.NoMemory read = Unit {0}
 Fails (r.Syntax n) read = read ≡ Err (Syntax n)

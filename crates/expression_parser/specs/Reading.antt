@@ -21,14 +21,14 @@ use Rattle.predictive_grammar.specs.Grammar.{leaf}
 use Rattle.predictive_grammar.specs.Readers.{Fault, Syntax, LeftOut, TooDeep, ◌>>=◌, made, opened, enter}
 use Rattle.syntax_tree.specs.declared.expression.PlacedSign.{PlacedSign}
 use Rattle.syntax_tree.specs.Expressions.{Parsed, of, word, signs}
-use Rattle.expression_parser.specs.declared.front.SelectorStart.{SelectorStart}
-use Rattle.expression_parser.specs.declared.front.SelectorStart.TheVariants as start
-use Rattle.expression_parser.specs.declared.front.FactorStart.{FactorStart}
-use Rattle.expression_parser.specs.declared.front.FactorStart.TheVariants as factor
-use Rattle.expression_parser.specs.declared.front.ClosedStart.{ClosedStart}
-use Rattle.expression_parser.specs.declared.front.ClosedStart.TheVariants as closed
-use Rattle.expression_parser.specs.declared.front.PlainStart.{PlainStart}
-use Rattle.expression_parser.specs.declared.front.PlainStart.TheVariants as plain
+use Rattle.expression_parser.specs.declared.lookahead.SelectorStart.{SelectorStart}
+use Rattle.expression_parser.specs.declared.lookahead.SelectorStart.TheVariants as start
+use Rattle.expression_parser.specs.declared.lookahead.FactorStart.{FactorStart}
+use Rattle.expression_parser.specs.declared.lookahead.FactorStart.TheVariants as factor
+use Rattle.expression_parser.specs.declared.lookahead.ClosedStart.{ClosedStart}
+use Rattle.expression_parser.specs.declared.lookahead.ClosedStart.TheVariants as closed
+use Rattle.expression_parser.specs.declared.lookahead.PlainStart.{PlainStart}
+use Rattle.expression_parser.specs.declared.lookahead.PlainStart.TheVariants as plain
 use Rattle.expression_parser.specs.Gives.{Reads, Inside, ask, name_at}
 use Rattle.expression_parser.specs.Starting.{selector_start, factor_start, closed_start, plain_start}
 

@@ -3,14 +3,14 @@ use Rattle.std.specs.Prelude.{Bool, true, false, if◌then◌else◌, Option, So
 use Rattle.pascal_grammar.specs.declared.kind.Kind.{Kind}
 use Rattle.pascal_grammar.specs.declared.kind.Kind.TheVariants as k
 use Rattle.pascal_grammar.specs.Asked.{is_name}
-use Rattle.expression_parser.specs.declared.front.SelectorStart.{SelectorStart}
-use Rattle.expression_parser.specs.declared.front.SelectorStart.TheVariants as s
-use Rattle.expression_parser.specs.declared.front.FactorStart.{FactorStart}
-use Rattle.expression_parser.specs.declared.front.FactorStart.TheVariants as f
-use Rattle.expression_parser.specs.declared.front.ClosedStart.{ClosedStart}
-use Rattle.expression_parser.specs.declared.front.ClosedStart.TheVariants as c
-use Rattle.expression_parser.specs.declared.front.PlainStart.{PlainStart}
-use Rattle.expression_parser.specs.declared.front.PlainStart.TheVariants as l
+use Rattle.expression_parser.specs.declared.lookahead.SelectorStart.{SelectorStart}
+use Rattle.expression_parser.specs.declared.lookahead.SelectorStart.TheVariants as s
+use Rattle.expression_parser.specs.declared.lookahead.FactorStart.{FactorStart}
+use Rattle.expression_parser.specs.declared.lookahead.FactorStart.TheVariants as f
+use Rattle.expression_parser.specs.declared.lookahead.ClosedStart.{ClosedStart}
+use Rattle.expression_parser.specs.declared.lookahead.ClosedStart.TheVariants as c
+use Rattle.expression_parser.specs.declared.lookahead.PlainStart.{PlainStart}
+use Rattle.expression_parser.specs.declared.lookahead.PlainStart.TheVariants as l
 
 abbrev pub selector_start : Option Kind → Option SelectorStart
 selector_start (Some k.Dot) = Some s.Field

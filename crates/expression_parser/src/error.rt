@@ -6,7 +6,7 @@ ghost use Rattle.expression_parser.specs.declared.error.ReadError.TheVariants.{N
 use pascal_grammar::Omission;
 use std::alloc::{AllocError, AllocFailed};
 
-/// Want of memory, or the first fault, with the number of lexemes from there on.
+/// Out of memory, or the first fault, with the number of lexemes from there on.
 #[derive(Debug, Drop)]
 pub enum ReadError {
     NoMemory,

@@ -10,7 +10,7 @@ ghost use Rattle.expression_parser.specs.Views.{elements_of, arguments_of, argum
 
 use crate::error::ReadError;
 use crate::factor::{call_end, control_factor, plain_factor};
-use crate::front::{
+use crate::lookahead::{
     ClosedStart, FactorStart, SelectorStart, adder, begins, closed_start, deeper, factor_start,
     multiplier, optional_sign, relator, selector_start, tail,
 };

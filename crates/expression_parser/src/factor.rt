@@ -9,7 +9,7 @@ ghost use Rattle.expression_parser.specs.Gives.{Gives};
 ghost use Rattle.expression_parser.specs.Reading.{wrapped, plain_at, control_at, argument_end_at};
 
 use crate::error::ReadError;
-use crate::front::{PlainStart, SelectorStart, plain_start, selector_start};
+use crate::lookahead::{PlainStart, SelectorStart, plain_start, selector_start};
 use crate::lexemes::{letter, mark, number, text};
 use pascal_grammar::{Kind, Lexeme, Omission};
 use std::alloc::Global;

@@ -4,7 +4,7 @@
 mod error;
 mod expressions;
 mod factor;
-mod front;
+mod lookahead;
 mod lexemes;
 mod list;
 mod node;
@@ -12,6 +12,6 @@ mod read;
 mod selector;
 
 pub use error::ReadError;
-pub use front::{begins, tail};
+pub use lookahead::{begins, tail};
 pub use lexemes::{identifier, letter, mark, number, skip, text};
 pub use read::{read_arguments, read_designator, read_expression, read_simple};

@@ -19,7 +19,7 @@ use std::alloc::Global;
 use syntax_tree::{Argument, Designator, Expression, SimpleExpression};
 
 /// The expression that the first lexemes spell, and what stands behind it, where at most `depth` constructs may be open at
-/// once. An error is want of memory, or the first lexeme at fault.
+/// once. An error is out of memory, or the first lexeme at fault.
 pub fn read_expression(
     alloc: Global,
     depth: u32,

@@ -29,9 +29,9 @@ use Rattle.constant_expressions.specs.Values.{number_of, bytes_of, elements_of}
 use Rattle.typed_constants.specs.declared.written.Written.{Written}
 use Rattle.typed_constants.specs.Places.{first_place}
 use Rattle.typed_constants.specs.Trees.{Initial, Initials, Named, value, list, group, no_initials, and_initial, no_named, and_named, count}
-use Rattle.typed_constants.specs.FirstValues.{set_fitted, fitted_by, fitted, element_of, counted_by, counted, fields_in, behind_first, due_for, placed, ended, grouped_by, grouped, is_plain, judged, items_judged, fields_judged}
+use Rattle.typed_constants.specs.Initializers.{set_fitted, fitted_by, fitted, element_of, counted_by, counted, fields_in, behind_first, due_for, placed, ended, grouped_by, grouped, is_plain, judged, items_judged, fields_judged}
 use Rattle.first_trees.specs.FirstTrees.{IsSetCell, IsCell, IsForked, IsTree, AreElements, AreFields}
-use Rattle.first_trees.specs.Laws.{AreTreesOfFirstValues}
+use Rattle.first_trees.specs.Laws.{AreTreesOfInitializers}
 use Rattle.first_trees.proofs.Readers.{reader_is, defined_over}
 use Rattle.first_trees.proofs.Storage.{stored}
 
@@ -290,5 +290,5 @@ first_by g all ty initial bytes true h =
     ap (λ (b : List ℕ). (read b).0) (r.made ∙ sym (append-nil r.more)) ∙ ap (λ (x : Tree × List ℕ). x.0) (r.read []) in
     subst (λ (t : Tree). IsTree g (Some ty) initial t) (sym e) r.is
 
-pub first_trees : AreTreesOfFirstValues
+pub first_trees : AreTreesOfInitializers
 first_trees g place ty initial bytes all h = first_by g all ty initial bytes (is_plain g.types.types ty) h

@@ -15,7 +15,7 @@ use Rattle.constant_expressions.specs.Values.{number_of, bytes_of, elements_of}
 use Rattle.typed_constants.specs.declared.written.Written.{Written}
 use Rattle.typed_constants.specs.Trees.{Initial, Initials, Named, value, list, group, no_initials, and_initial, no_named, and_named}
 use Rattle.typed_constants.specs.Written.{written_as}
-use Rattle.typed_constants.specs.FirstValues.{due_type, element_of, fields_in, behind_next, due_for}
+use Rattle.typed_constants.specs.Initializers.{due_type, element_of, fields_in, behind_next, due_for}
 
 -- a cell that holds a set with these elements
 pub record IsSetCell (elements : List ℕ) (tree : Tree) : Type 0 where

@@ -6,11 +6,11 @@ use Rattle.type_layout.specs.Table.{AllDefined}
 use Rattle.scopes.specs.Environment.{Environment}
 use Rattle.meaning.specs.Shapes.{first_tree}
 use Rattle.typed_constants.specs.Trees.{Initial}
-use Rattle.typed_constants.specs.FirstValues.{IsFirst}
+use Rattle.typed_constants.specs.Initializers.{IsFirst}
 use Rattle.first_trees.specs.FirstTrees.{IsTree}
 
 -- Where the types are defined one over another, as in each table, the tree that the meaning reads of the bytes that a first value
 -- gives is the tree of the first value.
-abbrev pub AreTreesOfFirstValues : Type 0
-AreTreesOfFirstValues = (g : Environment) (place : Place) (ty : TypeId) (initial : Initial) (bytes : List ℕ) → AllDefined [] g.types.types
+abbrev pub AreTreesOfInitializers : Type 0
+AreTreesOfInitializers = (g : Environment) (place : Place) (ty : TypeId) (initial : Initial) (bytes : List ℕ) → AllDefined [] g.types.types
     → IsFirst g place ty initial bytes → IsTree g (Some ty) initial (first_tree g.types.types ty (Some bytes))

@@ -1,4 +1,4 @@
-//! The meaning reads the first values of typed constants as the sources say them.
+//! The meaning reads the initializers of typed constants as the sources say them.
 #![tactic(auto)]
 
 mod laws;

@@ -78,7 +78,7 @@ pub(crate) fn read_ordinal(host: Host, bytes: &[u8]) -> Read<'_>
     }
 }
 
-// An element above 255, which no set type has, finds no room.
+// An element above 255, which no set type has, is answered as out of memory.
 fn append_element(element: u64, to: &mut Vec<u8>) -> Result<(), AllocError>
     ensures { OnOk result (to.new.items ≡ to.old.items ++ element ∷ []) }
 {
@@ -101,7 +101,7 @@ fn append_if(there: bool, element: u64, to: &mut Vec<u8>) -> Result<(), AllocErr
     }
 }
 
-// The element so many behind another. One that passes 64 bits finds no room.
+// The element so many behind another. One that passes 64 bits is answered as out of memory.
 fn element_behind(element: u64, count: u64) -> Result<u64, AllocError>
     ensures { IfOk result (λ next. next ≡ element + count) }
 {

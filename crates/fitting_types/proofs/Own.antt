@@ -22,7 +22,7 @@ use Rattle.unit_interface.proofs.OrderLaws.{IsIn, contrary, in_append, in_left, 
 use Rattle.unit_interface.proofs.KeyLaws.{same_itself}
 use Rattle.unit_interface.proofs.KeptLaws.{get_or-new_ids}
 use Rattle.closed_constants.specs.Bounds.{AreBelow}
-use Rattle.told_types.specs.Told.{home_of, between, IsAlike, AreAlike, AreFronted, IsClosedTable, IsTold, IsToldBut}
+use Rattle.told_types.specs.Consistency.{home_of, between, IsAlike, AreAlike, AreFronted, IsWellScopedTable, IsConsistent, IsConsistentWithOthers}
 use Rattle.told_types.proofs.Twice.{AllOf, twice_type}
 use Rattle.told_types.proofs.Keys.{place_at}
 use Rattle.told_types.proofs.Named.{all_in}
@@ -92,7 +92,7 @@ below_of n (y ∷ ys) x h e =
 
 -- ---- the unit's own types
 
-module _ (have : List Interface) (unit : typed.Unit) (i : Interface) (shows : IsInterfaceOf unit i) (but : IsToldBut have unit.name unit.types) (closed : IsClosedTable unit.types)
+module _ (have : List Interface) (unit : typed.Unit) (i : Interface) (shows : IsInterfaceOf unit i) (but : IsConsistentWithOthers have unit.name unit.types) (closed : IsWellScopedTable unit.types)
     (home_is : home_of have unit.name ≡ Some i.types) (methods : HaveOwnMethods unit.name unit.types) where
   abbrev table : Table
   table = unit.types
@@ -162,5 +162,5 @@ module _ (have : List Interface) (unit : typed.Unit) (i : Interface) (shows : Is
       ]
 
   -- all of its types are told
-  pub own_told : IsTold have unit.types
+  pub own_told : IsConsistent have unit.types
   own_told = record { keyed = but.keyed; alike = alike; followed = but.followed; fronted = fronted }

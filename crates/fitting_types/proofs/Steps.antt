@@ -27,8 +27,8 @@ use Rattle.unit_interface.proofs.KeptLaws.{below_or_last, same-longer, same-last
 use Rattle.unit_interface.proofs.KeyLaws.{key_itself, none_found, key_place, known_after, id-at, IsMergedSo, count_of, key_at, keys-next, merged_so}
 use Rattle.unit_interface.proofs.MergeLaws.{merged-new, merged-old}
 use Rattle.closed_constants.specs.Ordered.{IsOrdered}
-use Rattle.told_types.specs.Told.{next_key, IsClosedTable, AreClosedHomes, IsTold, IsToldInterface}
-use Rattle.told_types.proofs.Keys.{not_found, found_key, after_front, after_from, in_first, id_there}
+use Rattle.told_types.specs.Consistency.{next_key, IsWellScopedTable, AreWellScopedHomes, IsConsistent, IsConsistentInterface}
+use Rattle.told_types.proofs.Keys.{not_found, found_key, after_prefix, after_from, in_first, id_there}
 use Rattle.told_types.proofs.Known.{first_of, known_so}
 
 -- ---- lists
@@ -62,8 +62,8 @@ enumeration_back ids unit other low high e = cc
 
 -- ---- one type
 
-module _ (have : List Interface) (homes : AreClosedHomes have) (table : Table) (i : Interface) (told : IsTold have table) (ordered : IsOrdered table) (closed : IsClosedTable table)
-    (own : IsToldInterface have i) where
+module _ (have : List Interface) (homes : AreWellScopedHomes have) (table : Table) (i : Interface) (told : IsConsistent have table) (ordered : IsOrdered table) (closed : IsWellScopedTable table)
+    (own : IsConsistentInterface have i) where
   abbrev ids : List TypeId
   ids = ids_in table i.types
 
@@ -217,7 +217,7 @@ module _ (have : List Interface) (homes : AreClosedHomes have) (table : Table) (
               none_found (same_key key) (keys_of (now number)) s.place key none (key_itself key) stays
             where
               after_stays : (k : ℕ) → slice_get (keys_of table) k ≡ Some key → slice_get (known_after (keys_of table) (take number (keys_of i.types))) k ≡ Some key
-              after_stays k is = after_front (keys_of table) (take number (keys_of i.types)) k key is
+              after_stays k is = after_prefix (keys_of table) (take number (keys_of i.types)) k key is
 
       next_id : (lowest highest : ℤ) → one ≡ Ordinal host.Enumeration lowest highest → follows (get_or ids number this) (slice_get ids (number + 1)) ≡ true
       next_id lowest highest is =

@@ -1,4 +1,4 @@
--- What calls of flat code and the acts of the machine do to a state.
+-- What calls of flat code and the effects of the machine do to a state.
 -- A run has a number of turns. One is due at each call, at each use of the runtime, at each error and before each run of a loop's body; where none is left the run goes on.
 use Rattle.std.specs.Prelude.{ℕ, zero, suc, ◌+◌, ◌-◌, ◌*◌, ◌%◌, ◌==◌, ◌&&◌, Bool, true, not, nat_lt, if◌then◌else◌, List, [], ◌∷◌, ◌++◌, length, Option, Some, None, slice_get, codes}
 use Rattle.std.specs.Fmt.{decimal}
@@ -184,7 +184,7 @@ entered_at program choice again key args result f s unit =
 abbrev pub called : FlatProgram → Choice → Does → List ℕ → Option FlatResult → Frame → State → Key → Outcome
 called program choice again args result f s key = with_some (program.unit key.unit) s (entered_at program choice again key args result f s)
 
--- ---- acts of the machine
+-- ---- effects of the machine
 
 -- handle 1 is the output and 2 the errors; another one takes nothing
 abbrev pub written : ℕ → List ℕ → State → State

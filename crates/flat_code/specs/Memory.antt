@@ -37,8 +37,8 @@ Finds view (Ok x) y = y ≡ Ok (view x)
 Finds view (Err trap) y = y ≡ Err trap
 
 -- what was found after something else
-abbrev pub after_front : {A : Type 0} → List A → Found (List A) → Found (List A)
-after_front front found = found >>= λ rest. Ok (front ++ rest)
+abbrev pub after_prefix : {A : Type 0} → List A → Found (List A) → Found (List A)
+after_prefix front found = found >>= λ rest. Ok (front ++ rest)
 
 -- ---- reading
 

@@ -59,7 +59,7 @@ abbrev pub result_weight : Option FlatResult → ℕ
 result_weight None = 0
 result_weight (Some result) = 6 + address_weight result.at
 
--- an act of the machine, or a far call
+-- an effect of the machine, or a far call
 abbrev pub runtime_weight : ℕ → ℕ
 runtime_weight number = if nat_lt number 5 then 32 else 5
 

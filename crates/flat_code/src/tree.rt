@@ -116,7 +116,7 @@ pub enum FlatStmt {
         args: FlatExprs,
         result: Option<FlatResult>,
     },
-    /// Numbers 0 to 4 are acts of the machine, the others routines of the runtime.
+    /// Numbers 0 to 4 are effects of the machine, the others routines of the runtime.
     Runtime {
         number: u16,
         args: FlatExprs,

@@ -1,4 +1,4 @@
-//! What a call does before and after the body of its routine, and the acts of the machine.
+//! What a call does before and after the body of its routine, and the effects of the machine.
 
 ghost use Rattle.std.specs.Prelude.{◌≡◌, ◌+◌, ◌*◌, ◌^◌, ◌<◌, ◌≤◌, ℕ, length, IfOk, OnOk, Vec};
 ghost use Rattle.std.specs.Global.{Global};
@@ -300,7 +300,7 @@ impl Interpreter<'_> {
         }
     }
 
-    /// Does an act of the machine.
+    /// Has an effect of the machine.
     pub fn act(
         &self,
         state: &mut Run,

@@ -101,7 +101,7 @@ fn error_text(alloc: Global, code: u16) -> Result<Vec<u8>, AllocError>
 }
 
 impl Run<'_> {
-    /// Counts nodes. A count that passes 64 bits is answered as want of memory.
+    /// Counts nodes. A count that passes 64 bits is answered as out of memory.
     pub fn begin(&mut self, nodes: u64) -> Result<(), AllocError>
         ensures { OnOk result (view_run self.new ≡ begun nodes (view_run self.old)) }
     {

@@ -15,9 +15,9 @@ use Rattle.brought_interfaces.proofs.Below.{known_closed, interface_left, unit_r
 use Rattle.closed_scopes.specs.Scopes.{IsCompleteScope}
 use Rattle.interface_laws.specs.Declared.{Declares}
 use Rattle.interface_laws.proofs.AgreementLaws.{interface_grows}
-use Rattle.told_types.specs.Told.{IsClosedTable, IsToldBut}
+use Rattle.told_types.specs.Consistency.{IsWellScopedTable, IsConsistentWithOthers}
 use Rattle.told_interfaces.proofs.Declaring.{paired_of, keys_stay}
-use Rattle.fitting_types.specs.Fits.{IsToldScope}
+use Rattle.fitting_types.specs.Fits.{IsConsistentScope}
 use Rattle.fitting_types.proofs.Uses.{closed_table}
 use Rattle.brought_interfaces.specs.Below.{Whole, whole, view_unit, items_of, outlined, IsTypedAs, scope_of, IsRead, PartsKeep, IsBegun, IsSource, IsRoomy, AreOwnConstants}
 use Rattle.formed_programs.proofs.Faithful.{HasSystem}
@@ -33,12 +33,12 @@ pub record IsBeginning (name : List ℕ) (says : Directives) (g : Environment) (
   pub unit : Whole
   pub holds : (outlined name says g tree).holds unit
   pub keyed : IsKeyed unit.types
-  pub closed : IsClosedTable unit.types
+  pub closed : IsWellScopedTable unit.types
   pub system : HasSystem unit.types
   pub constants : AreOwnConstants unit.types.types unit.items
 
-module _ (name : List ℕ) (parts : PartsKeep name) (says : Directives) (have : List Interface) (g : Environment) (begun : IsBegun name g) (scope : IsToldScope have g) (system : HasSystem g.types)
-    (behind : (after : Table) → Declares name g.types after → IsToldBut have name after) where
+module _ (name : List ℕ) (parts : PartsKeep name) (says : Directives) (have : List Interface) (g : Environment) (begun : IsBegun name g) (scope : IsConsistentScope have g) (system : HasSystem g.types)
+    (behind : (after : Table) → Declares name g.types after → IsConsistentWithOthers have name after) where
   pub begins : (tree : Tree) (unit : typed.Unit) → IsTypedAs name says g have tree (view_unit unit) → IsSource tree → IsRoomy unit → IsBeginning name says g tree
   begins (t.Program heading uses all body) unit h source room =
       let front = h.made.part in

@@ -19,13 +19,13 @@ use Rattle.unit_interface.specs.Keyed.{IsKeyed}
 use Rattle.unit_interface.proofs.KeyLaws.{AreApart, known_after, id-at, key_at, count_of, merged_so}
 use Rattle.closed_constants.specs.Bounds.{AreBelow}
 use Rattle.closed_scopes.proofs.Merging.{longer}
-use Rattle.told_types.specs.Told.{Stands, IsClosedTable, AreClosedHomes, IsToldInterface}
-use Rattle.told_types.proofs.Keys.{place_at, after_front}
+use Rattle.told_types.specs.Consistency.{Stands, IsWellScopedTable, AreWellScopedHomes, IsConsistentInterface}
+use Rattle.told_types.proofs.Keys.{place_at, after_prefix}
 use Rattle.told_types.proofs.Known.{key_there, own_named, same_id}
 use Rattle.told_types.proofs.Merged.{next_beside}
 use Rattle.told_types.proofs.Agreed.{known_alike}
 use Rattle.told_types.proofs.Shown.{kept_key}
-use Rattle.fitting_types.specs.Fits.{IsToldScope}
+use Rattle.fitting_types.specs.Fits.{IsConsistentScope}
 use Rattle.fitting_types.proofs.Uses.{closed_table}
 use Rattle.brought_interfaces.specs.Below.{twice, IsWhole, AreFixed, IsKnownOf, AreOwnConstants, ShownConstants}
 use Rattle.brought_interfaces.proofs.Below.{new_id_is}
@@ -45,11 +45,11 @@ pub record IsOfUnit (i : Interface) : Type 0 where
   pub unit : typed.Unit
   pub shows : IsInterfaceOf unit i
   pub keyed : IsKeyed unit.types
-  pub closed : IsClosedTable unit.types
+  pub closed : IsWellScopedTable unit.types
   pub system : HasSystem unit.types
   pub constants : AreOwnConstants unit.types.types unit.items
 
-whole_of : (table : Table) → IsClosedTable table → IsWhole table.types
+whole_of : (table : Table) → IsWellScopedTable table → IsWhole table.types
 whole_of table closed = record {
   based = λ ty base at. (own_named table ty.0 (type.SetOf base) closed at).0;
   followed = λ number low high at.
@@ -69,9 +69,9 @@ known_id table other keyed number place key d low at there =
     let so = merged_so table other keyed number low in
     let known : List Key = known_after (keys_of table) (take number (keys_of other)) in
     let apart : AreApart known = subst AreApart so.keys so.keyed.apart in
-    id-at (keys_of table) (keys_of other) number key d at ∙ place_at known key place apart (after_front (keys_of table) (take number (keys_of other)) place key there)
+    id-at (keys_of table) (keys_of other) number key d at ∙ place_at known key place apart (after_prefix (keys_of table) (take number (keys_of other)) place key there)
 
-module _ (have : List Interface) (homes : AreClosedHomes have) (g : Environment) (h : IsToldScope have g) (i : Interface) (own : IsToldInterface have i) where
+module _ (have : List Interface) (homes : AreWellScopedHomes have) (g : Environment) (h : IsConsistentScope have g) (i : Interface) (own : IsConsistentInterface have i) where
   abbrev ids : List TypeId
   ids = ids_in g.types i.types
 

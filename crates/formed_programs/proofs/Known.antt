@@ -35,13 +35,13 @@ use Rattle.program_laws.specs.Closing.{AreInOrder}
 use Rattle.program_laws.proofs.Sources.{named_by, shown_some, same_name}
 use Rattle.program_laws.proofs.Depth.{IsOf, IsUse, AreUses, Inherits, of_source, inherited, all_inherited}
 use Rattle.program_laws.proofs.Closing.{new_of}
-use Rattle.told_types.specs.Told.{home_of, Stands, AreClosedHomes, IsTold, IsToldInterface}
+use Rattle.told_types.specs.Consistency.{home_of, Stands, AreWellScopedHomes, IsConsistent, IsConsistentInterface}
 use Rattle.closed_constants.specs.Bounds.{AreBelow}
-use Rattle.closed_tables.specs.Tables.{StayClosed}
+use Rattle.closed_tables.specs.Tables.{StayWellScoped}
 use Rattle.told_interfaces.proofs.Declaring.{paired_of, keys_stay}
 use Rattle.told_interfaces.proofs.Inherited.{own_home, comes, homes, each_told, told_behind, told_within}
 use Rattle.told_interfaces.proofs.Origins.{AreForeignUses, uses_foreign}
-use Rattle.fitting_types.specs.Fits.{IsToldScope, IsToldUse}
+use Rattle.fitting_types.specs.Fits.{IsConsistentScope, IsConsistentUse}
 use Rattle.fitting_types.proofs.Uses.{types_told, used_told, first_scope}
 use Rattle.formed_programs.specs.Laws.{AreFormed}
 use Rattle.formed_programs.proofs.Faithful.{Stay, HasSystem, IsOfUnit, faithful}
@@ -62,7 +62,7 @@ pub record Laws : Type 0 where
   pub further : FurtherLaw
   pub own : OwnLaw
   pub shown : ShownConstants
-  pub tables : StayClosed
+  pub tables : StayWellScoped
 
 -- the unit of a source, of which 32 bits hold all numbers
 pub record IsTyped (have : List Interface) (s : Source) : Type 0 where
@@ -72,10 +72,10 @@ pub record IsTyped (have : List Interface) (s : Source) : Type 0 where
 
 module _ (laws : Laws) (sources : List Source) (have : List Interface) (o : AreInOrder sources have) (all : (place : ℕ) → IsDone sources have place)
     (written : (place : ℕ) (s : Source) → slice_get sources place ≡ Some s → IsWritten s) where
-  abbrev whole_homes : AreClosedHomes have
+  abbrev whole_homes : AreWellScopedHomes have
   whole_homes = homes sources have o
 
-  abbrev told : (name : List ℕ) → IsToldUse have name
+  abbrev told : (name : List ℕ) → IsConsistentUse have name
   told = each_told sources have o
 
   found_name : (name : List ℕ) (i : Interface) → interface_named have name ≡ Some i → i.name ≡ name
@@ -87,7 +87,7 @@ module _ (laws : Laws) (sources : List Source) (have : List Interface) (o : AreI
 
   -- the scope stays told, and begins with SYSTEM's types
   record IsSo (g : Environment) : Type 0 where
-    scope : IsToldScope have g
+    scope : IsConsistentScope have g
     predeclared : HasSystem g.types
 
   use_so : (g : Environment) (word : List ℕ) → IsSo g → IsSo (with_use have g word)
@@ -214,10 +214,10 @@ module _ (laws : Laws) (sources : List Source) (have : List Interface) (o : AreI
       shows_mine : IsInterfaceOf mid mine
       shows_mine = (shown_by place s at b mine of_mine).1
 
-      mid_told : IsTold have b.unit.types
+      mid_told : IsConsistent have b.unit.types
       mid_told =
-          let own_told : IsTold have of_mine.shows.unit.types = told_within sources have o place s mine at (no_system place s at) is_mine of_mine in
-          subst (λ (w : Whole). IsTold have w.types) (shown_by place s at b mine of_mine).0 own_told
+          let own_told : IsConsistent have of_mine.shows.unit.types = told_within sources have o place s mine at (no_system place s at) is_mine of_mine in
+          subst (λ (w : Whole). IsConsistent have w.types) (shown_by place s at b mine of_mine).0 own_told
 
       mid_items : AreBelow (length b.unit.types.types) (in_items b.unit.items)
       mid_items = (laws.tables.outline name s.says g s.tree b.unit (outer_so s).scope.complete b.holds).items
@@ -234,7 +234,7 @@ module _ (laws : Laws) (sources : List Source) (have : List Interface) (o : AreI
       home_mine = own_home have name mine (no_system place s at) is_mine
 
       -- a type of the unit itself that another unit tells of
-      own_there : (d : Drafted) → IsMiddle d → (i : Interface) → IsToldInterface have i → (number : ℕ) (key : Key) → slice_get (keys_of i.types) number ≡ Some key → key.unit ≡ name → Stands (keys_of d.scope.types) key
+      own_there : (d : Drafted) → IsMiddle d → (i : Interface) → IsConsistentInterface have i → (number : ℕ) (key : Key) → slice_get (keys_of i.types) number ≡ Some key → key.unit ≡ name → Stands (keys_of d.scope.types) key
       own_there d m i tells number key there is =
           let h = tells.at_home number key there in
           let same : h.home ≡ mine.types = same_Some h.home mine.types (sym h.is ∙ ap (home_of have) is ∙ home_mine) in
@@ -305,7 +305,7 @@ module _ (laws : Laws) (sources : List Source) (have : List Interface) (o : AreI
             read = r;
             named = named;
             so = record {
-              scope = record { told = subst (λ (x : Whole). IsTold have x.types) same mid_told; complete = read_complete d r };
+              scope = record { told = subst (λ (x : Whole). IsConsistent have x.types) same mid_told; complete = read_complete d r };
               predeclared = stay_on type_table g.types d.scope.types scope.predeclared (keys_stay name g.types d.scope.types (paired_of g.types scope.scope.told.keyed) declares);
             };
             behind = record {

@@ -17,10 +17,10 @@ use Rattle.unit_interface.specs.Keyed.{IsKeyed}
 use Rattle.unit_interface.proofs.KeyLaws.{count_of}
 use Rattle.routines.specs.Drafts.{Drafted}
 use Rattle.closed_constants.specs.Bounds.{AreBelow}
-use Rattle.told_types.specs.Told.{Stands, AreClosedHomes, IsToldInterface}
+use Rattle.told_types.specs.Consistency.{Stands, AreWellScopedHomes, IsConsistentInterface}
 use Rattle.told_types.proofs.Known.{key_there}
 use Rattle.told_types.proofs.Shown.{shown_key}
-use Rattle.fitting_types.specs.Fits.{IsToldScope}
+use Rattle.fitting_types.specs.Fits.{IsConsistentScope}
 use Rattle.brought_interfaces.specs.Below.{items_of, twice}
 use Rattle.brought_interfaces.specs.Faithful.{IsOwn}
 use Rattle.formed_programs.proofs.Faithful.{Stay, kept_id, types_same}
@@ -90,14 +90,14 @@ pub record IsBehind (unit : typed.Unit) (d : Drafted) : Type 0 where
   pub items : items_of d.scope ≡ unit.items
   pub far : All IsFar d.routines
 
-module _ (have : List Interface) (homes : AreClosedHomes have) (unit : typed.Unit) (i : Interface) (shows : IsInterfaceOf unit i) (keyed : IsKeyed unit.types) (below : AreBelow (length unit.types.types) (in_items unit.items)) where
+module _ (have : List Interface) (homes : AreWellScopedHomes have) (unit : typed.Unit) (i : Interface) (shows : IsInterfaceOf unit i) (keyed : IsKeyed unit.types) (below : AreBelow (length unit.types.types) (in_items unit.items)) where
   -- a type that the interface tells stands there
   pub own_stands : (d : Drafted) → IsBehind unit d → (number : ℕ) (key : Key) → slice_get (keys_of i.types) number ≡ Some key → Stands (keys_of d.scope.types) key
   own_stands d b number key at =
       let there = shown_key unit i shows keyed number key at in
       record { place = there.place; at = b.types there.place key there.at }
 
-  pub is_own : (name : List ℕ) (d : Drafted) → IsBehind unit d → IsToldScope have d.scope → IsToldInterface have i → i.name ≡ name → IsOwn name d i
+  pub is_own : (name : List ℕ) (d : Drafted) → IsBehind unit d → IsConsistentScope have d.scope → IsConsistentInterface have i → i.name ≡ name → IsOwn name d i
   is_own name d b scope told own =
       let ids : List TypeId = ids_in d.scope.types i.types in
       let kids : List TypeId = new_ids shows.reached (length unit.types.types) in

@@ -8,7 +8,7 @@ use Rattle.unit_interface.specs.Resolve.{overlay, is_overlay, interface_named, w
 use Rattle.unit_interface.specs.Fitting.{found_fits, use_fits, uses_fit}
 use Rattle.source_order.specs.Orders.{names_of}
 use Rattle.source_interfaces.specs.Scopes.{outer_units, outer_scope}
-use Rattle.closed_scopes.specs.Scopes.{IsCompleteScope, IsClosedInterface, IsClosedUse}
+use Rattle.closed_scopes.specs.Scopes.{IsCompleteScope, IsWellScopedInterface, IsWellScopedUse}
 use Rattle.closed_scopes.proofs.Beginning.{first_complete}
 use Rattle.closed_scopes.proofs.Using.{use_complete}
 use Rattle.sound_tables.specs.Laws.{IsFit}
@@ -23,8 +23,8 @@ both_true : (a b : Bool) → (a && b) ≡ true → (a ≡ true) × (b ≡ true)
 both_true true b e = (refl, e)
 both_true false b e = (let f : false ≡ true = e in cc)
 
-module _ (used : UsedLaw) (brings : InterfaceLaw) (have : List Interface) (name : List ℕ) (other : name ≡ overlay → ⊥) (closed : (word : List ℕ) → IsClosedUse have word) where
-  found_begun : (g : Environment) (found : Option Interface) → IsBegun name g → IsCompleteScope g → ((i : Interface) → found ≡ Some i → IsClosedInterface i)
+module _ (used : UsedLaw) (brings : InterfaceLaw) (have : List Interface) (name : List ℕ) (other : name ≡ overlay → ⊥) (closed : (word : List ℕ) → IsWellScopedUse have word) where
+  found_begun : (g : Environment) (found : Option Interface) → IsBegun name g → IsCompleteScope g → ((i : Interface) → found ≡ Some i → IsWellScopedInterface i)
       → ((i : Interface) → found ≡ Some i → IsFaithful name g i × IsFit (with_interface g i).types.types) → found_fits g found ≡ true → IsBegun name (with_found g found)
   found_begun g None h c k f fits = h
   found_begun g (Some i) h c k f fits =

@@ -17,7 +17,7 @@ use Rattle.unit_interface.specs.Merge.{with_interface}
 use Rattle.unit_interface.specs.Resolve.{overlay, is_overlay, interface_named, with_use}
 use Rattle.source_order.specs.Orders.{names_of}
 use Rattle.source_interfaces.specs.Scopes.{outer_units, outer_scope}
-use Rattle.closed_scopes.specs.Scopes.{IsClosedUse}
+use Rattle.closed_scopes.specs.Scopes.{IsWellScopedUse}
 use Rattle.sound_tables.specs.Laws.{IsFit}
 use Rattle.front_end.specs.Typed.{IsUnitOf, IsProgram}
 use Rattle.brought_interfaces.specs.Below.{view_unit, EachUse, further_uses, IsSource, IsRoomy, IsFormedIn, end_scope}
@@ -43,7 +43,7 @@ AreFaithful have name g (word ∷ words) = IsFaithfulUse have name g word × Are
 
 -- The interface part uses units whose interfaces are closed and faithful, the implementation part no unit but OVERLAY.
 pub record IsFaithfulSource (have : List Interface) (source : Source) : Type 0 where
-  pub closed : (word : List ℕ) → IsClosedUse have word
+  pub closed : (word : List ℕ) → IsWellScopedUse have word
   pub faithful : AreFaithful have source.name (first source.name) (names_of (outer_units source))
   pub further : EachUse (λ (one : Identifier). is_overlay one.name ≡ true) (further_uses source.tree)
   pub named : source.name ≡ overlay → ⊥

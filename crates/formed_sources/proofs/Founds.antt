@@ -35,7 +35,7 @@ formed sources methods whole typed held name found is texts kept numbered roomy 
       typed = typed held name found.texts.items found.sources.items is.gathers program is.is written room (held_units program.units kept numbered.units) (λ k d h. (kept k d h).table);
     }
 
--- want of memory may come in the place of any program
+-- out of memory may come in the place of any program
 pub none_for_memory : (known : Option Folder) (name : List ℕ) → IfSome known (λ held. IsNoProgram held name outcome.NoMemory)
 none_for_memory None name = tt
 none_for_memory (Some held) name = inl (record { error = gather.NoMemory; cause = tt; is = refl })

@@ -22,7 +22,7 @@ use Rattle.formed_sources.specs.Numbers.{own_members, members_declared}
 with_first : (one : TypeDef) (types : List TypeDef) → members_declared (one ∷ types) ≡ own_members one + members_declared types
 with_first one types = sum_by-cons own_members one types
 
--- of two fronts of a list, the longer has what the shorter has with the next
+-- of two prefixes of a list, the longer has what the shorter has with the next
 longer : (xs ys zs ws : List TypeDef) (w : TypeDef) → xs ++ ys ≡ zs ++ w ∷ ws → length zs < length xs → members_declared zs + own_members w ≤ members_declared xs
 longer [] ys zs ws w e less = absurd (omega (arith, less))
 longer (x ∷ xs) ys [] ws w e less =

@@ -38,7 +38,7 @@ fn are_formed(found: &TypedSources) -> bool
 }
 
 /// The sources of the program of this name with the typed program that they are, which is well-typed: it never comes to an ill-typed step. An error is the
-/// outcome of a command that asks for it: the first refusal in the order of the phases, a fault of the files, or want of memory. It is want
+/// outcome of a command that asks for it: the first refusal in the order of the phases, a fault of the files, or out of memory. It is out
 /// of memory too where 32 bits don't hold the numbers of what the sources declare: limits on texts don't see to that, since a text may
 /// include a file many times.
 pub fn formed_sources<F: Files>(

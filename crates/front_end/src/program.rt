@@ -80,7 +80,7 @@ pub struct TypedSources {
 
 /// The sources of the program of this name, its own and those of all units that it uses, gathered from their files, in order, and
 /// checked, with the typed program that they are. An error is the outcome of a command that asks for it: the first refusal in the
-/// order of the phases, a fault of the files, or want of memory.
+/// order of the phases, a fault of the files, or out of memory.
 pub fn typed_sources<F: Files>(
     alloc: Global,
     name: &Name,

@@ -28,7 +28,7 @@ impl Model for Numbers {
 
 impl Numbers {
     /// The labels at the start of the first body of a unit with so many routines, whose own labels are the first ones. Labels
-    /// that pass the numbers of 32 bits are answered as a want of memory.
+    /// that pass the numbers of 32 bits are answered as out of memory.
     pub fn new(alloc: Global, routines: usize) -> Result<Numbers, AllocError>
         ensures { IfOk result (λ numbers. numbers ≡ begun routines []) }
     {

@@ -167,7 +167,7 @@ fn push_list(
 }
 
 /// Appends the code of a body and the label of its end, which is the number of the unit's routines; its other labels follow.
-/// Each far pointer that is stored gets the next datum. Numbers that pass 32 bits are answered as a want of memory.
+/// Each far pointer that is stored gets the next datum. Numbers that pass 32 bits are answered as out of memory.
 pub fn push_body(
     lines: &mut MarkedLines,
     numbers: &mut Numbers,

@@ -108,7 +108,7 @@ fn push_epilogue(lines: &mut MarkedLines, routine: &FlatRoutine) -> Result<(), A
 }
 
 /// Appends the lines of a routine of a unit, whose arguments have fewer than 65,536 bytes, where the numbers are those of the
-/// unit's routines. Numbers that pass 32 bits are answered as a want of memory.
+/// unit's routines. Numbers that pass 32 bits are answered as out of memory.
 pub fn push_routine(
     lines: &mut MarkedLines,
     numbers: &mut Numbers,

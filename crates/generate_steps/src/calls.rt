@@ -1,4 +1,4 @@
-//! Calls and acts of the machine, behind their arguments.
+//! Calls and effects of the machine, behind their arguments.
 
 ghost use Rattle.std.specs.Prelude.{◌≡◌, ◌++◌, OnOk};
 ghost use Rattle.flat_code.specs.Plain.{view_unit};
@@ -102,7 +102,7 @@ fn end_code() -> [Instr; 3]
     ]
 }
 
-/// Appends an act of the machine, or the far call of a routine of the runtime.
+/// Appends an effect of the machine, or the far call of a routine of the runtime.
 pub(crate) fn push_runtime(lines: &mut MarkedLines, number: u16) -> Result<(), AllocError>
     ensures { OnOk result (lines.new ≡ lines.old ++ marked_runtime number) }
 {

@@ -56,7 +56,7 @@ pub fn push_calling(
     push_taken(lines, far, wanted)
 }
 
-/// Appends a call of an act of the machine or of a routine of the runtime.
+/// Appends a call of an effect of the machine or of a routine of the runtime.
 pub fn push_acting(
     lines: &mut MarkedLines,
     far: bool,

@@ -9,8 +9,8 @@ use Rattle.syntax_tree.specs.Expressions.{of}
 use Rattle.expression_parser.specs.Gives.{Reads, Inside, ask, name_at}
 use Rattle.expression_parser.specs.Reading.{begins, wrong, inside}
 use Rattle.parameter_parser.specs.Reading.{identifiers_at, parameters_at, result_at}
-use Rattle.heading_parser.specs.declared.front.HeaderStart.{HeaderStart}
-use Rattle.heading_parser.specs.declared.front.HeaderStart.TheVariants as start
+use Rattle.heading_parser.specs.declared.lookahead.HeaderStart.{HeaderStart}
+use Rattle.heading_parser.specs.declared.lookahead.HeaderStart.TheVariants as start
 use Rattle.heading_parser.specs.Starting.{header_start}
 
 unfoldable pub uses_by : Bool → Reads

@@ -2,8 +2,8 @@
 use Rattle.std.specs.Prelude.{Option, Some}
 use Rattle.pascal_grammar.specs.declared.kind.Kind.{Kind}
 use Rattle.pascal_grammar.specs.declared.kind.Kind.TheVariants as k
-use Rattle.heading_parser.specs.declared.front.HeaderStart.{HeaderStart}
-use Rattle.heading_parser.specs.declared.front.HeaderStart.TheVariants as start
+use Rattle.heading_parser.specs.declared.lookahead.HeaderStart.{HeaderStart}
+use Rattle.heading_parser.specs.declared.lookahead.HeaderStart.TheVariants as start
 
 abbrev pub header_start : Option Kind → HeaderStart
 header_start (Some k.Procedure) = start.Procedure

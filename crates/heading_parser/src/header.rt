@@ -6,7 +6,7 @@ ghost use Rattle.expression_parser.specs.Gives.{Gives};
 ghost use Rattle.expression_parser.specs.Reading.{inside};
 ghost use Rattle.heading_parser.specs.Reading.{header_at};
 
-use crate::front::{HeaderStart, header_start};
+use crate::lookahead::{HeaderStart, header_start};
 use expression_parser::{ReadError, identifier, mark};
 use parameter_parser::{deeper, read_parameters, read_result};
 use pascal_grammar::{Kind, Lexeme};

@@ -1,7 +1,7 @@
 //! Uses clauses, headings of programs and headers of routines, read from lexemes.
 #![tactic(auto)]
 
-mod front;
+mod lookahead;
 mod header;
 mod heading;
 mod read;

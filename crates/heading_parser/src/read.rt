@@ -22,7 +22,7 @@ use source_tree::{ProgramHeading, RoutineHeader};
 use std::alloc::Global;
 use syntax_tree::Identifier;
 
-/// The units that a uses clause names, none where no clause stands there, and what stands behind it. An error is want of
+/// The units that a uses clause names, none where no clause stands there, and what stands behind it. An error is out of
 /// memory, or the first lexeme at fault.
 pub fn read_uses(
     alloc: Global,

@@ -10,7 +10,7 @@ use Rattle.rt_overlay.specs.Data.{ovr_result_key, ovr_result_datum, ovr_name_dat
 use Rattle.rt_heap.specs.HeapMemory.{HeapPlaces, HoldsHeapData, ReachesHeapData}
 use Rattle.rt_heap.proofs.Places.{places-of}
 use Rattle.heap_runtime.specs.Unit.{heap_code, heap_segment_datum, heap_bytes_datum, heap_state_datum, HoldsHeapUnit}
-use Rattle.heap_runtime.specs.Promises.{ReachesOverlay}
+use Rattle.heap_runtime.specs.Specifications.{ReachesOverlay}
 
 module _ (program : FlatProgram) (choice : Choice) (R : Mention → Type 0) (legal : IsLegal program choice R) (holds : HoldsHeapUnit program) where
   some-offset : (o : Option ℕ) → IsSome o → (offset : ℕ) × (o ≡ Some offset)

@@ -15,7 +15,7 @@ use Rattle.start_data.proofs.Start.{start}
 use Rattle.rt_overlay.specs.Data.{ovr_result_key, ovr_result_datum, ovr_name_datum, HasOverlay}
 use Rattle.rt_heap.specs.HeapMemory.{heap_state_key, HeapPlaces}
 use Rattle.heap_runtime.specs.Unit.{heap_code, heap_segment_datum, heap_bytes_datum, heap_state_datum, HoldsHeapUnit}
-use Rattle.heap_runtime.specs.Promises.{IsFileName, StartsHeap}
+use Rattle.heap_runtime.specs.Specifications.{IsFileName, StartsHeap}
 use Rattle.heap_runtime.proofs.Reached.{heap-reached}
 
 -- ---- words

@@ -9,7 +9,7 @@ use Rattle.rt_heap.proofs.Making.{makes}
 use Rattle.rt_heap.proofs.Disposing.{disposes}
 use Rattle.rt_clear.proofs.Clearing.{clears}
 use Rattle.heap_runtime.specs.Unit.{heap_code, HoldsHeapUnit}
-use Rattle.heap_runtime.specs.Promises.{HeapWorks}
+use Rattle.heap_runtime.specs.Specifications.{HeapWorks}
 
 pub heap-works : (program : FlatProgram) (choice : Choice) (result name : ℕ) → StackFits program choice → HoldsHeapUnit program → HasOverlay program choice result name → HeapWorks program choice result name
 heap-works program choice result name fits holds there = record {

@@ -11,7 +11,7 @@ ghost use Rattle.leaf_routines.specs.Leaves.{AreLeaves};
 ghost use Rattle.rt_overlay.specs.Data.{HasOverlay};
 ghost use Rattle.rt_heap.specs.HeapMemory.{HeapPlaces, ReachesHeapData};
 ghost use Rattle.heap_runtime.specs.Unit.{heap_code, HoldsHeapUnit};
-ghost use Rattle.heap_runtime.specs.Promises.{HeapWorks, ReachesOverlay, IsFileName, StartsHeap};
+ghost use Rattle.heap_runtime.specs.Specifications.{HeapWorks, ReachesOverlay, IsFileName, StartsHeap};
 
 use flat_builders::name;
 use flat_code::{FlatDatum, FlatUnit};

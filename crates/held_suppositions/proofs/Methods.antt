@@ -25,7 +25,7 @@ use Rattle.meaning.specs.Trees.{Key as Class}
 use Rattle.meaning.specs.Programs.{Sort, sort_in, method_key, is_overlay}
 use Rattle.meaning.specs.Activations.{Callee}
 use Rattle.declared_types.specs.Declared.{DeclaredMethod, declared, declared_header, declared_method, AreAlike}
-use Rattle.declared_types.specs.Agreement.{IsUnit, IsKnown, AreAgreed}
+use Rattle.declared_types.specs.Agreement.{IsUnit, IsKnown, AreConsistent}
 use Rattle.declared_types.proofs.Agreed.{get_within}
 use Rattle.declared_types.proofs.Lines.{is_declared}
 use Rattle.declared_classes.specs.Laws.{HasDeclarers}
@@ -79,7 +79,7 @@ named_unit units word number routine few is = by (position (same_bytes word) uni
           same = sym (ap (λ (r : RoutineId). r.number) same);
         }
 
-module _ (program : Program) (agreed : AreAgreed program) (declarers : HasDeclarers program) (own : (unit : typed.Unit) → IsUnit program unit → HasOwn unit)
+module _ (program : Program) (agreed : AreConsistent program) (declarers : HasDeclarers program) (own : (unit : typed.Unit) → IsUnit program unit → HasOwn unit)
     (none_overlay : (unit : typed.Unit) → IsUnit program unit → is_overlay unit.name ≡ false)
     (outermost : (unit : typed.Unit) → IsUnit program unit → (number : ℕ) (routine : Routine) → slice_get unit.routines number ≡ Some routine → is_some routine.owner ≡ true → routine.outer ≡ None) where
   module _ (unit : typed.Unit) (listed : IsUnit program unit) (few : length unit.names < 2 ^ 32) where

@@ -22,7 +22,7 @@ use Rattle.unit_interface.specs.Exports.{in_item, in_items, in_header, is_in, ne
 use Rattle.unit_interface.proofs.OrderLaws.{IsIn}
 use Rattle.unit_interface.proofs.KeptLaws.{get_or-new_ids}
 use Rattle.lawful_methods.specs.Below.{view_unit, with_nothing_else}
-use Rattle.formed_programs.specs.Below.{IsClosedUnit}
+use Rattle.formed_programs.specs.Below.{IsWellScopedUnit}
 use Rattle.told_types.proofs.Known.{keys_long, key_there, type_there}
 use Rattle.told_types.proofs.Shown.{kept_key}
 use Rattle.told_types.proofs.Twice.{AllOf, front, back}
@@ -46,7 +46,7 @@ pub record IsShownUnit (program : Program) (i : Interface) : Type 0 where
   pub named : i.name ≡ unit.name
   pub shows : IsInterfaceOf (with_nothing_else (view_unit unit)) i
   pub keyed : IsKeyed unit.types
-  pub closed : IsClosedUnit unit.types unit.items
+  pub closed : IsWellScopedUnit unit.types unit.items
   pub items : (place : ℕ) (one : Item) → slice_get unit.items place ≡ Some one → IsItem unit one
 
 -- a type that stands in two tables by one key

@@ -19,7 +19,7 @@ use Rattle.lawful_methods.specs.Below.{AreOfKinds, outer_scope, IsShownIn, IsDon
 use Rattle.lawful_methods.proofs.BelowMore as closing
 use Rattle.lawful_methods.proofs.BelowMore.{of_source, new_of}
 use Rattle.lawful_methods.proofs.Below as units
-use Rattle.lawful_methods.proofs.Below.{stands, named_by, shown_some, told_within, IsSoTold, AreUsedSo, typed_name, not_system, contains_at}
+use Rattle.lawful_methods.proofs.Below.{stands, named_by, shown_some, told_within, IsConsistentTable, AreUsedSo, typed_name, not_system, contains_at}
 use Rattle.unit_references.specs.Units.{HasSoundParts}
 use Rattle.held_suppositions.proofs.Shown.{IsShownUnit}
 
@@ -62,7 +62,7 @@ module _ (sources : List Source) (have : List Interface) where
 module _ (sources : List Source) (have : List Interface) (o : AreInOrder sources have) (all : (place : ℕ) → IsDone sources have place) (kinds : AreOfKinds sources) where
   -- what is known of a unit that a source is
   pub record IsTold (s : Source) (unit : typed.Unit) (is : IsUnitOf have s unit) : Type 0 where
-    pub told : IsSoTold have s.name unit.types
+    pub told : IsConsistentTable have s.name unit.types
     pub used : AreUsedSo have s.name s.says (outer_scope have s) s.tree (view_unit unit) is.typed
 
   pub unit_told : (place : ℕ) (s : Source) → slice_get sources place ≡ Some s → (unit : typed.Unit) (is : IsUnitOf have s unit) → IsTold s unit is

@@ -10,7 +10,7 @@ use Rattle.scopes.specs.Symbols.{SymbolList}
 use Rattle.scopes.specs.Environment.{Environment}
 use Rattle.scopes.specs.Predeclared.{first}
 use Rattle.meaning.specs.Programs.{is_overlay}
-use Rattle.declared_types.specs.Agreement.{IsUnit, AreAgreed}
+use Rattle.declared_types.specs.Agreement.{IsUnit, AreConsistent}
 use Rattle.declared_classes.specs.Laws.{HasDeclarers}
 use Rattle.sound_places.specs.Frames.{IsGlobalOf}
 use Rattle.unit_interface.specs.declared.interfaces.Interface.{Interface}
@@ -21,7 +21,7 @@ use Rattle.unit_interface.specs.Resolve.{interface_named}
 use Rattle.source_order.specs.Orders.{all_uses, names_of}
 use Rattle.scopes.specs.declared.entries.Entry.TheVariants as entry
 use Rattle.formed_programs.specs.Laws.{WholeLaw}
-use Rattle.lawful_methods.specs.Below.{outer_units, outer_scope, view_unit, others_of, IsRoomy, end_scope, AreInOrder, ShowsAlike, AgreedLaw, ListedLaw, DeclarersLaw}
+use Rattle.lawful_methods.specs.Below.{outer_units, outer_scope, view_unit, others_of, IsRoomy, end_scope, AreInOrder, ShowsAlike, ConsistencyLaw, ListedLaw, DeclarersLaw}
 use Rattle.lawful_methods.proofs.Below.{unit_told_from, global_told_from, routine_told_from, each_told, listed, typed_at}
 use Rattle.lawful_methods.proofs.Whole.{HasOwn, unit_methods}
 use Rattle.unit_references.specs.Held.{IsRoutineHeld, AreHeld}
@@ -37,7 +37,7 @@ use Rattle.held_suppositions.proofs.Units.{all_at, shown_unit}
 
 -- ---- one unit, by the scope at its end
 
-module _ (have : List Interface) (program : Program) (agreed : AreAgreed program) (declarers : HasDeclarers program) (own : (unit : typed.Unit) → IsUnit program unit → HasOwn unit)
+module _ (have : List Interface) (program : Program) (agreed : AreConsistent program) (declarers : HasDeclarers program) (own : (unit : typed.Unit) → IsUnit program unit → HasOwn unit)
     (parts : (unit : typed.Unit) → IsUnit program unit → HasSoundParts unit) (shown : (word : List ℕ) → resolve.is_overlay word ≡ false → (i : Interface) → interface_named have word ≡ Some i → IsShownUnit program i) where
   none_overlay : (unit : typed.Unit) → IsUnit program unit → is_overlay unit.name ≡ false
   none_overlay unit there = (parts unit there).own
@@ -87,7 +87,7 @@ module _ (have : List Interface) (program : Program) (agreed : AreAgreed program
 
 -- ---- the units of a program
 
-pub all_supported : ShowsAlike → AgreedLaw → ListedLaw → DeclarersLaw → WholeLaw → SupportedLaw
+pub all_supported : ShowsAlike → ConsistencyLaw → ListedLaw → DeclarersLaw → WholeLaw → SupportedLaw
 all_supported alike agreed by_name declarers whole held name texts sources gathers program is written room kept parts unit there =
     let u = is.units in
     let have : List Interface = u.have in

@@ -3,14 +3,14 @@
 ghost use Rattle.held_suppositions.specs.Laws.{SupportedLaw};
 
 use formed_programs::formed_program_laws;
-use lawful_methods::{agreed_program_laws, lawful_method_laws, program_laws};
+use lawful_methods::{consistent_program_laws, lawful_method_laws, program_laws};
 
 /// Each unit of a program that sources give is well formed by what the units that it uses have in the program. It does nothing.
-pub fn held_supposition_laws()
+pub fn satisfied_supposition_laws()
     ensures { SupportedLaw }
 {
     program_laws();
-    agreed_program_laws();
+    consistent_program_laws();
     lawful_method_laws();
     formed_program_laws();
 }

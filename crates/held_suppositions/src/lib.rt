@@ -4,5 +4,5 @@
 mod laws;
 
 pub use formed_programs::formed_program_laws;
-pub use lawful_methods::{agreed_program_laws, lawful_method_laws};
-pub use laws::held_supposition_laws;
+pub use lawful_methods::{consistent_program_laws, lawful_method_laws};
+pub use laws::satisfied_supposition_laws;

@@ -19,8 +19,8 @@ use Rattle.predictive_grammar.specs.Grammar.{token, part}
 use Rattle.predictive_grammar.specs.Readers.{Syntax, through, made, opened}
 use Rattle.predictive_grammar.proofs.Meeting.{then_within}
 use Rattle.syntax_tree.specs.Expressions.{of, word}
-use Rattle.expression_parser.specs.declared.front.FactorStart.{FactorStart}
-use Rattle.expression_parser.specs.declared.front.FactorStart.TheVariants as factor
+use Rattle.expression_parser.specs.declared.lookahead.FactorStart.{FactorStart}
+use Rattle.expression_parser.specs.declared.lookahead.FactorStart.TheVariants as factor
 use Rattle.expression_parser.specs.Gives.{Inside, ask, name_at}
 use Rattle.expression_parser.specs.Gives as g
 use Rattle.expression_parser.specs.Starting.{names as are_names, selector_start, factor_start}

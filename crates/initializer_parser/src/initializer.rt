@@ -8,7 +8,7 @@ ghost use Rattle.initializer_parser.specs.Reading.{valued_inside, initializer_at
 ghost use Rattle.initializer_parser.specs.Views.{field_of};
 ghost use Rattle.type_tree.specs.Initializers.{of_initializer, initializer_list, value_list, field_list, field_value_list};
 
-use crate::front::{begins_field, deeper};
+use crate::lookahead::{begins_field, deeper};
 use crate::list::{FieldValues, Values};
 use expression_parser::{ReadError, begins, identifier, mark, read_simple, skip, tail};
 use pascal_grammar::{Kind, Lexeme};

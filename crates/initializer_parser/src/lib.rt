@@ -1,7 +1,7 @@
 //! First values of typed constants, read from lexemes.
 #![tactic(auto)]
 
-mod front;
+mod lookahead;
 mod initializer;
 mod list;
 mod read;

@@ -25,7 +25,7 @@ use Rattle.tp_check_decl.specs.Interfaces.{items_of, all_declared, declared, int
 use Rattle.tp_check_decl.specs.Shown.{with_nothing_else, outlined, Shows}
 use Rattle.tp_check_decl.specs.Checked.{judged}
 use Rattle.tp_check_decl.proofs.UsedLaws.{used_is}
-use Rattle.interface_laws.specs.Agreement.{IsPaired, IsClosed, IsShownBy, further_units}
+use Rattle.interface_laws.specs.Agreement.{IsPaired, IsWellScoped, IsShownBy, further_units}
 use Rattle.interface_laws.specs.Declared.{Declares}
 use Rattle.interface_laws.proofs.Growing.{Grows, then, declares_none, GrowsTo, grown, unchanged, next}
 use Rattle.interface_laws.proofs.RoutinesGrow.{part_of_grows, heading_grows, all_grow, same_stage, same_draft}
@@ -35,7 +35,7 @@ use Rattle.interface_laws.proofs.Shorter.{known_below, known_past, is_none, long
 -- ---- two units of one name with the same items, where the table of the one was grown from that of the other
 
 module _ (short : Whole) (more : Table) (names : List (List ℕ)) (globals : List Global) (routines : List Finished) (initial : Option ℕ)
-    (grows : Grows short.types more) (grown : IsPaired short.types) (closed : IsClosed short.types.types short.items) where
+    (grows : Grows short.types more) (grown : IsPaired short.types) (closed : IsWellScoped short.types.types short.items) where
   abbrev long : Whole
   long = record short { types = more; names = names; globals = globals; routines = routines; initial = initial }
 
@@ -107,7 +107,7 @@ ends name front items (Some body) g outer d unit h = record { routines = h.left 
 
 -- a unit that ends behind an outline shows what the outline shows
 shown_by : (name : List ℕ) (front : _) (items : List Item) (body : Option CompoundStatement) (g : Environment) (outer : List Global) (d : Drafted) (unit : Whole)
-    → Grows g.types d.scope.types → IsPaired g.types → (ended name front items body d).holds unit → IsClosed g.types.types items
+    → Grows g.types d.scope.types → IsPaired g.types → (ended name front items body d).holds unit → IsWellScoped g.types.types items
     → (interface : Interface) → Shows unit interface ↔ Shows (whole name front g items outer [] None) interface
 shown_by name front items body g outer d unit grows grown h closed interface =
     let short = whole name front g items outer [] None in

@@ -14,7 +14,7 @@ use Rattle.unit_interface.specs.Merge.{new_id, renumbered, with_listed}
 use Rattle.unit_interface.specs.Exports as exports
 use Rattle.unit_interface.specs.Exports.{in_type, in_items, behind, in_front, is_in, known, ReachedWithin, IsReached, kept_before, new_ids, with_kept, kept, renumbered_item}
 use Rattle.unit_interface.proofs.ReachLaws.{goes_either, front_low, front_same}
-use Rattle.interface_laws.specs.Agreement.{IsPaired, IsClosed}
+use Rattle.interface_laws.specs.Agreement.{IsPaired, IsWellScoped}
 use Rattle.interface_laws.proofs.Growing.{Grows}
 use Rattle.interface_laws.proofs.Renumbered.{AreBelow, below_all, below_first, same_type, same_items}
 
@@ -73,7 +73,7 @@ kept_left own numbers ids n (suc k) m e none =
     ∙ ap (λ (b : Bool). cond b (with_kept own ids (kept own numbers ids (n + k)) (n + k)) (kept own numbers ids (n + k))) last
     ∙ kept_left own numbers ids n k (n + k) refl (λ i low high. none i low (omega arith))
 
-module _ (own more : Table) (items : List Item) (grows : Grows own more) (grown : IsPaired own) (closed : IsClosed own.types items) where
+module _ (own more : Table) (items : List Item) (grows : Grows own more) (grown : IsPaired own) (closed : IsWellScoped own.types items) where
   pub longer : length own.types ≤ length more.types
   longer = omega (arith, ap length grows.has_types, length-append own.types grows.types)
 

@@ -21,7 +21,7 @@ pub record IsPaired (table : Table) : Type 0 where
   pub known : All (λ (origin : Origin). origin.unit < length table.units) table.origins
 
 -- Each type that items name, and each that goes with a type of a table, is one of the table.
-pub record IsClosed (types : List TypeDef) (items : List Item) : Type 0 where
+pub record IsWellScoped (types : List TypeDef) (items : List Item) : Type 0 where
   pub named : (number : ℕ) → is_in (in_items items) number ≡ true → number < length types
   pub beside : (by number : ℕ) → is_in (with_type by (slice_get types by)) number ≡ true → number < length types
 
@@ -30,7 +30,7 @@ pub record IsClosed (types : List TypeDef) (items : List Item) : Type 0 where
 pub record IsShownBy (name : List ℕ) (says : Directives) (g : Environment) (tree : Tree) (unit : Whole) : Type 0 where
   pub outline : Whole
   pub holds : (outlined name says g tree).holds outline
-  pub same : IsClosed outline.types.types outline.items → (interface : Interface) → Shows unit interface ↔ Shows outline interface
+  pub same : IsWellScoped outline.types.types outline.items → (interface : Interface) → Shows unit interface ↔ Shows outline interface
 
 -- so it is for every unit of a source
 abbrev pub Agree : Type 0

@@ -124,7 +124,7 @@ impl<'a> Machine<'a> {
         }
     }
 
-    /// Goes on until the run gives a value or is over. A run of 2^64 steps finds no room.
+    /// Goes on until the run gives a value or is over. A run of 2^64 steps is answered as out of memory.
     pub fn finish(&self, run: &mut Run, work: Work<'a>, next: Next<'a>) -> Result<Value, Over>
         ensures { let p = program_of self.now.steps in Comes view_value result (view_run run.new) (next_of p (rest_of p work.entry) (view_activation work.entry.f) next.entry (view_run run.old)) }
     {
@@ -136,6 +136,6 @@ impl<'a> Machine<'a> {
                 Step::Gave(value) => return Ok(value),
             }
         }
-        Err(Over::NoRoom)
+        Err(Over::OutOfMemory)
     }
 }

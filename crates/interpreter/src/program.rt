@@ -136,7 +136,7 @@ fn standing_of(alloc: Global, run: &mut Run, over: Over) -> Result<MeanEnd, Allo
     ensures { (o : Outcome PureValue) → Ends over (view_run run.old) o → IfOk result (λ end. seen_of o ≡ seen_so (view_end end) (view_run run.new)) }
 {
     match over {
-        Over::NoRoom => Err(AllocError),
+        Over::OutOfMemory => Err(AllocError),
         Over::Going => Ok(MeanEnd::Going),
         Over::Ended(code) => Ok(MeanEnd::Ended(code)),
         Over::Undefined(act) => Ok(MeanEnd::Undefined(act)),

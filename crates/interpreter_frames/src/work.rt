@@ -31,7 +31,7 @@ pub struct Work<'a> {
 // The place of a `with` is held.
 fn hold_place<'a>(f: &mut Activation<'a>, at: Reached<'a>) -> Result<(), Over>
     ensures ok { OnOk result (view_activation f.new ≡ with_held (view_activation f.old) (view_reached at.entry)) }
-    ensures err { IfErr result (λ over. over ≡ Over.NoRoom) }
+    ensures err { IfErr result (λ over. over ≡ Over.OutOfMemory) }
 {
     f.withs.push(at)?;
     Ok(())
@@ -41,7 +41,7 @@ impl<'a> Work<'a> {
     fn push(&mut self, frame: Frame<'a>) -> Result<(), Over>
         ensures frames { OnOk result (self.new.frames.items ≡ self.old.frames.items ++ frame.entry ∷ []) }
         ensures activation { self.new.f ≡ self.old.f }
-        ensures err { IfErr result (λ over. over ≡ Over.NoRoom) }
+        ensures err { IfErr result (λ over. over ≡ Over.OutOfMemory) }
     {
         self.frames.push(frame)?;
         Ok(())
@@ -75,7 +75,7 @@ impl<'a> Work<'a> {
     pub fn expect(&mut self, frame: OnValue<'a>) -> Result<(), Over>
         ensures rest { (p : Program) → OnOk result (rest_of p self.new ≡ framed p (rest_of p self.old) (Frame.Value frame.entry)) }
         ensures activation { self.new.f ≡ self.old.f }
-        ensures err { IfErr result (λ over. over ≡ Over.NoRoom) }
+        ensures err { IfErr result (λ over. over ≡ Over.OutOfMemory) }
     {
         self.push(Frame::Value(frame))?;
         Ok(())

@@ -123,7 +123,7 @@ ends_with trap.IllTyped s store o x = x
 
 effect_stops : {B : Type 0} (view : B → Value × Store) (program : Program) (effect : Effect) (s : State) (store : Store) (one : Stop) → Gets view (Err one) (effect_left program effect s.input s.store)
     → Ends (over_of one) (record s { store = store }) (effect_done program effect s)
-effect_stops view program effect s store stop.NoRoom h = tt
+effect_stops view program effect s store stop.OutOfMemory h = tt
 effect_stops view program effect s store (stop.Trapped trap) h = ends_with trap s store (effect_done program effect s) (effect_ends program effect s trap h)
 
 pub performed_ends : {B : Type 0} (view : B → Value × Store) (program : Program) (f : Activation) (ty : Option TypeId) (number : ℕ) (args : List Operand) (s : State) (store : Store) (one : Standard) (sort : Option Sort) (why : Stop)

@@ -17,7 +17,7 @@ through (Done a s) go seen e = absurd cc
 through (OverIn standing s) go seen e = e
 
 pub ends_bind : {A B : Type 0} (one : Over) (s : State) (o : Outcome A) (go : A → Does B) → Ends one s o → Ends one s (and_then o go)
-ends_bind over.NoRoom s o go e = tt
+ends_bind over.OutOfMemory s o go e = tt
 ends_bind over.Going s o go e = through o go _ e
 ends_bind (over.Ended code) s o go e = through o go _ e
 ends_bind (over.Error code) s o go e = through o go _ e

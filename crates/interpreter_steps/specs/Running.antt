@@ -45,7 +45,7 @@ over_of_trap (trap.Error code) = over.Error code
 over_of_trap trap.IllTyped = over.Stuck
 
 abbrev pub over_of : Stop → Over
-over_of stop.NoRoom = over.NoRoom
+over_of stop.OutOfMemory = over.OutOfMemory
 over_of (stop.Trapped trap) = over_of_trap trap
 
 -- what a run shows once it is over
@@ -53,10 +53,10 @@ abbrev pub shown : {A : Type 0} → Outcome A → Option Seen
 shown (Done a s) = None
 shown (OverIn standing s) = Some (seen_so standing s)
 
--- The run is over in s, as the outcome says. The store that it leaves doesn't matter, and where there was no room nothing is
+-- The run is over in s, as the outcome says. The store that it leaves doesn't matter, and where memory ran out nothing is
 -- said.
 abbrev pub Ends : {A : Type 0} → Over → State → Outcome A → Type 0
-Ends over.NoRoom s o = Unit {0}
+Ends over.OutOfMemory s o = Unit {0}
 Ends over.Going s o = shown o ≡ Some (seen_so Going s)
 Ends (over.Ended code) s o = shown o ≡ Some (seen_so (Ended code) s)
 Ends (over.Error code) s o = shown o ≡ Some (seen_so (Ended code) (record s { err = s.err ++ error_text code }))

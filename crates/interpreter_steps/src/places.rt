@@ -35,7 +35,7 @@ fn outside(checked: bool) -> Over
     }
 }
 
-// The part of a place at an index. A part whose number passes 32 bits finds no room.
+// The part of a place at an index. A part whose number passes 32 bits is answered as out of memory.
 fn element_between<'a>(
     alloc: Global,
     at: &Spot,
@@ -115,12 +115,12 @@ impl<'a> Interpreter<'a> {
         })
     }
 
-    /// The place of a field. What stands in a table of its own has no field, and finds no room.
+    /// The place of a field. What stands in a table of its own has no field, and is answered as out of memory.
     pub fn field_at(&self, at: &Reached<'a>, number: u32) -> Result<Reached<'a>, Over>
         ensures { (s : State) → Comes view_reached result s (field_at (view_reached at.now) number s) }
     {
         match at.sort {
-            Sort::Alone(_) => Err(Over::NoRoom),
+            Sort::Alone(_) => Err(Over::OutOfMemory),
             Sort::Of { types, ty } => self.field_of(at, types, ty, number),
         }
     }
@@ -198,7 +198,7 @@ impl<'a> Interpreter<'a> {
         }
     }
 
-    /// The place of an element. What stands in a table of its own has no element, and finds no room.
+    /// The place of an element. What stands in a table of its own has no element, and is answered as out of memory.
     pub fn element_at(
         &self,
         at: &Reached<'a>,
@@ -209,7 +209,7 @@ impl<'a> Interpreter<'a> {
     {
         let z = index.number()?;
         match at.sort {
-            Sort::Alone(_) => Err(Over::NoRoom),
+            Sort::Alone(_) => Err(Over::OutOfMemory),
             Sort::Of { types, .. } => self.element_of(at, types, checked, z),
         }
     }

@@ -19,7 +19,7 @@ pub enum Flow {
 /// Why a run goes no further.
 #[derive(Clone, Copy, Debug, PartialEq, Eq)]
 pub enum Over {
-    NoRoom,
+    OutOfMemory,
     /// A turn is due, and none is left.
     Going,
     Ended(u8),
@@ -34,20 +34,20 @@ pub enum Over {
 impl From<AllocError> for Over {
     ghost use Rattle.interpreter_steps.specs.declared.state.Over.{Over};
 
-    ghost from_gives = { λ _ over. over ≡ Over.NoRoom };
+    ghost from_gives = { λ _ over. over ≡ Over.OutOfMemory };
 
     fn from(_error: AllocError) -> Over {
-        Over::NoRoom
+        Over::OutOfMemory
     }
 }
 
 impl<T: Drop> From<AllocFailed<T>> for Over {
     ghost use Rattle.interpreter_steps.specs.declared.state.Over.{Over};
 
-    ghost from_gives = { λ _ over. over ≡ Over.NoRoom };
+    ghost from_gives = { λ _ over. over ≡ Over.OutOfMemory };
 
     fn from(_error: AllocFailed<T>) -> Over {
-        Over::NoRoom
+        Over::OutOfMemory
     }
 }
 
@@ -72,7 +72,7 @@ impl From<Stop> for Over {
 
     fn from(stop: Stop) -> Over {
         match stop {
-            Stop::NoRoom => Over::NoRoom,
+            Stop::OutOfMemory => Over::OutOfMemory,
             Stop::Trapped(Trap::Act(number)) => Over::Undefined(number),
             Stop::Trapped(Trap::Error(code)) => Over::Error(code),
             Stop::Trapped(Trap::IllTyped) => Over::Stuck,

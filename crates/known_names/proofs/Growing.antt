@@ -22,7 +22,7 @@ use Rattle.scopes.specs.Environment.{Environment}
 use Rattle.method_rules.specs.Slots.{methods_of}
 use Rattle.typed_nodes.specs.Tables.{IsInTable, IsResultIn, IsHeaderIn, IsSound}
 use Rattle.typed_methods.specs.Declared.{IsMethod, HasMethods}
-use Rattle.wider_scopes.specs.Wider.{IsSame, Widens}
+use Rattle.wider_scopes.specs.Weakening.{IsSame, Weakens}
 use Rattle.wider_scopes.proofs.Types.{more_kept, more_value}
 use Rattle.known_names.specs.Known.{opening, open_in, AreNested, IsDeep, IsVariableIn, IsAtDepth, IsDeclaredIn, IsEntry, EachOf, EachIn, IsPlaced, AreKnown, variables_at, levels_in, scope_over}
 use Rattle.known_names.specs.Growing.{Extends}
@@ -158,7 +158,7 @@ module _ (g : Environment) (s : Scope) (h : AreKnown g s) where
     blocks = blocks_kept s t e h.sound [] g.blocks h.blocks;
   }
 
-  pub wider : (t : Scope) → Extends s t → Widens (scope_over s (open_in g)) (scope_over t (open_in g))
+  pub wider : (t : Scope) → Extends s t → Weakens (scope_over s (open_in g)) (scope_over t (open_in g))
   wider t e = record {
     defined = h.sound.defined;
     types = e.types;

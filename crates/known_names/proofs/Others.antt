@@ -16,7 +16,7 @@ use Rattle.scopes.specs.Symbols.{SymbolList}
 use Rattle.scopes.specs.Environment.{Environment}
 use Rattle.method_rules.specs.Slots.{methods_of}
 use Rattle.method_rules.specs.Methods.{routine_in}
-use Rattle.wider_scopes.specs.Wider.{AreAmong}
+use Rattle.wider_scopes.specs.Weakening.{AreAmong}
 use Rattle.known_names.specs.Known.{EachOf}
 use Rattle.known_names.specs.Others.{units_at, globals_by, globals_in, globals_used, routines_by, routines_in, routines_used, method_by, methods_from, methods_at, naming, others_of}
 use Rattle.known_names.proofs.Members.{one_front, one_back, one_of_both, one_only, one_none, all_members}

@@ -5,7 +5,7 @@ use Rattle.type_layout.specs.declared.definitions.TypeDef.{TypeDef}
 use Rattle.typed_tree.specs.declared.units.Routine.{Routine}
 use Rattle.type_fits.specs.Routines.{variables_of}
 use Rattle.well_formed.specs.Scopes.{Scope}
-use Rattle.wider_scopes.specs.Wider.{IsSame, AreAmong}
+use Rattle.wider_scopes.specs.Weakening.{IsSame, AreAmong}
 
 -- the same routine, whose block may have declared more
 pub record IsFurther (one other : Routine) : Type 0 where

@@ -9,7 +9,7 @@ use Rattle.scopes.specs.declared.entries.BlockKind.TheVariants as block
 use Rattle.scopes.specs.Environment.{Environment, with_name, with_block, without_block}
 use Rattle.typed_nodes.specs.Tables.{IsSound}
 use Rattle.typed_methods.specs.Declared.{HasMethods}
-use Rattle.wider_scopes.specs.Wider.{Widens}
+use Rattle.wider_scopes.specs.Weakening.{Weakens}
 use Rattle.checked_statements.specs.Within.{AgreesWithin}
 use Rattle.known_names.specs.Known.{open_in, first_in, IsEntry, IsPlaced, AreKnown, scope_over}
 use Rattle.known_names.specs.Growing.{Extends}
@@ -33,7 +33,7 @@ pub record FollowsIn (g : Environment) (s : Scope) : Type 0 where
   pub further : (types : Table) (t : Scope) → Extends s t → HasMethods (typing g types) t → IsSound t.types
       → ((number : ℕ) (one : Routine) → slice_get t.routines number ≡ Some one → IsPlaced one) → AreKnown (typing g types) t
   -- of which the innermost block may name as much, and more
-  pub wider : (t : Scope) → Extends s t → Widens (scope_over s (open_in g)) (scope_over t (open_in g))
+  pub wider : (t : Scope) → Extends s t → Weakens (scope_over s (open_in g)) (scope_over t (open_in g))
 
 abbrev pub NameLaw : Type 0
 NameLaw = (g : Environment) (s : Scope) → AreKnown g s → FollowsIn g s

@@ -20,9 +20,9 @@ use Rattle.unit_interface.proofs.KeyLaws.{keys_stay}
 use Rattle.routines.specs.Drafts.{Numbered}
 use Rattle.agreed_programs.proofs.Below.{Grows}
 use Rattle.checked_units.proofs.Below.{nothing_at}
-use Rattle.told_types.specs.Told.{Stands}
+use Rattle.told_types.specs.Consistency.{Stands}
 use Rattle.told_types.proofs.Known.{keys_long, key_there}
-use Rattle.agreed_programs.specs.Told.{AreOwned}
+use Rattle.agreed_programs.specs.Consistency.{AreOwned}
 use Rattle.lawful_methods.proofs.Numbered.{in_class, IsRoutineOf, HaveRoutines, IsBehind, class_on, all_placed, all_methods}
 
 -- the key of the type that declares a method, whose unit is that of the method

@@ -20,7 +20,7 @@ use Rattle.meaning.specs.Found.{Found, ◌>>=◌, known}
 use Rattle.meaning.specs.Programs.{Sort, definition, class_by, class_key, method_key}
 use Rattle.meaning.specs.Activations.{Callee, callee_of}
 use Rattle.declared_types.specs.Declared.{DeclaredMethod, declared, declared_header, declared_method, AreAlike}
-use Rattle.declared_types.specs.Agreement.{IsUnit, IsKnown, IsLawful, AreAgreed}
+use Rattle.declared_types.specs.Agreement.{IsUnit, IsKnown, IsLawful, AreConsistent}
 use Rattle.declared_types.proofs.Agreed.{within_get, get_within}
 use Rattle.declared_types.proofs.Lines.{is_declared}
 use Rattle.declared_classes.specs.Laws.{HasDeclarers}
@@ -31,7 +31,7 @@ use Rattle.tp_outside.specs.Folder.{Folder}
 use Rattle.tp_lexer.specs.declared.token.Text.{Text}
 use Rattle.source_gathering.specs.Walk.{Gathers}
 use Rattle.agreed_programs.specs.Below.{outer_scope, IsProgram}
-use Rattle.agreed_programs.specs.Laws.{AgreedLaw, DeclarersLaw}
+use Rattle.agreed_programs.specs.Laws.{ConsistencyLaw, DeclarersLaw}
 use Rattle.agreed_programs.proofs.Keys.{class_of, declared_at}
 use Rattle.agreed_programs.proofs.Whole.{listed}
 use Rattle.agreed_programs.proofs.Sources.{source_of}
@@ -69,7 +69,7 @@ pub record HasOwn (unit : typed.Unit) : Type 0 where
   pub named : (ty : TypeId) (class : Class) (place : ℕ) (method : Method) → declared unit.types ty ≡ Some class → slice_get (in_class unit.types ty) place ≡ Some method
       → slice_get unit.types.units method.routine.unit ≡ Some class.unit
 
-module _ (program : Program) (agreed : AreAgreed program) (declarers : HasDeclarers program) (own : (unit : typed.Unit) → IsUnit program unit → HasOwn unit) where
+module _ (program : Program) (agreed : AreConsistent program) (declarers : HasDeclarers program) (own : (unit : typed.Unit) → IsUnit program unit → HasOwn unit) where
   -- a method of any table, by the method of the unit that declares the type
   method_is : (class : Sort) (unit : typed.Unit) (ty : TypeId) (method other : Method) (key : Class) → IsUnit program unit → class_key class ≡ declared unit.types ty → declared_method unit.types other ≡ declared_method class.table method
       → method_key class.table method ≡ Some key → slice_get unit.types.units other.routine.unit ≡ Some unit.name → IsOwnMethod unit ty other → IsMethod program key class (declared_header class.table method.header)
@@ -147,14 +147,14 @@ module _ (held : Folder) (name : List ℕ) (texts : List Text) (sources : List S
 pub all_own_methods : OwnMethodsLaw
 all_own_methods held name texts sources gathers program is unit there = (unit_methods held name texts sources gathers program is unit there).routines
 
-module _ (agreed : AgreedLaw) (declarers : DeclarersLaw) where
+module _ (agreed : ConsistencyLaw) (declarers : DeclarersLaw) where
   pub all_lawful : LawfulLaw
   all_lawful held name texts sources gathers program is kept = record {
     answers = unit_answers held name texts sources gathers program is;
     routines = routines program (agreed held name texts sources gathers program is kept) (declarers held name texts sources gathers program is) (unit_methods held name texts sources gathers program is);
   }
 
-  module _ (law : (program : Program) → AreAgreed program → HasLawfulMethods program → HasMethods program) where
+  module _ (law : (program : Program) → AreConsistent program → HasLawfulMethods program → HasMethods program) where
     pub all_have_methods : MethodsLaw
     all_have_methods held name texts sources gathers program is kept =
         law program (agreed held name texts sources gathers program is kept) (all_lawful held name texts sources gathers program is kept)

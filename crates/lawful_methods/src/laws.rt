@@ -2,7 +2,7 @@
 
 ghost use Rattle.lawful_methods.specs.Laws.{AnswersLaw, OwnMethodsLaw, LawfulLaw, MethodsLaw};
 
-use agreed_programs::agreed_program_laws;
+use agreed_programs::consistent_program_laws;
 use declared_methods::declared_method_laws;
 
 /// In a program that sources give, overriding keeps to the rule, each method has its routine in the unit that declares it, and so a class
@@ -13,6 +13,6 @@ pub fn lawful_method_laws()
     ensures lawful { LawfulLaw }
     ensures methods { MethodsLaw }
 {
-    agreed_program_laws();
+    consistent_program_laws();
     declared_method_laws();
 }

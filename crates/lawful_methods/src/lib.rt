@@ -3,5 +3,5 @@
 
 mod laws;
 
-pub use agreed_programs::{agreed_program_laws, program_laws};
+pub use agreed_programs::{consistent_program_laws, program_laws};
 pub use laws::lawful_method_laws;

@@ -6,7 +6,7 @@ use Rattle.flat_code.specs.Program.{Name, Key, Routine, FlatProgram}
 use Rattle.flat_code.specs.Meaning.{activation_bytes}
 use Rattle.flat_code.specs.Legal.{IsThere, CodeNames, code_depth, RuntimeCalls}
 
--- acts of the machine are no calls
+-- effects of the machine are no calls
 abbrev pub is_leaf_step : Step → Bool
 is_leaf_step (StoreByte to value) = true
 is_leaf_step (StoreWord to value) = true

@@ -34,7 +34,7 @@ error_of cause.BadPages = error.BadPages
 error_of (cause.BadRelocation number) = error.BadRelocation number
 error_of cause.NoBlock = error.NoBlock
 
--- An error has its cause; want of memory is free.
+-- An error has its cause; out of memory is free.
 abbrev pub IsRefusal : List ℕ → ExeError → Type 0
 IsRefusal bytes error.Short = IsCause bytes cause.Short
 IsRefusal bytes error.NotMz = IsCause bytes cause.NotMz

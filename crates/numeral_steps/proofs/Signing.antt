@@ -11,7 +11,7 @@ use Rattle.routine_proofs.specs.Activation.{Activation}
 use Rattle.routine_proofs.specs.Straight.{Onward, straight}
 use Rattle.numeral_steps.specs.Stages.{numeral_words, stage_words}
 use Rattle.numeral_steps.specs.Step.{give_sign}
-use Rattle.numeral_steps.specs.Promises.{GivesSign, Signs}
+use Rattle.numeral_steps.specs.Specifications.{GivesSign, Signs}
 use Rattle.numeral_steps.proofs.Widening.{straight-widens}
 
 positive : (m : ℕ) → m < 2147483648 → cast_unsigned w32 (pos m) ≡ m

@@ -16,7 +16,7 @@ use Rattle.routine_proofs.specs.Straight.{Onward, Came, seen_value, continued, s
 use Rattle.routine_proofs.proofs.Replies.{test_of, taken_of, other_of, next_of, taken-so, other-so}
 use Rattle.numeral_steps.specs.Stages.{numeral_words, stage_words, IsAt, at_stage, at_none}
 use Rattle.numeral_steps.specs.Step.{stop, take_digit, digit_step, dollar_step, numeral_step}
-use Rattle.numeral_steps.specs.Promises.{Steps, StepsOn}
+use Rattle.numeral_steps.specs.Specifications.{Steps, StepsOn}
 use Rattle.numeral_steps.proofs.Widening.{straight-widens}
 use Rattle.numeral_steps.proofs.Digits.{and-bits, or-bits, digit_word, is-digit-so, digit-worth, low_grown, high_grown, grown, too-much, fits-so}
 

@@ -1,4 +1,4 @@
 pub mod Stages
 pub mod Step
 pub mod Widening
-pub mod Promises
+pub mod Specifications

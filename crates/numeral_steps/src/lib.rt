@@ -8,7 +8,7 @@ ghost use Rattle.flat_code.specs.Meaning.{Frame};
 ghost use Rattle.routine_proofs.specs.Activation.{Slot};
 ghost use Rattle.numeral_steps.specs.Step.{is_number as is_number_code, is_byte as is_byte_code, begin_numeral as begin_numeral_code, stop, if_above, digit_of_byte, grown_low, grown_high, fits, take_digit, digit_step, dollar_step, numeral_step as numeral_step_code, negate, give_sign as give_sign_code};
 ghost use Rattle.numeral_steps.specs.Widening.{Widens};
-ghost use Rattle.numeral_steps.specs.Promises.{StepsOn, Signs};
+ghost use Rattle.numeral_steps.specs.Specifications.{StepsOn, Signs};
 
 use flat_builders::{op, set, when, word};
 use flat_code::{FlatExpr, FlatList, FlatOp};

@@ -60,7 +60,7 @@ fn built(alloc: Global, types: &Types) -> Result<Classes, ClassError>
     Ok(Classes::from_vec(classes))
 }
 
-/// The classes of a table of types. Any error but want of memory tells a rule that fails at that name in the line of
+/// The classes of a table of types. Any error but out of memory tells a rule that fails at that name in the line of
 /// a type; where several fail, it tells the first in the order of the table.
 pub fn classes(alloc: Global, types: &Types) -> Result<Classes, ClassError>
     ensures ok { IfOk result (λ classes. classes ≡ members_of types.now.types) }

@@ -7,7 +7,7 @@ use Rattle.outcomes.specs.declared.outcome.Outcome.TheVariants as outcome
 use Rattle.front_end.specs.Typed.{IsProgramIn}
 use Rattle.front_end.specs.Untyped.{IsNoProgram}
 
--- want of memory, or a fault of the files
+-- out of memory, or a fault of the files
 abbrev pub IsExempt : Outcome → Type 0
 IsExempt outcome.FilesFault = Unit {0}
 IsExempt outcome.NoMemory = Unit {0}

@@ -105,7 +105,7 @@ pub record IsMisfitOf (bytes : List ℕ) (held : Option (List ℕ)) (buffer : Op
   pub overlays_are : HasOverlays (exe_of bytes).block.stubs held overlays
   pub misfit : IsMisfit (exe_of bytes) overlays (room_of buffer overlays) error
 
--- Why it was not opened. Want of memory and faults of the files have no cause in the bytes.
+-- Why it was not opened. Out of memory and faults of the files have no cause in the bytes.
 abbrev pub IsRefused : List ℕ → List ℕ → Option (List ℕ) → Option ℕ → OpenError → Type 0
 IsRefused bytes name held buffer (errors.NotExecutable cause) = IsCause bytes cause
 IsRefused bytes name held buffer (errors.MissingFile other) =
@@ -116,7 +116,7 @@ IsRefused bytes name held buffer errors.FilesFault = Unit {0}
 IsRefused bytes name held buffer errors.NoMemory = Unit {0}
 IsRefused bytes name held buffer error = IsMisfitOf bytes held buffer error
 
--- Want of memory and faults of the files have no reason in the bytes. Each other answer has.
+-- Out of memory and faults of the files have no reason in the bytes. Each other answer has.
 abbrev pub HasReason : OpenError → Type 0
 HasReason errors.FilesFault = ⊥
 HasReason errors.NoMemory = ⊥

@@ -190,7 +190,7 @@ fn refusal(alloc: Global, exe: &[u8], overlays: &[u8]) -> Result<(u8, u64), Allo
 }
 
 #[test]
-fn refuses_each_front_of_its_files(rt: HostRuntime) -> Result<(), Fail> {
+fn refuses_each_prefix_of_its_files(rt: HostRuntime) -> Result<(), Fail> {
     for size in 0..CALLS.len() {
         assert_eq!(rt; refusal(rt.alloc(), &CALLS[..size], &OVR)?, (15, 0));
     }

@@ -25,8 +25,8 @@ use Rattle.expression_parser.specs.Reading.{begins, inside}
 use Rattle.expression_parser.proofs.Shorter.{IsShort}
 use Rattle.expression_parser.proofs.Sound.{Held, inside_reads}
 use Rattle.expression_parser.proofs.Exact.{no_longer}
-use Rattle.parameter_parser.specs.declared.front.MethodStart.{MethodStart}
-use Rattle.parameter_parser.specs.declared.front.MethodStart.TheVariants as method
+use Rattle.parameter_parser.specs.declared.lookahead.MethodStart.{MethodStart}
+use Rattle.parameter_parser.specs.declared.lookahead.MethodStart.TheVariants as method
 use Rattle.parameter_parser.specs.Chains.{chain_from}
 use Rattle.parameter_parser.specs.Starting.{method_start, is_method}
 use Rattle.parameter_parser.specs.Reading.{identifiers_at, more_identifiers_at, parameter_type_by, parameter_type_at, result_type_by, result_type_at, result_by, result_at, group_type_by, group_type_at, group_by, group_at, more_groups_at, parameters_by, parameters_at, method_header_by, method_header_at, virtual_by, virtual_at, method_at, begins_method, methods, methods_at}

@@ -9,8 +9,8 @@ use Rattle.predictive_grammar.specs.Readers.{◌>>=◌, made, opened}
 use Rattle.syntax_tree.specs.Expressions.{Parsed, of}
 use Rattle.expression_parser.specs.Gives.{Reads, Inside, ask, name_at}
 use Rattle.expression_parser.specs.Reading.{begins, wrong, leaves, list_from, inside}
-use Rattle.parameter_parser.specs.declared.front.MethodStart.{MethodStart}
-use Rattle.parameter_parser.specs.declared.front.MethodStart.TheVariants as method
+use Rattle.parameter_parser.specs.declared.lookahead.MethodStart.{MethodStart}
+use Rattle.parameter_parser.specs.declared.lookahead.MethodStart.TheVariants as method
 use Rattle.parameter_parser.specs.Chains.{ReadsTo, Chain, chain_at}
 use Rattle.parameter_parser.specs.Starting.{method_start, is_method}
 

@@ -2,8 +2,8 @@
 use Rattle.std.specs.Prelude.{Bool, true, false, Option, Some}
 use Rattle.pascal_grammar.specs.declared.kind.Kind.{Kind}
 use Rattle.pascal_grammar.specs.declared.kind.Kind.TheVariants as k
-use Rattle.parameter_parser.specs.declared.front.MethodStart.{MethodStart}
-use Rattle.parameter_parser.specs.declared.front.MethodStart.TheVariants as m
+use Rattle.parameter_parser.specs.declared.lookahead.MethodStart.{MethodStart}
+use Rattle.parameter_parser.specs.declared.lookahead.MethodStart.TheVariants as m
 
 abbrev pub method_start : Option Kind → MethodStart
 method_start (Some k.Procedure) = m.Procedure

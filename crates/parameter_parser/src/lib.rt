@@ -1,13 +1,13 @@
 //! Names, parameters, results and methods of Turbo Pascal, read from lexemes.
 #![tactic(auto)]
 
-mod front;
+mod lookahead;
 mod list;
 mod method;
 mod names;
 mod parameter;
 mod read;
 
-pub use front::deeper;
+pub use lookahead::deeper;
 pub use list::push;
 pub use read::{read_identifiers, read_methods, read_parameters, read_result, read_result_type};

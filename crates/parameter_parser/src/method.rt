@@ -7,7 +7,7 @@ ghost use Rattle.parameter_parser.specs.Reading.{method_header_at, virtual_at, m
 ghost use Rattle.syntax_tree.specs.Expressions.{word};
 ghost use Rattle.type_tree.specs.Parameters.{method_header_of, virtual_of, methods_of};
 
-use crate::front::{MethodStart, begins_method, deeper, method_start};
+use crate::lookahead::{MethodStart, begins_method, deeper, method_start};
 use crate::list::push;
 use crate::parameter::{next_parameters, next_result};
 use expression_parser::{ReadError, begins, identifier, mark, skip};

@@ -8,7 +8,7 @@ ghost use Rattle.expression_parser.specs.Reading.{inside};
 ghost use Rattle.parameter_parser.specs.Reading.{parameter_type_at, result_type_at, result_at, group_type_at, group_at, group_list_at, parameters_at};
 ghost use Rattle.type_tree.specs.Parameters.{parameter_type_of, result_type_of, result_of, of_group, group_list, parameters_of};
 
-use crate::front::deeper;
+use crate::lookahead::deeper;
 use crate::list::push;
 use crate::names::next_identifiers;
 use expression_parser::{ReadError, begins, identifier, mark, skip, tail};

@@ -21,7 +21,7 @@ use std::alloc::Global;
 use syntax_tree::Identifier;
 use type_tree::{Method, NamedType, ParameterGroup};
 
-/// The names behind commas that the first lexemes spell, at least one, and what stands behind them. An error is want of
+/// The names behind commas that the first lexemes spell, at least one, and what stands behind them. An error is out of
 /// memory, or the first lexeme at fault.
 pub fn read_identifiers(
     alloc: Global,

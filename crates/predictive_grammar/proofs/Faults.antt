@@ -6,7 +6,7 @@ use Rattle.predictive_grammar.specs.Readers.{Fault, Syntax, LeftOut, TooDeep, le
 use Rattle.predictive_grammar.specs.Sources.{place, Spells, Begins, GoesOn, IsSyntax, IsLeftOut, IsTooDeep, IsFault, SameFault}
 use Rattle.predictive_grammar.proofs.Meeting.{deep_in_most}
 
--- the shorter front of a list begins the longer one
+-- the shorter prefix of a list begins the longer one
 fronts : {X : Type 0} (m k : ℕ) (l : List X) → m ≤ k → (q : List X) × (take k l ≡ take m l ++ q)
 fronts zero k l h = (take k l, refl)
 fronts (suc m) zero l h = absurd (omega arith)

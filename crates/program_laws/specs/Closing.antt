@@ -14,8 +14,8 @@ use Rattle.tp_check_decl.specs.Shown.{Shows}
 use Rattle.source_interfaces.specs.Scopes.{outer_scope}
 use Rattle.source_interfaces.specs.Interfaces.{AreShown, IsAcyclic}
 use Rattle.front_end.specs.Typed.{IsUnitOf, IsProgram}
-use Rattle.closed_scopes.specs.Scopes.{IsCompleteScope, IsClosedInterface, IsClosedUse}
-use Rattle.closed_tables.specs.Tables.{IsClosedUnit}
+use Rattle.closed_scopes.specs.Scopes.{IsCompleteScope, IsWellScopedInterface, IsWellScopedUse}
+use Rattle.closed_tables.specs.Tables.{IsWellScopedUnit}
 
 -- These are sources that were gathered, none of which lies on a circle of uses in interface parts, and interfaces that they show.
 pub record AreInOrder (sources : List Source) (have : List Interface) : Type 0 where
@@ -28,12 +28,12 @@ pub record AreInOrder (sources : List Source) (have : List Interface) : Type 0 w
 
 -- Then each interface is closed; the scope that a source is read over is complete where the source has a typed unit; and the typed
 -- unit names types of its table alone.
-pub record AreClosed : Type 0 where
-  pub interfaces : (sources : List Source) (have : List Interface) → AreInOrder sources have → All IsClosedInterface have
-  pub uses : (sources : List Source) (have : List Interface) → AreInOrder sources have → (name : List ℕ) → IsClosedUse have name
+pub record AreWellScoped : Type 0 where
+  pub interfaces : (sources : List Source) (have : List Interface) → AreInOrder sources have → All IsWellScopedInterface have
+  pub uses : (sources : List Source) (have : List Interface) → AreInOrder sources have → (name : List ℕ) → IsWellScopedUse have name
   pub scopes : (sources : List Source) (have : List Interface) → AreInOrder sources have → (source : Source) (unit : Unit) → IsUnitOf have source unit
       → IsCompleteScope (outer_scope have source)
-  pub units : (sources : List Source) (have : List Interface) → AreInOrder sources have → (source : Source) (unit : Unit) → IsUnitOf have source unit → IsClosedUnit unit.types unit.items
+  pub units : (sources : List Source) (have : List Interface) → AreInOrder sources have → (source : Source) (unit : Unit) → IsUnitOf have source unit → IsWellScopedUnit unit.types unit.items
 
 -- What the others see of a source, its typed unit shows.
 abbrev pub ShowsAlike : Type 0
@@ -41,6 +41,6 @@ ShowsAlike = (sources : List Source) (have : List Interface) → AreInOrder sour
     → (interface : Interface) → interface_named have source.name ≡ Some interface → Shows (view_unit unit) interface
 
 -- All units of a program are closed.
-abbrev pub ClosedUnits : Type 0
-ClosedUnits = (held : Folder) (name : List ℕ) (texts : List Text) (sources : List Source) → Gathers held name texts sources
-    → (program : Program) → IsProgram sources program → All (λ unit. IsClosedUnit unit.types unit.items) program.units
+abbrev pub WellScopedUnits : Type 0
+WellScopedUnits = (held : Folder) (name : List ℕ) (texts : List Text) (sources : List Source) → Gathers held name texts sources
+    → (program : Program) → IsProgram sources program → All (λ unit. IsWellScopedUnit unit.types unit.items) program.units

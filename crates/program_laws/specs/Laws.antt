@@ -17,7 +17,7 @@ abbrev pub OneProgram : Type 0
 OneProgram = (held : Folder) (name : List ℕ) (texts : List Text) (sources : List Source) → Gathers held name texts sources
     → (one other : Program) → IsProgram sources one → IsProgram sources other → IsSame one other
 
--- what is told of no rule: want of memory, and interfaces that do not fit
+-- what is told of no rule: out of memory, and interfaces that do not fit
 abbrev pub IsFree : Outcome → Type 0
 IsFree outcome.NoMemory = Unit {0}
 IsFree (outcome.Refused (refusal.VersionMismatch unit import)) = Unit {0}

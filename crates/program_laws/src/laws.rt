@@ -1,7 +1,7 @@
 //! What follows for the sources of every program.
 
 ghost use Rattle.program_laws.specs.Laws.{OneProgram, IsComplete, NoneIsMissing};
-ghost use Rattle.program_laws.specs.Closing.{AreClosed, ShowsAlike, ClosedUnits};
+ghost use Rattle.program_laws.specs.Closing.{AreWellScoped, ShowsAlike, WellScopedUnits};
 
 use closed_tables::table_laws;
 
@@ -10,8 +10,8 @@ pub fn program_laws()
     ensures one { OneProgram }
     ensures complete { IsComplete }
     ensures present { NoneIsMissing }
-    ensures closed { AreClosed }
-    ensures units { ClosedUnits }
+    ensures closed { AreWellScoped }
+    ensures units { WellScopedUnits }
     ensures shown { ShowsAlike }
 {
     table_laws();

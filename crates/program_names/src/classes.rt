@@ -31,7 +31,7 @@ fn width_of(host: Host) -> u16
     }
 }
 
-// The bytes of an ordinal in a table of its own. No other type stands alone, and finds no room.
+// The bytes of an ordinal in a table of its own. No other type stands alone, and is answered as out of memory.
 fn size_alone(one: &TypeDef) -> Result<u16, AllocError>
     ensures { IfOk result (λ bytes. bytes ≡ size_in (record { table = alone one.now; ty = record { 0 = 0 } })) }
 {

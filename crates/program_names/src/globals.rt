@@ -14,7 +14,7 @@ use type_layout::Name;
 use typed_cells::Sort;
 use typed_tree::{Program, Unit};
 
-// How many globals the units before one have. A number that passes 64 bits finds no room.
+// How many globals the units before one have. A number that passes 64 bits is answered as out of memory.
 fn globals_before(units: &[Unit], name: &Name) -> Result<usize, AllocError>
     ensures { IfOk result (λ count. count ≡ globals_before units.now name.now) }
 {

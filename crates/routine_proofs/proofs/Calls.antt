@@ -23,7 +23,7 @@ use Rattle.routine_proofs.specs.Activation.{Activation, slot_no, index_of, is_in
 use Rattle.routine_proofs.specs.Straight.{held, Exit, Onward, Leaving, Returning, Failing}
 use Rattle.routine_proofs.specs.Comes.{outcome_of, Comes}
 use Rattle.routine_proofs.specs.Entry.{memory_without, entered, two_words, bytes_from, result_at, result_seen, IsLeft}
-use Rattle.routine_proofs.specs.Promises.{IsHeld, EndsRoutine, Replies}
+use Rattle.routine_proofs.specs.Specifications.{IsHeld, EndsRoutine, Replies}
 use Rattle.routine_proofs.proofs.Sight.{bind-ok, if-ok, slot-lies, held-word}
 use Rattle.routine_proofs.proofs.Entry.{activation-is, entered-seen}
 

@@ -33,7 +33,7 @@ module _ (program : FlatProgram) (choice : Choice) (own : Frame) (sp : ℕ) wher
   pub straight-does : (above : ℕ) → IsPlaced choice own sp above → (code : Code) (a : Activation) (exit : Exit) (b : Activation) → straight choice own above code a ≡ Ok (record { exit = exit; there = b }) → Does program choice own sp code 0 (code_size code) a exit b
   straight-does above placed code a exit b e s seen = straight-comes program choice own sp above placed code a (record { exit = exit; there = b }) e s seen
 
-  -- ---- acts of the machine that ask nothing but a turn
+  -- ---- effects of the machine that ask nothing but a turn
 
   -- the overlay buffer is emptied, which flat code doesn't see
   pub clear-does : (a : Activation) → Does program choice own sp (Do (Runtime 3 [] None) End) 1 1 a Onward a

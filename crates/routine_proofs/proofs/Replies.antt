@@ -8,7 +8,7 @@ use Rattle.flat_code.specs.Gives.{AreWords}
 use Rattle.routine_proofs.specs.Activation.{Activation, IsPlaced}
 use Rattle.routine_proofs.specs.Straight.{Exit, Failing, Came, seen_value, continued, chosen_way, straight, code_size}
 use Rattle.routine_proofs.specs.Entry.{result_seen}
-use Rattle.routine_proofs.specs.Promises.{EndsRoutine, KeepsOuter, Answers, Fails}
+use Rattle.routine_proofs.specs.Specifications.{EndsRoutine, KeepsOuter, Answers, Fails}
 use Rattle.routine_proofs.proofs.Steps.{straight-comes}
 use Rattle.routine_proofs.proofs.Rules.{weaker}
 

@@ -2,4 +2,4 @@ pub mod Activation
 pub mod Straight
 pub mod Comes
 pub mod Entry
-pub mod Promises
+pub mod Specifications

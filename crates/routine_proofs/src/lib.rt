@@ -6,7 +6,7 @@ ghost use Rattle.flat_code.specs.Program.{FlatProgram, Choice, Key, Routine, Uni
 ghost use Rattle.flat_code.specs.Meaning.{Frame};
 ghost use Rattle.flat_code.specs.Legal.{StackFits};
 ghost use Rattle.routine_proofs.specs.Activation.{IsPlaced};
-ghost use Rattle.routine_proofs.specs.Promises.{IsHeld, StraightLaw, ComputesLaw};
+ghost use Rattle.routine_proofs.specs.Specifications.{IsHeld, StraightLaw, ComputesLaw};
 
 /// The laws by which a routine is proved: code without loops and calls does what its definition
 /// says of the words of its activation and of memory around it, and a routine whose body

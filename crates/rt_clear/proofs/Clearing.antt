@@ -14,7 +14,7 @@ use Rattle.routine_proofs.specs.Activation.{Shut, Holds, Activation, IsPlaced}
 use Rattle.routine_proofs.specs.Straight.{Onward, Leaving, Came, continued, straight, code_size}
 use Rattle.routine_proofs.specs.Comes.{Does}
 use Rattle.routine_proofs.specs.Entry.{entered, memory_without}
-use Rattle.routine_proofs.specs.Promises.{IsHeld}
+use Rattle.routine_proofs.specs.Specifications.{IsHeld}
 use Rattle.routine_proofs.proofs.Replies.{next_of}
 use Rattle.routine_proofs.proofs.Doing.{weaker-does, straight-does, round-does, leave-does}
 use Rattle.routine_proofs.proofs.Calls.{call-ends, placed, starts}
@@ -23,7 +23,7 @@ use Rattle.strings_in_memory.proofs.Cells.{store-so, after-one, plus-none, laid-
 use Rattle.string_loops.proofs.BackwardLoop.{reached-still}
 use Rattle.string_loops.proofs.Entry.{reached-inside}
 use Rattle.rt_clear.specs.Routines.{clear_step, clear_round, clear_routine}
-use Rattle.rt_clear.specs.Promises.{clear_number, IsCleared, Clears}
+use Rattle.rt_clear.specs.Specifications.{clear_number, IsCleared, Clears}
 
 module _ (program : FlatProgram) (choice : Choice) (own : Frame) (sp : ℕ) (is_placed : IsPlaced choice own sp 12) (e : Activation) (s : ℕ) where
   -- in the routine: the offset of the next byte, how many are left, and memory

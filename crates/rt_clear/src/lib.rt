@@ -6,9 +6,9 @@ ghost use Rattle.flat_code.specs.View.{view_list};
 ghost use Rattle.flat_code.specs.Plain.{view_routine};
 ghost use Rattle.flat_code.specs.Program.{FlatProgram, Choice, UnitCode, runtime_key};
 ghost use Rattle.flat_code.specs.Legal.{StackFits};
-ghost use Rattle.routine_proofs.specs.Promises.{IsHeld};
+ghost use Rattle.routine_proofs.specs.Specifications.{IsHeld};
 ghost use Rattle.rt_clear.specs.Routines.{clear_step, clear_round, clear_routine};
-ghost use Rattle.rt_clear.specs.Promises.{clear_number, Clears};
+ghost use Rattle.rt_clear.specs.Specifications.{clear_number, Clears};
 
 use flat_builders::{name, repeat, when, word};
 use flat_code::{FlatExpr, FlatList, FlatRoutine, FlatStmt};

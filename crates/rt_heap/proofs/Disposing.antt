@@ -16,7 +16,7 @@ use Rattle.routine_proofs.specs.Activation.{Shut, Holds, Activation, HoldsWord, 
 use Rattle.routine_proofs.specs.Straight.{Onward, Failing, Came, seen_value, continued, straight, code_size}
 use Rattle.routine_proofs.specs.Comes.{Does}
 use Rattle.routine_proofs.specs.Entry.{entered, memory_without}
-use Rattle.routine_proofs.specs.Promises.{IsHeld}
+use Rattle.routine_proofs.specs.Specifications.{IsHeld}
 use Rattle.routine_proofs.proofs.Replies.{next_of, taken-so, other-so}
 use Rattle.routine_proofs.proofs.Doing.{weaker-does, then-does, skip-does, straight-does}
 use Rattle.routine_proofs.proofs.Calls.{call-ends, call-raises, placed, starts}
@@ -26,7 +26,7 @@ use Rattle.string_loops.proofs.Entry.{kept}
 use Rattle.rt_heap.specs.Heap.{Block, FreeList, Heap, eights, disposed, dropped, put_in, free_blocks, IsSound}
 use Rattle.rt_heap.specs.HeapMemory.{block_address, HasLinks, HasLists, HeapPlaces, HoldsHeap, HeapStands, IsAmong, IsAllocators}
 use Rattle.rt_heap.specs.Routines.{heap_segment, first_at, block_at, wanted, disposed_at, word_behind, put_second, disposed_number, begin_list, dispose_end, refuse_nil, find_list, dispose_routine}
-use Rattle.rt_heap.specs.Promises.{dispose_number, heap_turns, heap_work, Disposes}
+use Rattle.rt_heap.specs.Specifications.{dispose_number, heap_turns, heap_cost, Disposes}
 use Rattle.rt_heap.proofs.Among.{IsOf, of-contains}
 use Rattle.rt_heap.proofs.Lists.{free-among, lists-among}
 use Rattle.rt_heap.proofs.Sound.{disposed-sound, disposed-counts, free-inside, live-inside, live-apart}
@@ -268,17 +268,17 @@ module _ (program : FlatProgram) (choice : Choice) (unit : UnitCode) (fits : Sta
   in_memory b among = let i = free_in b among in let r = holds.inside in let l = places.heap_end in let t = places.heap_small in (omega arith, omega arith)
 
   -- nil
-  nil-raises : Raises program choice (runtime_key dispose_number) (λ after code. (code ≡ 204) × KeepsRest s after) (heap_turns h) (heap_work h) (0 ∷ 0 ∷ size ∷ []) f s
+  nil-raises : Raises program choice (runtime_key dispose_number) (λ after code. (code ≡ 204) × KeepsRest s after) (heap_turns h) (heap_cost h) (0 ∷ 0 ∷ size ∷ []) f s
   nil-raises =
       let args = 0 ∷ 0 ∷ size ∷ [] in
       let words : AreWords 3 args = (omega arith, (omega arith, (small, tt))) in
       let here = placed program choice (runtime_key dispose_number) unit dispose_routine held_so fits args f s refl room stack.inside in
       let start = entered choice f.sp 10 args s in
       let refused : straight choice own 12 refuse_nil start ≡ Ok (record { exit = Failing 204; there = start }) = refl in
-      let does = weaker-does program choice own f.sp dispose_routine.body 0 (code_size refuse_nil) (heap_turns h) (heap_work h) start (Failing 204) start (omega arith) (omega arith)
+      let does = weaker-does program choice own f.sp dispose_routine.body 0 (code_size refuse_nil) (heap_turns h) (heap_cost h) start (Failing 204) start (omega arith) (omega arith)
       (skip-does program choice own f.sp refuse_nil (find_list then dispose_end) 0 (code_size refuse_nil) start (Failing 204) start tt (straight-does program choice own f.sp 12 here refuse_nil start (Failing 204) start refused)) in
       call-raises program choice (runtime_key dispose_number) unit dispose_routine held_so fits args f s refl room stack.inside
-      (λ after code. (code ≡ 204) × KeepsRest s after) (heap_turns h) (heap_work h) 204 start
+      (λ after code. (code ≡ 204) × KeepsRest s after) (heap_turns h) (heap_cost h) 204 start
       (does _ (starts program choice (runtime_key dispose_number) unit dispose_routine held_so fits args f s refl room stack.inside 3 words))
       (λ after same. (refl, record { flag = same.0; input = same.1; out = same.2; err = same.3 }))
 
@@ -313,7 +313,7 @@ module _ (program : FlatProgram) (choice : Choice) (unit : UnitCode) (fits : Sta
     abbrev Promise : Type 0
     Promise = Ends program choice (runtime_key dispose_number) (IsAllocators program choice places (disposed (record { at = d; size = eights size }) h).lists)
         (λ after bytes. (bytes ≡ []) × HeapStands program choice places after.cells (disposed (record { at = d; size = eights size }) h) (without_block (rounded size) rows) × KeepsRest s after)
-        (heap_turns h) (heap_work h) ((choice.heap_segment + d / 2) ∷ (8 * (d % 2)) ∷ size ∷ []) f s
+        (heap_turns h) (heap_cost h) ((choice.heap_segment + d / 2) ∷ (8 * (d % 2)) ∷ size ∷ []) f s
 
     -- it is no nil
     goes-on : Does program choice own f.sp refuse_nil 0 (code_size refuse_nil) start Onward start
@@ -322,21 +322,21 @@ module _ (program : FlatProgram) (choice : Choice) (unit : UnitCode) (fits : Sta
         straight-does program choice own f.sp 12 here refuse_nil start Onward start
         (taken-so choice own 12 refuse_nil start (choice.heap_segment + d / 2) (record { exit = Onward; there = start }) refl (λ z. omega (arith, z, some)) refl)
 
-    whole : (before after : Activation) → Does program choice own f.sp find_list (1 + length h.lists) (84 + 40 * length h.lists) start Onward before → Does program choice own f.sp dispose_end 0 72 before Onward after → Does program choice own f.sp dispose_routine.body (heap_turns h) (heap_work h) start Onward after
+    whole : (before after : Activation) → Does program choice own f.sp find_list (1 + length h.lists) (84 + 40 * length h.lists) start Onward before → Does program choice own f.sp dispose_end 0 72 before Onward after → Does program choice own f.sp dispose_routine.body (heap_turns h) (heap_cost h) start Onward after
     whole before after first last =
-        weaker-does program choice own f.sp dispose_routine.body (0 + (1 + length h.lists + 0)) (code_size refuse_nil + (84 + 40 * length h.lists + 72)) (heap_turns h) (heap_work h) start Onward after (omega arith) (omega arith)
+        weaker-does program choice own f.sp dispose_routine.body (0 + (1 + length h.lists + 0)) (code_size refuse_nil + (84 + 40 * length h.lists + 72)) (heap_turns h) (heap_cost h) start Onward after (omega arith) (omega arith)
         (then-does program choice own f.sp refuse_nil (find_list then dispose_end) 0 (code_size refuse_nil) (1 + length h.lists + 0) (84 + 40 * length h.lists + 72) start start Onward after goes-on
         (then-does program choice own f.sp find_list dispose_end (1 + length h.lists) (84 + 40 * length h.lists) 0 72 start before Onward after first last))
 
     -- a heap that holds
-    ended : (v w c p : ℕ) (m' : Cells) → Does program choice own f.sp dispose_routine.body (heap_turns h) (heap_work h) start Onward (there v w c p m') →
+    ended : (v w c p : ℕ) (m' : Cells) → Does program choice own f.sp dispose_routine.body (heap_turns h) (heap_cost h) start Onward (there v w c p m') →
         HoldsHeap program choice places m' (disposed (record { at = d; size = eights size }) h) → ((x : ℕ) → (IsAllocators program choice places (disposed (record { at = d; size = eights size }) h).lists x → ⊥) → m' x ≡ m x) → Promise
     ended v w c p m' does holds' keeps =
         let sound' = disposed-sound block h stands.sound live in
         call-ends program choice (runtime_key dispose_number) unit dispose_routine held_so fits ((choice.heap_segment + d / 2) ∷ (8 * (d % 2)) ∷ size ∷ []) f s refl room stack.inside
         (IsAllocators program choice places (disposed (record { at = d; size = eights size }) h).lists)
         (λ after bytes. (bytes ≡ []) × HeapStands program choice places after.cells (disposed (record { at = d; size = eights size }) h) (without_block (rounded size) rows) × KeepsRest s after)
-        (heap_turns h) (heap_work h) Onward (there v w c p m') [] tt
+        (heap_turns h) (heap_cost h) Onward (there v w c p m') [] tt
         (does _ (starts program choice (runtime_key dispose_number) unit dispose_routine held_so fits ((choice.heap_segment + d / 2) ∷ (8 * (d % 2)) ∷ size ∷ []) f s refl room stack.inside 3 words))
         refl keeps
         (λ after left. (

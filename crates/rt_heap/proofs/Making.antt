@@ -20,7 +20,7 @@ use Rattle.routine_proofs.specs.Activation.{Slot, Shut, Free, Holds, Activation,
 use Rattle.routine_proofs.specs.Straight.{Exit, Onward, Failing, Came, seen_value, continued, straight, code_size}
 use Rattle.routine_proofs.specs.Comes.{Does}
 use Rattle.routine_proofs.specs.Entry.{entered, memory_without}
-use Rattle.routine_proofs.specs.Promises.{IsHeld}
+use Rattle.routine_proofs.specs.Specifications.{IsHeld}
 use Rattle.routine_proofs.proofs.Replies.{next_of, taken_of, taken-so, other-so}
 use Rattle.routine_proofs.proofs.Doing.{weaker-does, then-does, straight-does}
 use Rattle.routine_proofs.proofs.Calls.{call-ends, call-raises, placed, starts}
@@ -30,7 +30,7 @@ use Rattle.string_loops.proofs.Entry.{kept}
 use Rattle.rt_heap.specs.Heap.{FreeList, Heap, eights, block_from, given, made, made_by, new_block, block_by, free_blocks, IsSound}
 use Rattle.rt_heap.specs.HeapMemory.{block_address, block_place, HasLinks, HasLists, HeapPlaces, HoldsHeap, HeapStands, IsAmong, IsAllocators}
 use Rattle.rt_heap.specs.Routines.{heap_low, heap_high, cut_at, block_at, wanted, current, previous, other_at, word_behind, take_second, take_last, take_block, heap_eights, cut_block, new_end, find_list, new_routine}
-use Rattle.rt_heap.specs.Promises.{new_number, heap_turns, heap_work, Makes}
+use Rattle.rt_heap.specs.Specifications.{new_number, heap_turns, heap_cost, Makes}
 use Rattle.rt_heap.proofs.Lists.{given-among}
 use Rattle.rt_heap.proofs.Sound.{made-sound, made-counts, sum-given, sum-none, free-inside}
 use Rattle.rt_heap.proofs.Links.{head_of, head-word, from_found, before_found, spot, found-among, found-once, before-among, given-found, given-nothing, blocks-apart}
@@ -348,17 +348,17 @@ module _ (program : FlatProgram) (choice : Choice) (unit : UnitCode) (fits : Sta
   found_list = finds program choice own f.sp 8 here refl places size (at program choice own f.sp here refl places start size) (finding program choice own f.sp here refl places start size) m holds.segment start h.lists small refl holds.lists in_memory
 
   -- a pointer to the block, and a heap that holds
-  ended : (q r : Slot) (b c p : ℕ) (m' : Cells) → Does program choice own f.sp new_routine.body (heap_turns h) (heap_work h) start Onward (st program choice own f.sp here refl places start size q r (choice.heap_segment + b / 2) (8 * (b % 2)) n c p m') →
+  ended : (q r : Slot) (b c p : ℕ) (m' : Cells) → Does program choice own f.sp new_routine.body (heap_turns h) (heap_cost h) start Onward (st program choice own f.sp here refl places start size q r (choice.heap_segment + b / 2) (8 * (b % 2)) n c p m') →
       HoldsHeap program choice places m' (made n h) → new_block n h ≡ b → ((x : ℕ) → (IsAllocators program choice places h.lists x → ⊥) → m' x ≡ m x) →
       Ends program choice (runtime_key new_number) (IsAllocators program choice places h.lists)
       (λ after bytes. (bytes ≡ far_bytes (block_place choice (new_block n h))) × HeapStands program choice places after.cells (made n h) (with_block (rounded size) rows) × KeepsRest s after)
-      (heap_turns h) (heap_work h) (size ∷ []) f s
+      (heap_turns h) (heap_cost h) (size ∷ []) f s
   ended q r b c p m' does holds' is keeps =
       let sound' = made-sound n h some stands.sound in
       call-ends program choice (runtime_key new_number) unit new_routine held_so fits (size ∷ []) f s refl room stack.inside
       (IsAllocators program choice places h.lists)
       (λ after bytes. (bytes ≡ far_bytes (block_place choice (new_block n h))) × HeapStands program choice places after.cells (made n h) (with_block (rounded size) rows) × KeepsRest s after)
-      (heap_turns h) (heap_work h) Onward (st program choice own f.sp here refl places start size q r (choice.heap_segment + b / 2) (8 * (b % 2)) n c p m') (far_bytes (block_place choice b)) tt
+      (heap_turns h) (heap_cost h) Onward (st program choice own f.sp here refl places start size q r (choice.heap_segment + b / 2) (8 * (b % 2)) n c p m') (far_bytes (block_place choice b)) tt
       (does _ (starts program choice (runtime_key new_number) unit new_routine held_so fits (size ∷ []) f s refl room stack.inside 1 words))
       refl keeps
       (λ after left. (
@@ -372,9 +372,9 @@ module _ (program : FlatProgram) (choice : Choice) (unit : UnitCode) (fits : Sta
       ))
 
   -- from the search to the end
-  whole : (before : Activation) (exit : Exit) (there : Activation) → Does program choice own f.sp find_list (1 + length h.lists) (84 + 40 * length h.lists) start Onward before → Does program choice own f.sp new_end 0 76 before exit there → Does program choice own f.sp new_routine.body (heap_turns h) (heap_work h) start exit there
+  whole : (before : Activation) (exit : Exit) (there : Activation) → Does program choice own f.sp find_list (1 + length h.lists) (84 + 40 * length h.lists) start Onward before → Does program choice own f.sp new_end 0 76 before exit there → Does program choice own f.sp new_routine.body (heap_turns h) (heap_cost h) start exit there
   whole before exit there first last =
-      weaker-does program choice own f.sp new_routine.body (1 + length h.lists + 0) (84 + 40 * length h.lists + 76) (heap_turns h) (heap_work h) start exit there (omega arith) (omega arith)
+      weaker-does program choice own f.sp new_routine.body (1 + length h.lists + 0) (84 + 40 * length h.lists + 76) (heap_turns h) (heap_cost h) start exit there (omega arith) (omega arith)
       (then-does program choice own f.sp find_list new_end (1 + length h.lists) (84 + 40 * length h.lists) 0 76 start before exit there first last)
 
   abbrev Promise : Type 0
@@ -382,14 +382,14 @@ module _ (program : FlatProgram) (choice : Choice) (unit : UnitCode) (fits : Sta
       (block_sum (with_block (rounded size) rows) ≤ program.heap →
       Ends program choice (runtime_key new_number) (IsAllocators program choice places h.lists)
       (λ after bytes. (bytes ≡ far_bytes (block_place choice (new_block n h))) × HeapStands program choice places after.cells (made n h) (with_block (rounded size) rows) × KeepsRest s after)
-      (heap_turns h) (heap_work h) (size ∷ []) f s)
+      (heap_turns h) (heap_cost h) (size ∷ []) f s)
       × (program.heap < block_sum (with_block (rounded size) rows) →
-      Raises program choice (runtime_key new_number) (λ after code. (code ≡ 203) × KeepsRest s after) (heap_turns h) (heap_work h) (size ∷ []) f s)
+      Raises program choice (runtime_key new_number) (λ after code. (code ≡ 203) × KeepsRest s after) (heap_turns h) (heap_cost h) (size ∷ []) f s)
 
   -- a free block was given, so the sum is what it was
   with-given : (b : ℕ) → given n h.lists ≡ Some b → Ends program choice (runtime_key new_number) (IsAllocators program choice places h.lists)
       (λ after bytes. (bytes ≡ far_bytes (block_place choice (new_block n h))) × HeapStands program choice places after.cells (made n h) (with_block (rounded size) rows) × KeepsRest s after)
-      (heap_turns h) (heap_work h) (size ∷ []) f s → Promise
+      (heap_turns h) (heap_cost h) (size ∷ []) f s → Promise
   with-given b is ends = (λ fits. ends, λ full. absurd (let g = sum-given n b h rows stands.counts is in let r = stands.holds.inside in omega (arith, full)))
 
   -- where the search stopped
@@ -445,7 +445,7 @@ module _ (program : FlatProgram) (choice : Choice) (unit : UnitCode) (fits : Sta
 
       by : (q : ℕ) → before_found n 0 h.lists ≡ q → Ends program choice (runtime_key new_number) (IsAllocators program choice places h.lists)
           (λ after bytes. (bytes ≡ far_bytes (block_place choice (new_block n h))) × HeapStands program choice places after.cells (made n h) (with_block (rounded size) rows) × KeepsRest s after)
-          (heap_turns h) (heap_work h) (size ∷ []) f s
+          (heap_turns h) (heap_cost h) (size ∷ []) f s
       by zero same =
           let m1 = with_word m (16 * choice.data_segment + places.state_at + 2) (head_of rest) in
           ended Free Free l.first (suc l.first) (before_found n 0 h.lists) m1
@@ -480,7 +480,7 @@ module _ (program : FlatProgram) (choice : Choice) (unit : UnitCode) (fits : Sta
             (λ x free. unwritten m (16 * choice.data_segment + places.state_at) (h.cut + n) x (decide-off (16 * choice.data_segment + places.state_at) 2 x (λ low high. free (inl (low, omega (arith, high))))))),
         (λ full.
             call-raises program choice (runtime_key new_number) unit new_routine held_so fits (size ∷ []) f s refl room stack.inside
-            (λ after code. (code ≡ 203) × KeepsRest s after) (heap_turns h) (heap_work h) 203 (at program choice own f.sp here refl places start size found_list.s' found_list.o' n 0 p m)
+            (λ after code. (code ≡ 203) × KeepsRest s after) (heap_turns h) (heap_cost h) 203 (at program choice own f.sp here refl places start size found_list.s' found_list.o' n 0 p m)
             (whole _ (Failing 203) _ (not-found e) (full-does program choice own f.sp here refl places start size m h holds stands.sound n p found_list.s' found_list.o' some few (omega (arith, sum, full))) _
             (starts program choice (runtime_key new_number) unit new_routine held_so fits (size ∷ []) f s refl room stack.inside 1 words))
             (λ after same. (refl, record { flag = same.0; input = same.1; out = same.2; err = same.3 }))),

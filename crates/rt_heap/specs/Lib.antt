@@ -1,4 +1,4 @@
 pub mod Heap
 pub mod HeapMemory
 pub mod Routines
-pub mod Promises
+pub mod Specifications

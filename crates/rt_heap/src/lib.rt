@@ -11,11 +11,11 @@ ghost use Rattle.flat_code.specs.Plain.{view_routine};
 ghost use Rattle.flat_code.specs.Memory.{Cells};
 ghost use Rattle.flat_code.specs.Program.{FlatProgram, Choice, UnitCode, runtime_key};
 ghost use Rattle.flat_code.specs.Legal.{Mention, StackFits, IsLegal};
-ghost use Rattle.routine_proofs.specs.Promises.{IsHeld};
+ghost use Rattle.routine_proofs.specs.Specifications.{IsHeld};
 ghost use Rattle.rt_heap.specs.Heap.{Block, Heap, empty_heap, IsSound, Counts, made, disposed};
 ghost use Rattle.rt_heap.specs.HeapMemory.{HeapPlaces, HeapStands, HoldsHeapData, ReachesHeapData, HeapBegins, IsSameHeap};
 ghost use Rattle.rt_heap.specs.Routines.{heap_segment, heap_low, heap_high, word_behind as word_behind_code, set_word_behind as set_word_behind_code, number_of, set_pointer as set_pointer_code, find_start, rounding, find_step, find_round, find_list, take_second, take_last, take_block, heap_eights, cut_block, new_end, new_routine, refuse_nil, put_second, disposed_number, begin_list, dispose_end, dispose_routine};
-ghost use Rattle.rt_heap.specs.Promises.{new_number, dispose_number, Makes, Disposes};
+ghost use Rattle.rt_heap.specs.Specifications.{new_number, dispose_number, Makes, Disposes};
 
 use flat_builders::{name, op, repeat, routine, set, then, when, word};
 use flat_code::{Address, FlatExpr, FlatList, FlatOp, FlatRoutine, FlatStmt};

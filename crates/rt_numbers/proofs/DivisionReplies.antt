@@ -15,7 +15,7 @@ use Rattle.routine_proofs.specs.Activation.{Slot, Shut, Free, Holds, Activation,
 use Rattle.routine_proofs.specs.Straight.{Exit, Onward, Failing, with_word_at, seen_value, onward, continued, straight, code_size}
 use Rattle.routine_proofs.specs.Comes.{Does}
 use Rattle.routine_proofs.specs.Entry.{entered}
-use Rattle.routine_proofs.specs.Promises.{Answers, Fails, Replies}
+use Rattle.routine_proofs.specs.Specifications.{Answers, Fails, Replies}
 use Rattle.routine_proofs.proofs.Replies.{taken-so, other-so, four-words}
 use Rattle.routine_proofs.proofs.Doing.{weaker-does, then-does, skip-does, straight-does}
 use Rattle.rt_numbers.specs.Routines.{routine_of, high_word, other_high_word}

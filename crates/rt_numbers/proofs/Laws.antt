@@ -2,7 +2,7 @@
 use Rattle.std.proofs.Common.{refl, arith}
 use Rattle.flat_code.specs.Program.{FlatProgram, Choice, UnitCode, runtime_key}
 use Rattle.flat_code.specs.Legal.{StackFits}
-use Rattle.routine_proofs.specs.Promises.{IsHeld}
+use Rattle.routine_proofs.specs.Specifications.{IsHeld}
 use Rattle.flat_code.specs.Runtime.{negation_number, product_number, less_number, quotient_number, remainder_number, negation_of, product_of, less_of, quotient_of, remainder_of, negation_routine}
 use Rattle.routine_proofs.proofs.Calls.{computes-so}
 use Rattle.rt_numbers.specs.Routines.{product_routine, less_routine, sum_routine, difference_routine, equal_routine, left_shift_routine, right_shift_routine, range_routine}
@@ -12,7 +12,7 @@ use Rattle.rt_numbers.proofs.WordReplies.{negation-replies, product-replies, les
 use Rattle.rt_numbers.proofs.ShiftReplies.{left-replies, right-replies}
 use Rattle.rt_numbers.proofs.RangeReplies.{range-replies}
 use Rattle.rt_numbers.proofs.DivisionReplies.{quotient-replies, remainder-replies}
-use Rattle.rt_numbers.specs.Promises.{Negates, Multiplies, Compares, Divides, TakesRemainder, Adds, Subtracts, TestsEqual, ShiftsLeft, ShiftsRight, TestsRange}
+use Rattle.rt_numbers.specs.Specifications.{Negates, Multiplies, Compares, Divides, TakesRemainder, Adds, Subtracts, TestsEqual, ShiftsLeft, ShiftsRight, TestsRange}
 
 pub negation : (program : FlatProgram) (choice : Choice) (unit : UnitCode) → StackFits program choice → IsHeld program (runtime_key negation_number) unit negation_routine → Negates program choice
 negation program choice unit fits held_so = computes-so program choice (runtime_key negation_number) unit negation_routine 32 2 0 64 negation_of held_so fits refl (omega arith) (λ args own sp s are placed. negation-replies program choice own sp s placed args are)

@@ -9,7 +9,7 @@ use Rattle.flat_code.specs.Runtime.{long_word, long_bytes}
 use Rattle.routine_proofs.specs.Activation.{IsPlaced}
 use Rattle.routine_proofs.specs.Straight.{Onward}
 use Rattle.routine_proofs.specs.Entry.{entered}
-use Rattle.routine_proofs.specs.Promises.{Replies}
+use Rattle.routine_proofs.specs.Specifications.{Replies}
 use Rattle.routine_proofs.proofs.Replies.{answers-straight, fails-straight, taken-so, other-so, six-words}
 use Rattle.rt_numbers.specs.Routines.{range_routine}
 use Rattle.rt_numbers.specs.Numbers.{range_of}

@@ -11,7 +11,7 @@ use Rattle.flat_code.specs.Gives.{AreWords}
 use Rattle.routine_proofs.specs.Activation.{Shut, Free, Holds, Activation, IsPlaced}
 use Rattle.routine_proofs.specs.Straight.{Onward}
 use Rattle.routine_proofs.specs.Entry.{entered}
-use Rattle.routine_proofs.specs.Promises.{Replies}
+use Rattle.routine_proofs.specs.Specifications.{Replies}
 use Rattle.routine_proofs.proofs.Replies.{answers-straight, next_of, taken-so, other-so, three-words}
 use Rattle.rt_numbers.specs.Routines.{left_shift_routine, right_shift_routine}
 use Rattle.rt_numbers.specs.Numbers.{left_shift_of, right_shift_of}

@@ -11,7 +11,7 @@ use Rattle.flat_code.specs.Gives.{AreWords}
 use Rattle.routine_proofs.specs.Activation.{IsPlaced}
 use Rattle.routine_proofs.specs.Straight.{Onward}
 use Rattle.routine_proofs.specs.Entry.{entered}
-use Rattle.routine_proofs.specs.Promises.{Replies}
+use Rattle.routine_proofs.specs.Specifications.{Replies}
 use Rattle.routine_proofs.proofs.Replies.{answers-straight, two-words, four-words}
 use Rattle.rt_numbers.specs.Routines.{product_routine, less_routine, sum_routine, difference_routine, equal_routine}
 use Rattle.rt_numbers.specs.Numbers.{sum_of, difference_of, equal_of}

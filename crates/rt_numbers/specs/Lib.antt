@@ -1,4 +1,4 @@
 pub mod Routines
 pub mod Numbers
 pub mod Division
-pub mod Promises
+pub mod Specifications

@@ -5,11 +5,11 @@ ghost use Rattle.std.specs.Prelude.{ℕ};
 ghost use Rattle.flat_code.specs.Program.{FlatProgram, Choice, UnitCode, runtime_key};
 ghost use Rattle.flat_code.specs.Legal.{StackFits};
 ghost use Rattle.flat_code.specs.Runtime.{negation_number, product_number, less_number, quotient_number, remainder_number, negation_routine};
-ghost use Rattle.routine_proofs.specs.Promises.{IsHeld};
+ghost use Rattle.routine_proofs.specs.Specifications.{IsHeld};
 ghost use Rattle.rt_numbers.specs.Routines.{product_routine, less_routine, sum_routine, difference_routine, equal_routine, left_shift_routine, right_shift_routine, range_routine};
 ghost use Rattle.rt_numbers.specs.Division.{quotient_routine, remainder_routine};
 ghost use Rattle.rt_numbers.specs.Numbers.{sum_number, difference_number, equal_number, left_shift_number, right_shift_number, range_number};
-ghost use Rattle.rt_numbers.specs.Promises.{Negates, Multiplies, Compares, Divides, TakesRemainder, Adds, Subtracts, TestsEqual, ShiftsLeft, ShiftsRight, TestsRange};
+ghost use Rattle.rt_numbers.specs.Specifications.{Negates, Multiplies, Compares, Divides, TakesRemainder, Adds, Subtracts, TestsEqual, ShiftsLeft, ShiftsRight, TestsRange};
 
 mod division;
 mod shifts;

@@ -8,7 +8,7 @@ use Rattle.flat_code.specs.Legal.{StackFits}
 use Rattle.routine_proofs.specs.Activation.{Activation}
 use Rattle.routine_proofs.specs.Straight.{Onward}
 use Rattle.routine_proofs.specs.Entry.{entered, memory_without}
-use Rattle.routine_proofs.specs.Promises.{IsHeld}
+use Rattle.routine_proofs.specs.Specifications.{IsHeld}
 use Rattle.routine_proofs.proofs.Doing.{weaker-does, then-does, straight-does, clear-does}
 use Rattle.routine_proofs.proofs.Calls.{call-ends, placed, starts}
 use Rattle.strings_in_memory.specs.Strings.{place}
@@ -16,7 +16,7 @@ use Rattle.string_loops.proofs.Entry.{reached-inside}
 use Rattle.text_memory.proofs.Buffer.{off-lower}
 use Rattle.rt_overlay.specs.Data.{HasOverlay}
 use Rattle.rt_overlay.specs.Routines.{set_result, clear_buffer, set_buffer_routine, clear_buffer_routine}
-use Rattle.rt_overlay.specs.Promises.{set_buffer_number, clear_buffer_number, IsResult, SetsResult, SetsBuffer, ClearsBuffer}
+use Rattle.rt_overlay.specs.Specifications.{set_buffer_number, clear_buffer_number, IsResult, SetsResult, SetsBuffer, ClearsBuffer}
 use Rattle.rt_overlay.proofs.Results.{datum-at, result-so, others-stay, result-left}
 
 pub sets-buffer : (program : FlatProgram) (choice : Choice) (result name : ℕ) (unit : UnitCode) → StackFits program choice → HasOverlay program choice result name → IsHeld program (runtime_key set_buffer_number) unit set_buffer_routine → SetsBuffer program choice result

@@ -19,7 +19,7 @@ use Rattle.routine_proofs.specs.Activation.{Slot, Shut, Free, Holds, Activation,
 use Rattle.routine_proofs.specs.Straight.{Exit, Onward, Leaving, Came, byte_seen, segment_seen, seen_value, continued, straight, code_size}
 use Rattle.routine_proofs.specs.Comes.{Does}
 use Rattle.routine_proofs.specs.Entry.{entered, memory_without}
-use Rattle.routine_proofs.specs.Promises.{IsHeld}
+use Rattle.routine_proofs.specs.Specifications.{IsHeld}
 use Rattle.routine_proofs.proofs.Replies.{next_of}
 use Rattle.routine_proofs.proofs.Doing.{weaker-does, then-does, straight-does, round-does, leave-does, flag-does}
 use Rattle.routine_proofs.proofs.Calls.{call-ends, placed, starts}
@@ -28,11 +28,11 @@ use Rattle.strings_in_memory.proofs.Cells.{byte-read, plus-none, plus-one, bytes
 use Rattle.string_loops.specs.Pieces.{word, behind}
 use Rattle.string_loops.proofs.Seen.{op-so, set-so}
 use Rattle.string_loops.proofs.Entry.{string-inside, reached-inside}
-use Rattle.text_memory.proofs.Acts.{taken-does, other-does}
+use Rattle.text_memory.proofs.Effects.{taken-does, other-does}
 use Rattle.text_memory.proofs.Buffer.{off-lower}
 use Rattle.rt_overlay.specs.Data.{HasOverlay}
 use Rattle.rt_overlay.specs.Routines.{name_at, set_result, set_flag, name_length, begin_names, capital, next_letters, letters_round, end_names, init_routine}
-use Rattle.rt_overlay.specs.Promises.{init_number, is_file, result_word, IsResult, SetsResult, Installs}
+use Rattle.rt_overlay.specs.Specifications.{init_number, is_file, result_word, IsResult, SetsResult, Installs}
 use Rattle.rt_overlay.proofs.Results.{datum-at, result-so, fewer-off, others-stay, result-left}
 use Rattle.rt_overlay.proofs.Names.{both-bits, capital-is, differ, length-same, length-differs, length-none}
 

@@ -16,7 +16,7 @@ use Rattle.strings_in_memory.specs.Strings.{HasBytes, IsReached, IsOffStack, pla
 use Rattle.strings_in_memory.proofs.Cells.{byte-stored, bytes-kept, laid-has, laid-other, word-so}
 use Rattle.string_loops.proofs.BackwardLoop.{reached-still}
 use Rattle.rt_overlay.specs.Routines.{result_at, set_result}
-use Rattle.rt_overlay.specs.Promises.{IsResult}
+use Rattle.rt_overlay.specs.Specifications.{IsResult}
 
 -- ---- where the data lie
 

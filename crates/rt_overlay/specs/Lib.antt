@@ -1,3 +1,3 @@
 pub mod Data
 pub mod Routines
-pub mod Promises
+pub mod Specifications

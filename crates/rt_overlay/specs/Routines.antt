@@ -16,7 +16,7 @@ name_at = Global 0 3 0
 abbrev pub set_result : ℕ → Code → Code
 set_result value next = Do (StoreWord result_at (Number value)) next
 
--- ---- acts of the machine
+-- ---- effects of the machine
 
 -- all overlays go out
 abbrev pub clear_buffer : Code

@@ -7,11 +7,11 @@ ghost use Rattle.flat_code.specs.View.{view_expr, view_stmt, view_list};
 ghost use Rattle.flat_code.specs.Plain.{view_routine};
 ghost use Rattle.flat_code.specs.Program.{FlatProgram, Choice, UnitCode, runtime_key};
 ghost use Rattle.flat_code.specs.Legal.{StackFits};
-ghost use Rattle.routine_proofs.specs.Promises.{IsHeld};
+ghost use Rattle.routine_proofs.specs.Specifications.{IsHeld};
 ghost use Rattle.string_loops.specs.Pieces.{word as word_code, leave as leave_code};
 ghost use Rattle.rt_overlay.specs.Data.{HasOverlay};
 ghost use Rattle.rt_overlay.specs.Routines.{name_length, set_result as set_result_code, clear_buffer as clear_buffer_code, set_flag as set_flag_code, begin_names, capital, next_letters, letters_round, end_names, init_routine, set_buffer_routine, clear_buffer_routine};
-ghost use Rattle.rt_overlay.specs.Promises.{init_number, set_buffer_number, clear_buffer_number, Installs, SetsBuffer, ClearsBuffer};
+ghost use Rattle.rt_overlay.specs.Specifications.{init_number, set_buffer_number, clear_buffer_number, Installs, SetsBuffer, ClearsBuffer};
 
 use flat_builders::{name, op, repeat, set, then, when, word};
 use flat_code::{Address, FlatExpr, FlatList, FlatOp, FlatRoutine, FlatStmt};
@@ -48,7 +48,7 @@ fn set_result(number: u16) -> FlatStmt
     FlatStmt::StoreWord { to, value }
 }
 
-// An act of the machine without arguments: 3 clears the overlay buffer, and 4 sets the installed flag.
+// An effect of the machine without arguments: 3 clears the overlay buffer, and 4 sets the installed flag.
 fn clear_buffer_act(alloc: Global) -> Result<FlatList, AllocError>
     ensures { IfOk result (λ list. view_list list.items ≡ clear_buffer_code) }
 {

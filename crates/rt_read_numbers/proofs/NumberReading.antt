@@ -17,19 +17,19 @@ use Rattle.routine_proofs.specs.Activation.{Slot, Shut, Free, Activation, IsPlac
 use Rattle.routine_proofs.specs.Straight.{Exit, Onward, Failing, code_size}
 use Rattle.routine_proofs.specs.Comes.{Does}
 use Rattle.routine_proofs.specs.Entry.{entered, memory_without}
-use Rattle.routine_proofs.specs.Promises.{IsHeld}
+use Rattle.routine_proofs.specs.Specifications.{IsHeld}
 use Rattle.routine_proofs.proofs.Doing.{weaker-does, then-does, straight-does}
 use Rattle.routine_proofs.proofs.Calls.{call-ends, call-raises, placed, starts}
 use Rattle.text_memory.specs.Data.{HasText}
-use Rattle.text_memory.proofs.Acts.{taken-does, other-does}
-use Rattle.rt_read_text.specs.Promises.{HasInput, Reads, IsAhead}
+use Rattle.text_memory.proofs.Effects.{taken-does, other-does}
+use Rattle.rt_read_text.specs.Specifications.{HasInput, Reads, IsAhead}
 use Rattle.rt_read_text.proofs.InputLemmas.{input-inside, input-left}
 use Rattle.rt_read_text.proofs.Peeking.{next_byte}
 use Rattle.numeral_steps.specs.Stages.{numeral_words, stage_words, IsAt, at_stage, at_none}
 use Rattle.numeral_steps.specs.Step.{is_number, is_byte, begin_numeral, give_sign}
 use Rattle.numeral_steps.proofs.Signing.{signs}
 use Rattle.rt_read_numbers.specs.Routines.{gap_round, word_round, end_word, read_word, read_number_code, read_number_routine}
-use Rattle.rt_read_numbers.specs.Promises.{read_number_number, number_turns, RefusesNumber, ReadsSo, ReadsNumber}
+use Rattle.rt_read_numbers.specs.Specifications.{read_number_number, number_turns, RefusesNumber, ReadsSo, ReadsNumber}
 use Rattle.rt_read_numbers.proofs.Words.{ends_word, word_of, behind_word, word-is, rest-is, next_of_stage, stage_behind, value_behind, BoundedStage, stays-bounded, value-is}
 use Rattle.rt_read_numbers.proofs.Reading.{front, st, skip, read-word}
 

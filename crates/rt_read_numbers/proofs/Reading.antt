@@ -13,13 +13,13 @@ use Rattle.routine_proofs.proofs.Doing.{weaker-does, then-does, straight-does, r
 use Rattle.string_loops.specs.Pieces.{word, leave}
 use Rattle.strings_in_memory.specs.Strings.{HasBytes}
 use Rattle.text_memory.specs.Data.{HasText, IsLeft, none, ahead_place}
-use Rattle.text_memory.proofs.Acts.{taken-does, other-does}
+use Rattle.text_memory.proofs.Effects.{taken-does, other-does}
 use Rattle.values.specs.declared.numerals.Stage.{Stage}
 use Rattle.values.specs.declared.numerals.Stage.TheVariants as stages
 use Rattle.values.specs.Numerals.{radix_of}
 use Rattle.values.specs.Input.{is_separator, after_separators}
 use Rattle.rt_read_text.specs.Ahead.{peek, take}
-use Rattle.rt_read_text.specs.Promises.{AreBytes, HasInput, IsAhead}
+use Rattle.rt_read_text.specs.Specifications.{AreBytes, HasInput, IsAhead}
 use Rattle.rt_read_text.proofs.InputLemmas.{left-rest, is-one}
 use Rattle.rt_read_text.proofs.Peeking.{next_byte, with_ahead, ahead-so, with-ahead-has, with-ahead-other, known-reached, Peeking, Peeked, peeked}
 use Rattle.numeral_steps.specs.Stages.{stage_number, has_minus, has_dollar, magnitude_of, numeral_words, stage_words, IsAt, at_stage, at_none}

@@ -6,10 +6,10 @@ ghost use Rattle.flat_code.specs.View.{view_expr, view_list};
 ghost use Rattle.flat_code.specs.Plain.{view_routine};
 ghost use Rattle.flat_code.specs.Program.{FlatProgram, Choice, UnitCode, runtime_key};
 ghost use Rattle.flat_code.specs.Legal.{StackFits};
-ghost use Rattle.routine_proofs.specs.Promises.{IsHeld};
+ghost use Rattle.routine_proofs.specs.Specifications.{IsHeld};
 ghost use Rattle.text_memory.specs.Data.{HasText};
 ghost use Rattle.rt_read_numbers.specs.Routines.{is_separator, gap_round, word_step, word_round, end_word, read_word, read_number_code, read_number_routine};
-ghost use Rattle.rt_read_numbers.specs.Promises.{read_number_number, ReadsNumber};
+ghost use Rattle.rt_read_numbers.specs.Specifications.{read_number_number, ReadsNumber};
 
 use flat_builders::{name, op, repeat, routine, then, when, word};
 use flat_code::{FlatExpr, FlatList, FlatOp, FlatRoutine, FlatStmt};

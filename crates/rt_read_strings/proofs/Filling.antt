@@ -21,11 +21,11 @@ use Rattle.strings_in_memory.proofs.Cells.{put-same, store-so, apart-in, bytes-k
 use Rattle.string_loops.specs.Pieces.{word, raise, leave}
 use Rattle.string_loops.proofs.BackwardLoop.{reached-still}
 use Rattle.text_memory.specs.Data.{HasText, IsLeft, none, ahead_place}
-use Rattle.text_memory.proofs.Acts.{taken-does, other-does}
+use Rattle.text_memory.proofs.Effects.{taken-does, other-does}
 use Rattle.text_memory.proofs.Buffer.{laid-reached}
 use Rattle.rt_read_text.specs.Ahead.{peek, take}
 use Rattle.rt_read_text.specs.Routines.{ends_text}
-use Rattle.rt_read_text.specs.Promises.{AreBytes, HasInput, IsAhead}
+use Rattle.rt_read_text.specs.Specifications.{AreBytes, HasInput, IsAhead}
 use Rattle.rt_read_text.proofs.InputLemmas.{left-rest}
 use Rattle.rt_read_text.proofs.Peeking.{next_byte, with_ahead, ahead-so, with-ahead-has, with-ahead-other, known-reached, Peeking, Peeked, peeked}
 use Rattle.rt_read_strings.specs.Routines.{take_byte, text_round}

@@ -14,7 +14,7 @@ use Rattle.routine_proofs.specs.Activation.{Shut, Free, Holds, Activation, IsPla
 use Rattle.routine_proofs.specs.Straight.{Onward, straight, code_size}
 use Rattle.routine_proofs.specs.Comes.{Does}
 use Rattle.routine_proofs.specs.Entry.{entered, memory_without}
-use Rattle.routine_proofs.specs.Promises.{IsHeld}
+use Rattle.routine_proofs.specs.Specifications.{IsHeld}
 use Rattle.routine_proofs.proofs.Doing.{weaker-does, then-does, straight-does}
 use Rattle.routine_proofs.proofs.Calls.{call-ends, placed, starts}
 use Rattle.strings_in_memory.specs.Strings.{HasString, IsReached, IsIn, place}
@@ -22,10 +22,10 @@ use Rattle.strings_in_memory.proofs.Cells.{put-same, store-so, plus-none, apart-
 use Rattle.string_loops.specs.Pieces.{word}
 use Rattle.string_loops.proofs.Entry.{reached-inside, string-left}
 use Rattle.text_memory.specs.Data.{HasText, ahead_place}
-use Rattle.rt_read_text.specs.Promises.{HasInput, Reads, IsAhead}
+use Rattle.rt_read_text.specs.Specifications.{HasInput, Reads, IsAhead}
 use Rattle.rt_read_text.proofs.InputLemmas.{input-kept, input-inside, input-left}
 use Rattle.rt_read_strings.specs.Routines.{begin_text, text_round, set_length, read_string_routine}
-use Rattle.rt_read_strings.specs.Promises.{read_string_number, ReadsText, ReadsString}
+use Rattle.rt_read_strings.specs.Specifications.{read_string_number, ReadsText, ReadsString}
 use Rattle.rt_read_strings.proofs.Texts.{text_of, rest_of, text-is, rest-is, text-length}
 use Rattle.rt_read_strings.proofs.Filling.{filling, Filled, fill}
 

@@ -6,10 +6,10 @@ ghost use Rattle.flat_code.specs.View.{view_list};
 ghost use Rattle.flat_code.specs.Plain.{view_routine};
 ghost use Rattle.flat_code.specs.Program.{FlatProgram, Choice, UnitCode, runtime_key};
 ghost use Rattle.flat_code.specs.Legal.{StackFits};
-ghost use Rattle.routine_proofs.specs.Promises.{IsHeld};
+ghost use Rattle.routine_proofs.specs.Specifications.{IsHeld};
 ghost use Rattle.text_memory.specs.Data.{HasText};
 ghost use Rattle.rt_read_strings.specs.Routines.{begin_text, take_byte, text_round, set_length, read_string_routine};
-ghost use Rattle.rt_read_strings.specs.Promises.{read_string_number, ReadsString};
+ghost use Rattle.rt_read_strings.specs.Specifications.{read_string_number, ReadsString};
 
 use flat_builders::{name, op, repeat, set, then, when, word};
 use flat_code::{FlatExpr, FlatList, FlatOp, FlatRoutine};

@@ -15,7 +15,7 @@ use Rattle.string_loops.proofs.Entry.{kept}
 use Rattle.values.specs.Input.{is_eof, is_eoln, char_read, after_line, after_13}
 use Rattle.text_memory.specs.Data.{IsLeft, none, byte, ended, ahead_place}
 use Rattle.text_memory.proofs.Buffer.{off-lower}
-use Rattle.rt_read_text.specs.Promises.{HasInput, AreBytes}
+use Rattle.rt_read_text.specs.Specifications.{HasInput, AreBytes}
 
 -- what is left behind a byte that is ahead is what was not read yet
 pub left-rest : (w : ℕ) (input left : List ℕ) → IsLeft w input left → w < 256 → (b : ℕ) (rest : List ℕ) → left ≡ b ∷ rest → input ≡ rest

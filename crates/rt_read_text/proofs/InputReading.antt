@@ -14,17 +14,17 @@ use Rattle.routine_proofs.specs.Activation.{Slot, Shut, Free, Holds, Activation,
 use Rattle.routine_proofs.specs.Straight.{Onward, seen_value, straight, code_size}
 use Rattle.routine_proofs.specs.Comes.{Does}
 use Rattle.routine_proofs.specs.Entry.{entered, memory_without}
-use Rattle.routine_proofs.specs.Promises.{IsHeld}
+use Rattle.routine_proofs.specs.Specifications.{IsHeld}
 use Rattle.routine_proofs.proofs.Doing.{weaker-does, then-does, straight-does}
 use Rattle.routine_proofs.proofs.Calls.{call-ends, placed, starts}
 use Rattle.strings_in_memory.specs.Strings.{HasBytes, IsReached}
 use Rattle.string_loops.specs.Pieces.{word, set_word}
 use Rattle.string_loops.proofs.Seen.{op-so, set-so}
 use Rattle.text_memory.specs.Data.{HasText, IsLeft, none, ahead_place}
-use Rattle.text_memory.proofs.Acts.{SameRest, taken-does, other-does}
+use Rattle.text_memory.proofs.Effects.{SameRest, taken-does, other-does}
 use Rattle.rt_read_text.specs.Ahead.{peek, take}
 use Rattle.rt_read_text.specs.Routines.{function_of, is_byte, ends_text, eof_routine, eoln_routine, take_char, read_char_routine}
-use Rattle.rt_read_text.specs.Promises.{eof_number, eoln_number, read_char_number, HasInput, Reads, IsAhead, TellsEof, TellsEoln, ReadsChar}
+use Rattle.rt_read_text.specs.Specifications.{eof_number, eoln_number, read_char_number, HasInput, Reads, IsAhead, TellsEof, TellsEoln, ReadsChar}
 use Rattle.rt_read_text.proofs.InputLemmas.{left-rest, same-byte, other-byte, is-one, either-bit, input-inside, input-left}
 use Rattle.rt_read_text.proofs.Peeking.{next_byte, ahead-so, with-ahead-has, with-ahead-other, with_ahead, known-reached, Peeking, Peeked, peeked}
 

@@ -12,16 +12,16 @@ use Rattle.routine_proofs.specs.Activation.{Activation, IsPlaced}
 use Rattle.routine_proofs.specs.Straight.{Exit, Onward, Leaving}
 use Rattle.routine_proofs.specs.Comes.{Does}
 use Rattle.routine_proofs.specs.Entry.{entered, memory_without}
-use Rattle.routine_proofs.specs.Promises.{IsHeld}
+use Rattle.routine_proofs.specs.Specifications.{IsHeld}
 use Rattle.routine_proofs.proofs.Doing.{weaker-does, then-does, straight-does, round-does, leave-does}
 use Rattle.routine_proofs.proofs.Calls.{call-ends, placed, starts}
 use Rattle.string_loops.specs.Pieces.{leave}
 use Rattle.strings_in_memory.specs.Strings.{HasBytes}
 use Rattle.text_memory.specs.Data.{HasText, IsLeft, none, ahead_place}
-use Rattle.text_memory.proofs.Acts.{taken-does, other-does}
+use Rattle.text_memory.proofs.Effects.{taken-does, other-does}
 use Rattle.rt_read_text.specs.Ahead.{peek, take}
 use Rattle.rt_read_text.specs.Routines.{is_byte, after_return, after_byte, line_round, read_line_routine}
-use Rattle.rt_read_text.specs.Promises.{read_line_number, AreBytes, HasInput, Reads, IsAhead, ReadsLine}
+use Rattle.rt_read_text.specs.Specifications.{read_line_number, AreBytes, HasInput, Reads, IsAhead, ReadsLine}
 use Rattle.rt_read_text.proofs.InputLemmas.{left-rest, same-byte, other-byte, is-one, input-inside, input-left}
 use Rattle.rt_read_text.proofs.Peeking.{next_byte, with_ahead, with-ahead-has, with-ahead-other, Peeking, Peeked, peeked}
 use Rattle.rt_read_text.proofs.InputReading.{start, at, peeking, peeking-again, take-does}

@@ -25,9 +25,9 @@ use Rattle.string_loops.proofs.BackwardLoop.{reached-still}
 use Rattle.string_loops.proofs.Bytes.{bytes-unshift}
 use Rattle.text_memory.specs.Data.{HasText, IsLeft, none, byte, ended, ahead_place}
 use Rattle.text_memory.specs.Pieces.{ahead_at, fetch}
-use Rattle.text_memory.proofs.Acts.{SameRest, datum-place, end-does, byte-does, taken-does, other-does}
+use Rattle.text_memory.proofs.Effects.{SameRest, datum-place, end-does, byte-does, taken-does, other-does}
 use Rattle.rt_read_text.specs.Ahead.{set_ahead, read_ahead, fill, peek, take}
-use Rattle.rt_read_text.specs.Promises.{AreBytes, HasInput, IsAhead}
+use Rattle.rt_read_text.specs.Specifications.{AreBytes, HasInput, IsAhead}
 
 -- the next byte of an input, or 26 at its end
 abbrev pub next_byte : List ℕ → ℕ

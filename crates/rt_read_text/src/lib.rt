@@ -7,12 +7,12 @@ ghost use Rattle.flat_code.specs.View.{view_expr, view_stmt, view_list};
 ghost use Rattle.flat_code.specs.Plain.{view_routine};
 ghost use Rattle.flat_code.specs.Program.{FlatProgram, Choice, UnitCode, runtime_key};
 ghost use Rattle.flat_code.specs.Legal.{StackFits};
-ghost use Rattle.routine_proofs.specs.Promises.{IsHeld};
+ghost use Rattle.routine_proofs.specs.Specifications.{IsHeld};
 ghost use Rattle.string_loops.specs.Pieces.{leave as leave_code};
 ghost use Rattle.text_memory.specs.Data.{HasText};
 ghost use Rattle.rt_read_text.specs.Ahead.{set_ahead, read_ahead, fill, peek as peek_code, take as take_code};
 ghost use Rattle.rt_read_text.specs.Routines.{function_of, is_byte as is_byte_code, ends_text as ends_text_code, eof_routine, eoln_routine, take_char, read_char_routine, after_return, after_byte, line_round, read_line_routine};
-ghost use Rattle.rt_read_text.specs.Promises.{eof_number, eoln_number, read_char_number, read_line_number, TellsEof, TellsEoln, ReadsChar, ReadsLine};
+ghost use Rattle.rt_read_text.specs.Specifications.{eof_number, eoln_number, read_char_number, read_line_number, TellsEof, TellsEoln, ReadsChar, ReadsLine};
 
 use flat_builders::{name, op, repeat, routine, set, then, when, word};
 use flat_code::{FlatExpr, FlatList, FlatOp, FlatRoutine, FlatStmt};

@@ -23,7 +23,7 @@ use Rattle.routine_proofs.specs.Activation.{Slot, Shut, Free, Holds, Activation,
 use Rattle.routine_proofs.specs.Straight.{Onward, Leaving, Came, seen_value, continued, straight, code_size}
 use Rattle.routine_proofs.specs.Comes.{Does}
 use Rattle.routine_proofs.specs.Entry.{entered, memory_without}
-use Rattle.routine_proofs.specs.Promises.{IsHeld}
+use Rattle.routine_proofs.specs.Specifications.{IsHeld}
 use Rattle.routine_proofs.proofs.Replies.{next_of, taken-so, other-so}
 use Rattle.routine_proofs.proofs.Doing.{weaker-does, then-does, straight-does, round-does, leave-does}
 use Rattle.routine_proofs.proofs.Calls.{call-ends, placed, starts}
@@ -36,7 +36,7 @@ use Rattle.string_loops.proofs.Entry.{kept}
 use Rattle.rt_sets.specs.Sets.{HasSet}
 use Rattle.rt_sets.proofs.SetBytes.{byte-small, bit-is, union-byte}
 use Rattle.rt_set_constructors.specs.Routines.{take_pointer, with_bit, add_element, range_round, include_routine}
-use Rattle.rt_set_constructors.specs.Promises.{include_number, Includes}
+use Rattle.rt_set_constructors.specs.Specifications.{include_number, Includes}
 
 low-same : (b : ℕ) → b < 256 → low_byte b ≡ b
 low-same b h = omega (arith, h)

@@ -6,9 +6,9 @@ ghost use Rattle.flat_code.specs.View.{view_expr, view_list};
 ghost use Rattle.flat_code.specs.Plain.{view_routine};
 ghost use Rattle.flat_code.specs.Program.{FlatProgram, Choice, UnitCode, runtime_key};
 ghost use Rattle.flat_code.specs.Legal.{StackFits};
-ghost use Rattle.routine_proofs.specs.Promises.{IsHeld};
+ghost use Rattle.routine_proofs.specs.Specifications.{IsHeld};
 ghost use Rattle.rt_set_constructors.specs.Routines.{take_pointer, with_bit, add_element, range_round, include_routine};
-ghost use Rattle.rt_set_constructors.specs.Promises.{include_number, Includes};
+ghost use Rattle.rt_set_constructors.specs.Specifications.{include_number, Includes};
 
 use flat_builders::{name, op, repeat, set, then, when, word};
 use flat_code::{FlatExpr, FlatList, FlatOp, FlatRoutine, FlatStmt};

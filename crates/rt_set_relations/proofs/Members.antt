@@ -18,7 +18,7 @@ use Rattle.routine_proofs.specs.Activation.{Slot, Shut, Free, Holds, Activation,
 use Rattle.routine_proofs.specs.Straight.{Onward, Came, seen_value, continued, straight, code_size}
 use Rattle.routine_proofs.specs.Comes.{Does}
 use Rattle.routine_proofs.specs.Entry.{entered, memory_without}
-use Rattle.routine_proofs.specs.Promises.{IsHeld}
+use Rattle.routine_proofs.specs.Specifications.{IsHeld}
 use Rattle.routine_proofs.proofs.Replies.{next_of, other_of, taken-so, other-so}
 use Rattle.routine_proofs.proofs.Doing.{weaker-does, straight-does}
 use Rattle.routine_proofs.proofs.Calls.{call-ends, placed, starts}
@@ -31,7 +31,7 @@ use Rattle.string_loops.proofs.Counts.{decided}
 use Rattle.string_loops.proofs.Entry.{kept}
 use Rattle.rt_sets.specs.Sets.{HasSet}
 use Rattle.rt_set_relations.specs.Routines.{member_bit, member_code, member_routine}
-use Rattle.rt_set_relations.specs.Promises.{member_number, TellsMember}
+use Rattle.rt_set_relations.specs.Specifications.{member_number, TellsMember}
 
 -- ---- members by the words of a number
 

@@ -14,7 +14,7 @@ use Rattle.routine_proofs.specs.Activation.{Slot, Shut, Free, Holds, Activation,
 use Rattle.routine_proofs.specs.Straight.{Exit, Onward, Leaving, Came, seen_value, continued, straight, code_size}
 use Rattle.routine_proofs.specs.Comes.{Does}
 use Rattle.routine_proofs.specs.Entry.{entered, memory_without}
-use Rattle.routine_proofs.specs.Promises.{IsHeld}
+use Rattle.routine_proofs.specs.Specifications.{IsHeld}
 use Rattle.routine_proofs.proofs.Replies.{taken_of, taken-so, other-so}
 use Rattle.routine_proofs.proofs.Doing.{weaker-does, then-does, straight-does, round-does, leave-does}
 use Rattle.routine_proofs.proofs.Calls.{call-ends, placed, starts}
@@ -24,7 +24,7 @@ use Rattle.string_loops.proofs.Seen.{op-so}
 use Rattle.string_loops.proofs.Entry.{kept}
 use Rattle.rt_sets.specs.Sets.{HasSet}
 use Rattle.rt_set_relations.specs.Routines.{left_byte, right_byte, relation_start, relation_round, relation_routine, same_test, subset_test}
-use Rattle.rt_set_relations.specs.Promises.{same_number, subset_number, Relates, TellsSame, TellsSubset}
+use Rattle.rt_set_relations.specs.Specifications.{same_number, subset_number, Relates, TellsSame, TellsSubset}
 use Rattle.rt_set_relations.proofs.Bits.{byte-small, all_pass, subset-is, same-is}
 
 -- the byte at so many places behind a pointer

@@ -6,9 +6,9 @@ ghost use Rattle.flat_code.specs.View.{view_expr, view_list};
 ghost use Rattle.flat_code.specs.Plain.{view_routine};
 ghost use Rattle.flat_code.specs.Program.{FlatProgram, Choice, UnitCode, runtime_key};
 ghost use Rattle.flat_code.specs.Legal.{StackFits};
-ghost use Rattle.routine_proofs.specs.Promises.{IsHeld};
+ghost use Rattle.routine_proofs.specs.Specifications.{IsHeld};
 ghost use Rattle.rt_set_relations.specs.Routines.{relation_start, relation_step, relation_round, relation_routine, same_test, subset_test, member_bit, member_code, member_routine};
-ghost use Rattle.rt_set_relations.specs.Promises.{same_number, subset_number, member_number, TellsSame, TellsSubset, TellsMember};
+ghost use Rattle.rt_set_relations.specs.Specifications.{same_number, subset_number, member_number, TellsSame, TellsSubset, TellsMember};
 
 use flat_builders::{name, op, repeat, routine, set, then, when, word};
 use flat_code::{FlatExpr, FlatList, FlatOp, FlatRoutine, FlatStmt};

@@ -20,7 +20,7 @@ use Rattle.routine_proofs.specs.Activation.{Slot, Shut, Free, Holds, Activation,
 use Rattle.routine_proofs.specs.Straight.{Exit, Onward, Leaving, Came, seen_value, continued, straight, code_size}
 use Rattle.routine_proofs.specs.Comes.{Does}
 use Rattle.routine_proofs.specs.Entry.{entered, memory_without}
-use Rattle.routine_proofs.specs.Promises.{IsHeld}
+use Rattle.routine_proofs.specs.Specifications.{IsHeld}
 use Rattle.routine_proofs.proofs.Replies.{next_of, taken-so, other-so}
 use Rattle.routine_proofs.proofs.Doing.{weaker-does, then-does, straight-does, round-does, leave-does}
 use Rattle.routine_proofs.proofs.Calls.{call-ends, placed, starts}
@@ -31,7 +31,7 @@ use Rattle.string_loops.proofs.BackwardLoop.{reached-still}
 use Rattle.string_loops.proofs.Entry.{kept, reached-inside}
 use Rattle.rt_sets.specs.Sets.{HasSet, filled}
 use Rattle.rt_sets.specs.Routines.{left_byte, right_byte, combine_step, combine_round, all_bytes, combine_routine, union_byte, difference_byte, intersection_byte}
-use Rattle.rt_sets.specs.Promises.{union_number, difference_number, intersection_number, CanCombine, Combines, Unites, TakesAway, Intersects}
+use Rattle.rt_sets.specs.Specifications.{union_number, difference_number, intersection_number, CanCombine, Combines, Unites, TakesAway, Intersects}
 use Rattle.rt_sets.proofs.SetBytes.{byte-small, union-byte, intersection-byte, difference-byte}
 
 low-same : (b : ℕ) → b < 256 → low_byte b ≡ b

@@ -1,3 +1,3 @@
 pub mod Sets
 pub mod Routines
-pub mod Promises
+pub mod Specifications

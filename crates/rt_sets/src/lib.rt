@@ -6,9 +6,9 @@ ghost use Rattle.flat_code.specs.View.{view_expr, view_list};
 ghost use Rattle.flat_code.specs.Plain.{view_routine};
 ghost use Rattle.flat_code.specs.Program.{FlatProgram, Choice, UnitCode, runtime_key};
 ghost use Rattle.flat_code.specs.Legal.{StackFits};
-ghost use Rattle.routine_proofs.specs.Promises.{IsHeld};
+ghost use Rattle.routine_proofs.specs.Specifications.{IsHeld};
 ghost use Rattle.rt_sets.specs.Routines.{combine_step, combine_round, all_bytes, combine_routine, union_byte, difference_byte, intersection_byte};
-ghost use Rattle.rt_sets.specs.Promises.{union_number, difference_number, intersection_number, Unites, TakesAway, Intersects};
+ghost use Rattle.rt_sets.specs.Specifications.{union_number, difference_number, intersection_number, Unites, TakesAway, Intersects};
 
 use flat_builders::{name, op, repeat, set, then, when, word};
 use flat_code::{FlatExpr, FlatList, FlatOp, FlatRoutine, FlatStmt};

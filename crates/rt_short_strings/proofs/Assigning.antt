@@ -20,7 +20,7 @@ use Rattle.routine_proofs.specs.Activation.{Slot, Shut, Free, Holds, Activation,
 use Rattle.routine_proofs.specs.Straight.{Exit, Onward, Leaving, Came, continued, straight, code_size}
 use Rattle.routine_proofs.specs.Comes.{Does}
 use Rattle.routine_proofs.specs.Entry.{entered, memory_without}
-use Rattle.routine_proofs.specs.Promises.{IsHeld}
+use Rattle.routine_proofs.specs.Specifications.{IsHeld}
 use Rattle.routine_proofs.proofs.Replies.{next_of, taken-so, other-so}
 use Rattle.routine_proofs.proofs.Doing.{weaker-does, then-does, straight-does}
 use Rattle.routine_proofs.proofs.Calls.{call-ends, placed, starts}
@@ -28,7 +28,7 @@ use Rattle.strings_in_memory.specs.Strings.{HasString, IsReached, IsIn, CanMove,
 use Rattle.strings_in_memory.proofs.Cells.{put-same, byte-read, store-so, word-so, plus-none, plus-one, apart-in, bytes-kept, bytes-front, bytes-small, laid-other, laid-has}
 use Rattle.strings_in_memory.proofs.Moves.{MovesByte, moves}
 use Rattle.rt_short_strings.specs.Routines.{count, take_length, cut_length, store_length, one_byte, move_byte, assign_routine}
-use Rattle.rt_short_strings.specs.Promises.{assign_number, Assigns}
+use Rattle.rt_short_strings.specs.Specifications.{assign_number, Assigns}
 
 not_zero : (n : ℕ) → n ≡ 1 → n ≡ 0 → ⊥
 not_zero n p q = omega (arith, p, q)

@@ -7,9 +7,9 @@ ghost use Rattle.flat_code.specs.View.{view_expr, view_stmt, view_list};
 ghost use Rattle.flat_code.specs.Plain.{view_routine};
 ghost use Rattle.flat_code.specs.Program.{FlatProgram, Choice, UnitCode, runtime_key};
 ghost use Rattle.flat_code.specs.Legal.{StackFits};
-ghost use Rattle.routine_proofs.specs.Promises.{IsHeld};
+ghost use Rattle.routine_proofs.specs.Specifications.{IsHeld};
 ghost use Rattle.rt_short_strings.specs.Routines.{count, take_length, cut_length, store_length, step_on, one_byte, move_byte, assign_routine};
-ghost use Rattle.rt_short_strings.specs.Promises.{assign_number, Assigns};
+ghost use Rattle.rt_short_strings.specs.Specifications.{assign_number, Assigns};
 
 use flat_builders::{name, op, repeat, set, then, when, word};
 use flat_code::{Address, FlatExpr, FlatList, FlatOp, FlatRoutine, FlatStmt};

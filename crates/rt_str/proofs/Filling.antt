@@ -20,7 +20,7 @@ use Rattle.string_loops.proofs.Seen.{set-so}
 use Rattle.string_loops.proofs.ForwardLoop.{Moving, forward-does}
 use Rattle.text_memory.specs.Data.{HasText}
 use Rattle.text_memory.specs.Pieces.{item_at, item_offset, set_segment}
-use Rattle.text_memory.proofs.Acts.{datum-place, segment-does}
+use Rattle.text_memory.proofs.Effects.{datum-place, segment-does}
 use Rattle.rt_str.specs.Routines.{store_length, begin_text, begin_blanks, move_blanks, move_text, fill_variable}
 
 module _ (program : FlatProgram) (choice : Choice) (own : Frame) (sp : ℕ) (is_placed : IsPlaced choice own sp 18) (is_text : own.unit ≡ text_unit) (item ahead : ℕ) (there : HasText program choice item ahead) (e : Activation) (ts size w n : ℕ) (o : List ℕ) where

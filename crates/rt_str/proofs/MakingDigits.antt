@@ -22,10 +22,10 @@ use Rattle.string_loops.proofs.Seen.{op-so, set-so}
 use Rattle.string_loops.proofs.BackwardLoop.{laid_back-reached}
 use Rattle.text_memory.specs.Data.{HasItem, HasText}
 use Rattle.text_memory.specs.Pieces.{item_at, item_offset, set_segment}
-use Rattle.text_memory.proofs.Acts.{datum-place, segment-does}
+use Rattle.text_memory.proofs.Effects.{datum-place, segment-does}
 use Rattle.rt_write_text.proofs.MadeText.{Small}
 use Rattle.rt_write_numbers.specs.Routines.{begin_words, begin_pointer, take_magnitude, digit_round, give_sign, end_digits, make_digits}
-use Rattle.rt_write_numbers.specs.Promises.{long_text}
+use Rattle.rt_write_numbers.specs.Specifications.{long_text}
 use Rattle.rt_write_numbers.proofs.Digits.{sign-decided, positive-text, negative_low, negative_high, magnitude, negative-text}
 use Rattle.rt_write_numbers.proofs.DigitLoop.{one-back, at-pointer}
 use Rattle.rt_str.proofs.WideDigits.{spelled}

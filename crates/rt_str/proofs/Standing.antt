@@ -15,7 +15,7 @@ use Rattle.string_loops.proofs.BackwardLoop.{laid_back-other, laid_back-reached,
 use Rattle.string_loops.proofs.Bytes.{address-shift, bytes-append, bytes-shift, bytes-unshift}
 use Rattle.text_memory.specs.Data.{HasItem}
 use Rattle.text_memory.proofs.Buffer.{laid-reached}
-use Rattle.rt_write_text.specs.Promises.{IsRoom}
+use Rattle.rt_write_text.specs.Specifications.{IsRoom}
 use Rattle.rt_write_text.proofs.MadeText.{Small}
 use Rattle.rt_write_numbers.proofs.Digits.{small-at}
 

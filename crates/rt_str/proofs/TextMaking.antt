@@ -11,7 +11,7 @@ use Rattle.flat_code.specs.Legal.{StackFits}
 use Rattle.routine_proofs.specs.Activation.{Holds}
 use Rattle.routine_proofs.specs.Straight.{Onward}
 use Rattle.routine_proofs.specs.Entry.{entered, memory_without}
-use Rattle.routine_proofs.specs.Promises.{IsHeld}
+use Rattle.routine_proofs.specs.Specifications.{IsHeld}
 use Rattle.routine_proofs.proofs.Doing.{weaker-does, then-does}
 use Rattle.routine_proofs.proofs.Calls.{call-ends, placed, starts}
 use Rattle.strings_in_memory.specs.Strings.{HasString, IsIn, place}
@@ -20,7 +20,7 @@ use Rattle.text_memory.specs.Data.{HasText}
 use Rattle.text_memory.proofs.Buffer.{item-inside, item-left}
 use Rattle.rt_write_numbers.specs.Routines.{make_digits}
 use Rattle.rt_str.specs.Routines.{take_room, fill_variable, str_routine}
-use Rattle.rt_str.specs.Promises.{str_number, str_of, GetsText, MakesText}
+use Rattle.rt_str.specs.Specifications.{str_number, str_of, GetsText, MakesText}
 use Rattle.rt_str.proofs.MakingDigits as making
 use Rattle.rt_str.proofs.RoomTaking as taking
 use Rattle.rt_str.proofs.Filling as filling

@@ -6,11 +6,11 @@ ghost use Rattle.flat_code.specs.View.{view_list};
 ghost use Rattle.flat_code.specs.Plain.{view_routine};
 ghost use Rattle.flat_code.specs.Program.{FlatProgram, Choice, UnitCode, runtime_key};
 ghost use Rattle.flat_code.specs.Legal.{StackFits};
-ghost use Rattle.routine_proofs.specs.Promises.{IsHeld};
+ghost use Rattle.routine_proofs.specs.Specifications.{IsHeld};
 ghost use Rattle.text_memory.specs.Data.{HasText};
 ghost use Rattle.rt_write_text.specs.Showing.{set_due};
 ghost use Rattle.rt_str.specs.Routines.{no_blanks, cut_blanks, cut_text, take_room, store_length, begin_text, begin_blanks, move_blanks, move_text, fill_variable, str_routine};
-ghost use Rattle.rt_str.specs.Promises.{str_number, MakesText};
+ghost use Rattle.rt_str.specs.Specifications.{str_number, MakesText};
 
 use flat_builders::{name, op, set, then, when, word};
 use flat_code::{FlatExpr, FlatList, FlatOp, FlatRoutine};

@@ -20,7 +20,7 @@ use Rattle.routine_proofs.specs.Activation.{Slot, Shut, Free, Holds, Activation,
 use Rattle.routine_proofs.specs.Straight.{Exit, Onward, Leaving, Came, seen_value, continued, chosen_way, straight, code_size}
 use Rattle.routine_proofs.specs.Comes.{Does}
 use Rattle.routine_proofs.specs.Entry.{entered, memory_without}
-use Rattle.routine_proofs.specs.Promises.{IsHeld}
+use Rattle.routine_proofs.specs.Specifications.{IsHeld}
 use Rattle.routine_proofs.proofs.Replies.{next_of, taken_of, other_of, taken-so, other-so}
 use Rattle.routine_proofs.proofs.Doing.{weaker-does, then-does, straight-does, round-does, leave-does}
 use Rattle.routine_proofs.proofs.Calls.{call-ends, placed, starts}
@@ -31,7 +31,7 @@ use Rattle.string_loops.proofs.Seen.{op-so, set-so}
 use Rattle.string_loops.proofs.Counts.{limit-so}
 use Rattle.string_loops.proofs.Entry.{string-inside}
 use Rattle.rt_string_compare.specs.Routines.{order, compare_lengths, compare_step, compare_bytes, compare_round, compare_routine}
-use Rattle.rt_string_compare.specs.Promises.{compare_number, order_word, ComparesStrings}
+use Rattle.rt_string_compare.specs.Specifications.{compare_number, order_word, ComparesStrings}
 
 -- ---- orders
 

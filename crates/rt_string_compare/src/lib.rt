@@ -6,10 +6,10 @@ ghost use Rattle.flat_code.specs.View.{view_expr, view_list};
 ghost use Rattle.flat_code.specs.Plain.{view_routine};
 ghost use Rattle.flat_code.specs.Program.{FlatProgram, Choice, UnitCode, runtime_key};
 ghost use Rattle.flat_code.specs.Legal.{StackFits};
-ghost use Rattle.routine_proofs.specs.Promises.{IsHeld};
+ghost use Rattle.routine_proofs.specs.Specifications.{IsHeld};
 ghost use Rattle.string_loops.specs.Pieces.{word as word_code, behind as behind_code, leave as leave_code};
 ghost use Rattle.rt_string_compare.specs.Routines.{order, compare_lengths, compare_step, compare_bytes, compare_round, compare_routine};
-ghost use Rattle.rt_string_compare.specs.Promises.{compare_number, ComparesStrings};
+ghost use Rattle.rt_string_compare.specs.Specifications.{compare_number, ComparesStrings};
 
 use flat_builders::{name, op, repeat, routine, set, then, when, word};
 use flat_code::{FlatExpr, FlatList, FlatOp, FlatRoutine, FlatStmt};

@@ -20,7 +20,7 @@ use Rattle.routine_proofs.specs.Activation.{Slot, Shut, Free, Holds, Activation,
 use Rattle.routine_proofs.specs.Straight.{Exit, Onward, Came, straight, code_size}
 use Rattle.routine_proofs.specs.Comes.{Does}
 use Rattle.routine_proofs.specs.Entry.{entered, memory_without}
-use Rattle.routine_proofs.specs.Promises.{IsHeld}
+use Rattle.routine_proofs.specs.Specifications.{IsHeld}
 use Rattle.routine_proofs.proofs.Replies.{next_of}
 use Rattle.routine_proofs.proofs.Doing.{weaker-does, then-does, straight-does}
 use Rattle.routine_proofs.proofs.Calls.{call-ends, placed, starts}
@@ -36,9 +36,9 @@ use Rattle.string_loops.proofs.BackwardLoop.{reached-still, laid_back-other, lai
 use Rattle.string_loops.proofs.Bytes.{address-shift, bytes-append, bytes-shift, bytes-unshift, bytes-behind}
 use Rattle.string_loops.proofs.Entry.{string-inside, reached-inside, string-left}
 use Rattle.rt_string_joins.specs.Routines.{insert_place, insert_lengths, insert_whole, insert_ends, insert_behind, insert_count, insert_part, insert_routine}
-use Rattle.rt_string_joins.specs.Promises.{insert_number, CanInsert, Inserts}
+use Rattle.rt_string_joins.specs.Specifications.{insert_number, CanInsert, Inserts}
 
--- ---- what an insertion keeps: a front of the text, a front of the part, and a piece of what stands behind the place
+-- ---- what an insertion keeps: a prefix of the text, a prefix of the part, and a piece of what stands behind the place
 
 -- the front of two lists
 front-both : (k : ℕ) (a b : List ℕ) → take k (a ++ b) ≡ take (min (length a) k) a ++ take (k - length a) b

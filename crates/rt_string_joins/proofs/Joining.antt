@@ -18,7 +18,7 @@ use Rattle.routine_proofs.specs.Activation.{Slot, Shut, Free, Holds, Activation,
 use Rattle.routine_proofs.specs.Straight.{Exit, Onward, Came, onward, straight, code_size}
 use Rattle.routine_proofs.specs.Comes.{Does}
 use Rattle.routine_proofs.specs.Entry.{entered, memory_without}
-use Rattle.routine_proofs.specs.Promises.{IsHeld}
+use Rattle.routine_proofs.specs.Specifications.{IsHeld}
 use Rattle.routine_proofs.proofs.Replies.{next_of}
 use Rattle.routine_proofs.proofs.Doing.{weaker-does, then-does, straight-does}
 use Rattle.routine_proofs.proofs.Calls.{call-ends, placed, starts}
@@ -33,7 +33,7 @@ use Rattle.string_loops.proofs.BackwardLoop.{reached-still, laid_back-other, lai
 use Rattle.string_loops.proofs.Bytes.{address-shift, bytes-append, bytes-shift, bytes-unshift}
 use Rattle.string_loops.proofs.Entry.{string-inside, reached-inside, string-left}
 use Rattle.rt_string_joins.specs.Routines.{join_lengths, join_ends, join_second, join_whole, join_first, concat_routine}
-use Rattle.rt_string_joins.specs.Promises.{concat_number, CanJoin, Joins}
+use Rattle.rt_string_joins.specs.Specifications.{concat_number, CanJoin, Joins}
 
 low-same : (b : ℕ) → b < 256 → low_byte b ≡ b
 low-same b h = omega (arith, h)

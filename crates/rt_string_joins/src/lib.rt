@@ -6,9 +6,9 @@ ghost use Rattle.flat_code.specs.View.{view_list};
 ghost use Rattle.flat_code.specs.Plain.{view_routine};
 ghost use Rattle.flat_code.specs.Program.{FlatProgram, Choice, UnitCode, runtime_key};
 ghost use Rattle.flat_code.specs.Legal.{StackFits};
-ghost use Rattle.routine_proofs.specs.Promises.{IsHeld};
+ghost use Rattle.routine_proofs.specs.Specifications.{IsHeld};
 ghost use Rattle.rt_string_joins.specs.Routines.{join_lengths, join_ends, join_second, join_whole, join_first, concat_routine, insert_place, insert_lengths, insert_whole, insert_ends, insert_behind, insert_count, insert_part, insert_routine};
-ghost use Rattle.rt_string_joins.specs.Promises.{concat_number, insert_number, Joins, Inserts};
+ghost use Rattle.rt_string_joins.specs.Specifications.{concat_number, insert_number, Joins, Inserts};
 
 use flat_builders::{name, op, set, then, word};
 use flat_code::{FlatExpr, FlatList, FlatOp, FlatRoutine};

@@ -18,7 +18,7 @@ use Rattle.routine_proofs.specs.Activation.{Slot, Shut, Free, Holds, Activation,
 use Rattle.routine_proofs.specs.Straight.{Exit, Onward, Came, straight, code_size}
 use Rattle.routine_proofs.specs.Comes.{Does}
 use Rattle.routine_proofs.specs.Entry.{entered, memory_without}
-use Rattle.routine_proofs.specs.Promises.{IsHeld}
+use Rattle.routine_proofs.specs.Specifications.{IsHeld}
 use Rattle.routine_proofs.proofs.Replies.{next_of}
 use Rattle.routine_proofs.proofs.Doing.{weaker-does, then-does, straight-does}
 use Rattle.routine_proofs.proofs.Calls.{call-ends, placed, starts}
@@ -33,7 +33,7 @@ use Rattle.string_loops.proofs.BackwardLoop.{reached-still}
 use Rattle.string_loops.proofs.Bytes.{address-shift, bytes-append, bytes-shift, bytes-unshift, bytes-behind}
 use Rattle.string_loops.proofs.Entry.{string-inside, reached-inside, string-left}
 use Rattle.rt_string_parts.specs.Routines.{piece, copy_start, copy_bytes, copy_routine}
-use Rattle.rt_string_parts.specs.Promises.{copy_number, CanCopy, Copies}
+use Rattle.rt_string_parts.specs.Specifications.{copy_number, CanCopy, Copies}
 
 low-same : (b : ℕ) → b < 256 → low_byte b ≡ b
 low-same b h = omega (arith, h)

@@ -12,11 +12,11 @@ use Rattle.flat_code.specs.Gives.{AreWords}
 use Rattle.routine_proofs.specs.Activation.{Shut, Holds, Activation, IsPlaced}
 use Rattle.routine_proofs.specs.Straight.{Onward, straight}
 use Rattle.routine_proofs.specs.Entry.{entered}
-use Rattle.routine_proofs.specs.Promises.{IsHeld, Replies}
+use Rattle.routine_proofs.specs.Specifications.{IsHeld, Replies}
 use Rattle.routine_proofs.proofs.Replies.{answers-straight, taken-so, other-so, next_of, one-word}
 use Rattle.routine_proofs.proofs.Calls.{computes-so}
 use Rattle.rt_string_parts.specs.Routines.{upper_code, upper_routine}
-use Rattle.rt_string_parts.specs.Promises.{upper_number, upper_of, MakesUpper}
+use Rattle.rt_string_parts.specs.Specifications.{upper_number, upper_of, MakesUpper}
 
 both-bits : (p q : Bool) → bit_and (truth p) (truth q) ≡ truth (p && q)
 both-bits true true = refl

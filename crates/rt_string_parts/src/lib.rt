@@ -6,9 +6,9 @@ ghost use Rattle.flat_code.specs.View.{view_expr, view_list};
 ghost use Rattle.flat_code.specs.Plain.{view_routine};
 ghost use Rattle.flat_code.specs.Program.{FlatProgram, Choice, UnitCode, runtime_key};
 ghost use Rattle.flat_code.specs.Legal.{StackFits};
-ghost use Rattle.routine_proofs.specs.Promises.{IsHeld};
+ghost use Rattle.routine_proofs.specs.Specifications.{IsHeld};
 ghost use Rattle.rt_string_parts.specs.Routines.{piece, copy_start, copy_bytes, copy_routine, delete_start, delete_bytes, delete_routine, upper_code, upper_routine};
-ghost use Rattle.rt_string_parts.specs.Promises.{copy_number, delete_number, upper_number, Copies, Deletes, MakesUpper};
+ghost use Rattle.rt_string_parts.specs.Specifications.{copy_number, delete_number, upper_number, Copies, Deletes, MakesUpper};
 
 use flat_builders::{name, op, routine, set, then, when, word};
 use flat_code::{FlatExpr, FlatList, FlatOp, FlatRoutine};

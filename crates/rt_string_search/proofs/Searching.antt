@@ -18,7 +18,7 @@ use Rattle.routine_proofs.specs.Activation.{Slot, Shut, Free, Holds, Activation,
 use Rattle.routine_proofs.specs.Straight.{Exit, Onward, Leaving, Came, seen_value, continued, straight, code_size}
 use Rattle.routine_proofs.specs.Comes.{Does}
 use Rattle.routine_proofs.specs.Entry.{entered, memory_without}
-use Rattle.routine_proofs.specs.Promises.{IsHeld}
+use Rattle.routine_proofs.specs.Specifications.{IsHeld}
 use Rattle.routine_proofs.proofs.Replies.{next_of, taken_of, other_of, taken-so, other-so}
 use Rattle.routine_proofs.proofs.Doing.{weaker-does, then-does, skip-does, straight-does, round-does, leave-does}
 use Rattle.routine_proofs.proofs.Calls.{call-ends, placed, starts}
@@ -29,9 +29,9 @@ use Rattle.string_loops.proofs.Seen.{op-so, set-so}
 use Rattle.string_loops.proofs.Counts.{decided}
 use Rattle.string_loops.proofs.Entry.{string-inside}
 use Rattle.rt_string_search.specs.Routines.{count_places, search_start, next_place, match_step, match_round, matched, decide, search_round, position_routine}
-use Rattle.rt_string_search.specs.Promises.{position_number, Searches}
+use Rattle.rt_string_search.specs.Specifications.{position_number, Searches}
 
--- ---- fronts of texts, byte by byte
+-- ---- prefixes of texts, byte by byte
 
 equal-bit : (x y : ℕ) → x ≡ y → truth (x == y) ≡ 1
 equal-bit x y h = grind (arith, nat_tests)

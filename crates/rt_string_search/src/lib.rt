@@ -6,10 +6,10 @@ ghost use Rattle.flat_code.specs.View.{view_expr, view_list};
 ghost use Rattle.flat_code.specs.Plain.{view_routine};
 ghost use Rattle.flat_code.specs.Program.{FlatProgram, Choice, UnitCode, runtime_key};
 ghost use Rattle.flat_code.specs.Legal.{StackFits};
-ghost use Rattle.routine_proofs.specs.Promises.{IsHeld};
+ghost use Rattle.routine_proofs.specs.Specifications.{IsHeld};
 ghost use Rattle.string_loops.specs.Pieces.{leave};
 ghost use Rattle.rt_string_search.specs.Routines.{count_places, search_start, next_place, match_step, match_round, matched, decide, search_round, position_routine};
-ghost use Rattle.rt_string_search.specs.Promises.{position_number, Searches};
+ghost use Rattle.rt_string_search.specs.Specifications.{position_number, Searches};
 
 use flat_builders::{name, op, repeat, routine, set, then, when, word};
 use flat_code::{FlatExpr, FlatList, FlatOp, FlatRoutine, FlatStmt};

@@ -15,7 +15,7 @@ use Rattle.rt_set_relations.proofs.Relating.{tells-same, tells-subset}
 use Rattle.rt_set_relations.proofs.Members.{tells-member}
 use Rattle.rt_set_constructors.proofs.Including.{includes}
 use Rattle.rt_strings.specs.Unit.{strings_code, HoldsStrings}
-use Rattle.rt_strings.specs.Promises.{StringsWork, SetsWork}
+use Rattle.rt_strings.specs.Specifications.{StringsWork, SetsWork}
 
 module _ (program : FlatProgram) (choice : Choice) (fits : StackFits program choice) (holds : HoldsStrings program) where
   pub strings-work : StringsWork program choice

@@ -8,9 +8,9 @@ ghost use Rattle.flat_code.specs.Runtime.{IsRuntime};
 ghost use Rattle.flat_code.specs.Plain.{view_unit};
 ghost use Rattle.flat_code.specs.Weights.{unit_weight};
 ghost use Rattle.leaf_routines.specs.Leaves.{AreLeaves};
-ghost use Rattle.rt_numbers.specs.Promises.{NumbersWork};
+ghost use Rattle.rt_numbers.specs.Specifications.{NumbersWork};
 ghost use Rattle.rt_strings.specs.Unit.{strings_code, HoldsStrings};
-ghost use Rattle.rt_strings.specs.Promises.{StringsWork, SetsWork};
+ghost use Rattle.rt_strings.specs.Specifications.{StringsWork, SetsWork};
 
 use flat_builders::name;
 use flat_code::FlatUnit;

@@ -13,7 +13,7 @@ use Rattle.text_memory.specs.Data.{item_key, ahead_key, item_datum, ahead_datum,
 use Rattle.start_data.specs.Start.{FitsRuntime, FirstsFit, IsOther}
 use Rattle.start_data.proofs.Start.{start}
 use Rattle.rt_text.specs.Unit.{text_code, HoldsTextUnit}
-use Rattle.rt_text.specs.Promises.{StartsText}
+use Rattle.rt_text.specs.Specifications.{StartsText}
 
 -- the bytes of a front
 bytes-first : (m : Cells) (p : Place) (i : ℕ) (xs ys : List ℕ) → HasBytes m p i (xs ++ ys) → HasBytes m p i xs

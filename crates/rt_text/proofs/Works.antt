@@ -14,7 +14,7 @@ use Rattle.rt_val.proofs.Giving.{gives-value, gives-place}
 use Rattle.rt_read_numbers.proofs.NumberReading.{reads-number}
 use Rattle.rt_str.proofs.TextMaking.{makes-text}
 use Rattle.rt_text.specs.Unit.{text_code, HoldsTextUnit}
-use Rattle.rt_text.specs.Promises.{TextWorks}
+use Rattle.rt_text.specs.Specifications.{TextWorks}
 
 pub text-works : (program : FlatProgram) (choice : Choice) (item ahead : ℕ) → StackFits program choice → HoldsTextUnit program → HasText program choice item ahead → TextWorks program choice item ahead
 text-works program choice item ahead fits holds there = record {

@@ -10,7 +10,7 @@ ghost use Rattle.text_memory.specs.Data.{item_key, ahead_key, item_datum, ahead_
 ghost use Rattle.start_data.specs.Start.{FirstsFit, FitsRuntime};
 ghost use Rattle.leaf_routines.specs.Leaves.{AreLeaves};
 ghost use Rattle.rt_text.specs.Unit.{text_code, HoldsTextUnit};
-ghost use Rattle.rt_text.specs.Promises.{TextWorks, StartsText};
+ghost use Rattle.rt_text.specs.Specifications.{TextWorks, StartsText};
 
 use flat_builders::name;
 use flat_code::{FlatDatum, FlatUnit};

@@ -17,7 +17,7 @@ use Rattle.routine_proofs.specs.Activation.{Slot, Shut, Free, Holds, Activation,
 use Rattle.routine_proofs.specs.Straight.{Exit, Onward, code_size}
 use Rattle.routine_proofs.specs.Comes.{Does}
 use Rattle.routine_proofs.specs.Entry.{entered}
-use Rattle.routine_proofs.specs.Promises.{IsHeld}
+use Rattle.routine_proofs.specs.Specifications.{IsHeld}
 use Rattle.routine_proofs.proofs.Doing.{weaker-does, then-does, straight-does}
 use Rattle.routine_proofs.proofs.Calls.{call-ends, placed, starts}
 use Rattle.strings_in_memory.specs.Strings.{HasString, place}
@@ -25,12 +25,12 @@ use Rattle.strings_in_memory.proofs.Cells.{byte-read, plus-none}
 use Rattle.string_loops.specs.Pieces.{behind, set_word}
 use Rattle.string_loops.proofs.Seen.{set-so}
 use Rattle.string_loops.proofs.Entry.{string-inside}
-use Rattle.text_memory.proofs.Acts.{taken-does, other-does}
+use Rattle.text_memory.proofs.Effects.{taken-does, other-does}
 use Rattle.numeral_steps.specs.Stages.{numeral_words, stage_words}
 use Rattle.numeral_steps.specs.Step.{is_number, begin_numeral, give_sign}
 use Rattle.numeral_steps.proofs.Signing.{signs}
 use Rattle.rt_val.specs.Routines.{begin_text, gap_round, numeral_round, end_val, val_code, val_value_routine, val_place_routine}
-use Rattle.rt_val.specs.Promises.{val_value_number, val_place_number, GivesValue, GivesPlace}
+use Rattle.rt_val.specs.Specifications.{val_value_number, val_place_number, GivesValue, GivesPlace}
 use Rattle.rt_val.proofs.Reading.{Finished, whole, broken, front, back, at, gaps, read-numeral}
 
 -- the bytes of a LongInt from its words

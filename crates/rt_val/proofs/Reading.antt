@@ -21,7 +21,7 @@ use Rattle.strings_in_memory.specs.Strings.{HasBytes, place}
 use Rattle.strings_in_memory.proofs.Cells.{byte-read, plus-one, bytes-further}
 use Rattle.string_loops.specs.Pieces.{word, behind, leave}
 use Rattle.string_loops.proofs.Seen.{set-so}
-use Rattle.text_memory.proofs.Acts.{taken-does, other-does}
+use Rattle.text_memory.proofs.Effects.{taken-does, other-does}
 use Rattle.numeral_steps.specs.Stages.{stage_number, has_minus, has_dollar, magnitude_of, numeral_words, stage_words, IsAt, at_stage, at_none}
 use Rattle.numeral_steps.specs.Step.{is_number, numeral_step}
 use Rattle.numeral_steps.proofs.Digits.{or-bits}

@@ -6,10 +6,10 @@ ghost use Rattle.flat_code.specs.View.{view_expr, view_list};
 ghost use Rattle.flat_code.specs.Plain.{view_routine};
 ghost use Rattle.flat_code.specs.Program.{FlatProgram, Choice, UnitCode, runtime_key};
 ghost use Rattle.flat_code.specs.Legal.{StackFits};
-ghost use Rattle.routine_proofs.specs.Promises.{IsHeld};
+ghost use Rattle.routine_proofs.specs.Specifications.{IsHeld};
 ghost use Rattle.string_loops.specs.Pieces.{leave};
 ghost use Rattle.rt_val.specs.Routines.{begin_text, next_byte, pass_byte, is_gap, gap_round, go_on, numeral_round, end_val, val_code, val_value_routine, val_place_routine};
-ghost use Rattle.rt_val.specs.Promises.{val_value_number, val_place_number, GivesValue, GivesPlace};
+ghost use Rattle.rt_val.specs.Specifications.{val_value_number, val_place_number, GivesValue, GivesPlace};
 
 use flat_builders::{name, op, repeat, routine, set, then, when, word};
 use flat_code::{FlatExpr, FlatList, FlatOp, FlatRoutine, FlatStmt};

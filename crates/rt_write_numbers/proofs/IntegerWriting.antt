@@ -17,7 +17,7 @@ use Rattle.routine_proofs.specs.Activation.{Slot, Shut, Free, Holds, Activation,
 use Rattle.routine_proofs.specs.Straight.{Exit, Onward, Came, continued, straight, code_size}
 use Rattle.routine_proofs.specs.Comes.{Does}
 use Rattle.routine_proofs.specs.Entry.{entered, memory_without}
-use Rattle.routine_proofs.specs.Promises.{IsHeld}
+use Rattle.routine_proofs.specs.Specifications.{IsHeld}
 use Rattle.routine_proofs.proofs.Replies.{taken-so, other-so}
 use Rattle.routine_proofs.proofs.Doing.{weaker-does, then-does, straight-does}
 use Rattle.routine_proofs.proofs.Calls.{call-ends, placed, starts}
@@ -30,14 +30,14 @@ use Rattle.string_loops.proofs.BackwardLoop.{laid_back-other, laid_back-reached,
 use Rattle.string_loops.proofs.Bytes.{address-shift, bytes-unshift}
 use Rattle.text_memory.specs.Data.{HasItem, HasText, blank_bytes, item_place}
 use Rattle.text_memory.specs.Pieces.{item_at, item_offset, set_segment}
-use Rattle.text_memory.proofs.Acts.{datum-place, segment-does}
+use Rattle.text_memory.proofs.Effects.{datum-place, segment-does}
 use Rattle.text_memory.proofs.Buffer.{item-inside, item-left}
 use Rattle.rt_write_text.specs.Showing.{begin_item, set_due, print_text, show_text}
-use Rattle.rt_write_text.specs.Promises.{IsRoom, Writes}
+use Rattle.rt_write_text.specs.Specifications.{IsRoom, Writes}
 use Rattle.rt_write_text.proofs.Padded.{Writing, Showing, item-offset, Shown, shows, begin-does}
 use Rattle.rt_write_text.proofs.MadeText.{Small}
 use Rattle.rt_write_numbers.specs.Routines.{begin_words, begin_pointer, negate, take_magnitude, digit_round, give_sign, end_digits, make_digits, write_integer_routine}
-use Rattle.rt_write_numbers.specs.Promises.{write_integer_number, long_text, WritesInteger}
+use Rattle.rt_write_numbers.specs.Specifications.{write_integer_number, long_text, WritesInteger}
 use Rattle.rt_write_numbers.proofs.Digits.{sign-decided, positive-text, negative_low, negative_high, magnitude, negative-text, small-at, tens}
 use Rattle.rt_write_numbers.proofs.DigitLoop.{one-back, at-pointer, digits, Spelled, spelled}
 

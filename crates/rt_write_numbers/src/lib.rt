@@ -6,10 +6,10 @@ ghost use Rattle.flat_code.specs.View.{view_expr, view_list};
 ghost use Rattle.flat_code.specs.Plain.{view_routine};
 ghost use Rattle.flat_code.specs.Program.{FlatProgram, Choice, UnitCode, runtime_key};
 ghost use Rattle.flat_code.specs.Legal.{StackFits};
-ghost use Rattle.routine_proofs.specs.Promises.{IsHeld};
+ghost use Rattle.routine_proofs.specs.Specifications.{IsHeld};
 ghost use Rattle.text_memory.specs.Data.{HasText};
 ghost use Rattle.rt_write_numbers.specs.Routines.{begin_words, begin_pointer, negate, take_magnitude, times_256, quotient_10, rest_10, store_digit, divide, is_zero, stop_at_zero, digit_round, give_sign, end_digits, make_digits, write_integer_routine};
-ghost use Rattle.rt_write_numbers.specs.Promises.{write_integer_number, WritesInteger};
+ghost use Rattle.rt_write_numbers.specs.Specifications.{write_integer_number, WritesInteger};
 
 use flat_builders::{name, op, repeat, set, then, when, word};
 use flat_code::{FlatExpr, FlatList, FlatOp, FlatRoutine, FlatStmt};

@@ -12,17 +12,17 @@ use Rattle.routine_proofs.specs.Activation.{Shut, Activation, IsPlaced}
 use Rattle.routine_proofs.specs.Straight.{Onward, seen_value}
 use Rattle.routine_proofs.specs.Comes.{Does}
 use Rattle.routine_proofs.specs.Entry.{entered, memory_without}
-use Rattle.routine_proofs.specs.Promises.{IsHeld}
+use Rattle.routine_proofs.specs.Specifications.{IsHeld}
 use Rattle.routine_proofs.proofs.Doing.{weaker-does, then-does, straight-does}
 use Rattle.routine_proofs.proofs.Calls.{call-ends, placed, starts}
 use Rattle.strings_in_memory.specs.Strings.{HasBytes, place}
 use Rattle.string_loops.proofs.Bytes.{bytes-shift, bytes-unshift}
 use Rattle.text_memory.specs.Data.{HasItem, HasText}
 use Rattle.text_memory.specs.Pieces.{item_at, item_offset, item_segment, print}
-use Rattle.text_memory.proofs.Acts.{datum-place, seen-evaluates, segment-evaluates, print-does}
+use Rattle.text_memory.proofs.Effects.{datum-place, seen-evaluates, segment-evaluates, print-does}
 use Rattle.text_memory.proofs.Buffer.{item-inside, item-left}
 use Rattle.rt_write_text.specs.Routines.{set_items, write_line_code, write_line_routine}
-use Rattle.rt_write_text.specs.Promises.{write_line_number, IsRoom, Writes, WritesLine}
+use Rattle.rt_write_text.specs.Specifications.{write_line_number, IsRoom, Writes, WritesLine}
 use Rattle.rt_write_text.proofs.MadeText.{Small, made_offset, base, items-so, made, end-reached, made-has, made-buffer, made-others}
 
 pub end-small : Small line_end

@@ -20,10 +20,10 @@ use Rattle.string_loops.proofs.BackwardLoop.{reached-still}
 use Rattle.string_loops.proofs.Bytes.{address-shift}
 use Rattle.text_memory.specs.Data.{HasItem, HasText, blank_bytes, item_place}
 use Rattle.text_memory.specs.Pieces.{item_at}
-use Rattle.text_memory.proofs.Acts.{datum-place}
+use Rattle.text_memory.proofs.Effects.{datum-place}
 use Rattle.text_memory.proofs.Buffer.{laid-reached}
 use Rattle.rt_write_text.specs.Routines.{set_item, set_items}
-use Rattle.rt_write_text.specs.Promises.{IsRoom}
+use Rattle.rt_write_text.specs.Specifications.{IsRoom}
 
 -- each is a byte
 abbrev pub Small : List ℕ → Type 0

@@ -15,7 +15,7 @@ use Rattle.routine_proofs.specs.Activation.{Slot, Shut, Free, Holds, Activation,
 use Rattle.routine_proofs.specs.Straight.{Onward, seen_value, straight, code_size}
 use Rattle.routine_proofs.specs.Comes.{Does}
 use Rattle.routine_proofs.specs.Entry.{entered, memory_without}
-use Rattle.routine_proofs.specs.Promises.{IsHeld}
+use Rattle.routine_proofs.specs.Specifications.{IsHeld}
 use Rattle.routine_proofs.proofs.Doing.{weaker-does, then-does, straight-does}
 use Rattle.routine_proofs.proofs.Calls.{call-ends, placed, starts}
 use Rattle.strings_in_memory.specs.Strings.{place}
@@ -23,11 +23,11 @@ use Rattle.string_loops.specs.Pieces.{word, set_word}
 use Rattle.string_loops.proofs.Seen.{set-so}
 use Rattle.text_memory.specs.Data.{HasItem, HasText}
 use Rattle.text_memory.specs.Pieces.{item_at, item_offset, set_segment}
-use Rattle.text_memory.proofs.Acts.{datum-place, segment-does, taken-does, other-does}
+use Rattle.text_memory.proofs.Effects.{datum-place, segment-does, taken-does, other-does}
 use Rattle.text_memory.proofs.Buffer.{item-inside, item-left}
 use Rattle.rt_write_text.specs.Showing.{begin_item, set_due, print_text, show_text}
 use Rattle.rt_write_text.specs.Routines.{set_item, set_items, begin_made, make_char, make_boolean, write_char_routine, write_boolean_routine}
-use Rattle.rt_write_text.specs.Promises.{write_char_number, write_boolean_number, IsRoom, Writes, WritesChar, WritesBoolean}
+use Rattle.rt_write_text.specs.Specifications.{write_char_number, write_boolean_number, IsRoom, Writes, WritesChar, WritesBoolean}
 use Rattle.rt_write_text.proofs.Padded.{Writing, Showing, Shown, shows, begin-does, item-offset}
 use Rattle.rt_write_text.proofs.MadeText.{Small, made_offset, base, item-so, items-so, made, end-reached, made-has, made-buffer, made-others, made-moves}
 

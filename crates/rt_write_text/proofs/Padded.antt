@@ -30,9 +30,9 @@ use Rattle.string_loops.proofs.Bytes.{address-shift, bytes-append, bytes-shift, 
 use Rattle.text_memory.specs.Data.{HasItem, HasText, blank_bytes}
 use Rattle.text_memory.specs.Pieces.{item_at, item_offset, item_segment, set_segment, print}
 use Rattle.text_memory.proofs.Buffer.{laid-reached}
-use Rattle.text_memory.proofs.Acts.{SameRest, datum-place, segment-does, Evaluates, seen-evaluates, segment-evaluates, print-does, taken-does, other-does}
+use Rattle.text_memory.proofs.Effects.{SameRest, datum-place, segment-does, Evaluates, seen-evaluates, segment-evaluates, print-does, taken-does, other-does}
 use Rattle.rt_write_text.specs.Showing.{begin_item, set_due, blanks_round, print_blanks, move_text, print_item, print_padded, print_plain, print_text}
-use Rattle.rt_write_text.specs.Promises.{IsRoom}
+use Rattle.rt_write_text.specs.Specifications.{IsRoom}
 
 -- the words that a routine begins with
 abbrev pub begin_words : Code

@@ -13,7 +13,7 @@ use Rattle.routine_proofs.specs.Activation.{Slot, Shut, Free, Holds, Activation,
 use Rattle.routine_proofs.specs.Straight.{Onward, straight, code_size}
 use Rattle.routine_proofs.specs.Comes.{Does}
 use Rattle.routine_proofs.specs.Entry.{entered, memory_without}
-use Rattle.routine_proofs.specs.Promises.{IsHeld}
+use Rattle.routine_proofs.specs.Specifications.{IsHeld}
 use Rattle.routine_proofs.proofs.Replies.{next_of}
 use Rattle.routine_proofs.proofs.Doing.{weaker-does, then-does, straight-does}
 use Rattle.routine_proofs.proofs.Calls.{call-ends, placed, starts}
@@ -27,7 +27,7 @@ use Rattle.text_memory.specs.Data.{HasItem, HasText}
 use Rattle.text_memory.proofs.Buffer.{item-inside, item-left}
 use Rattle.rt_write_text.specs.Showing.{begin_item, set_due, print_text}
 use Rattle.rt_write_text.specs.Routines.{begin_string, write_string_routine}
-use Rattle.rt_write_text.specs.Promises.{write_string_number, IsRoom, Writes, CanWrite, WritesString}
+use Rattle.rt_write_text.specs.Specifications.{write_string_number, IsRoom, Writes, CanWrite, WritesString}
 use Rattle.rt_write_text.proofs.Padded.{Writing, Showing, Shown, shows, begin-does}
 
 module _ (program : FlatProgram) (choice : Choice) (own : Frame) (sp : ℕ) (is_placed : IsPlaced choice own sp 12) (e : Activation) (segment offset w : ℕ) where

@@ -7,10 +7,10 @@ ghost use Rattle.flat_code.specs.View.{view_expr, view_stmt, view_list};
 ghost use Rattle.flat_code.specs.Plain.{view_routine};
 ghost use Rattle.flat_code.specs.Program.{FlatProgram, Choice, UnitCode, runtime_key};
 ghost use Rattle.flat_code.specs.Legal.{StackFits};
-ghost use Rattle.routine_proofs.specs.Promises.{IsHeld};
+ghost use Rattle.routine_proofs.specs.Specifications.{IsHeld};
 ghost use Rattle.text_memory.specs.Data.{HasText};
 ghost use Rattle.rt_write_text.specs.Routines.{begin_string, write_string_routine, set_item, set_items, begin_made, make_char, write_char_routine, make_boolean, write_boolean_routine, write_line_code, write_line_routine};
-ghost use Rattle.rt_write_text.specs.Promises.{write_string_number, write_char_number, write_boolean_number, write_line_number, WritesString, WritesChar, WritesBoolean, WritesLine};
+ghost use Rattle.rt_write_text.specs.Specifications.{write_string_number, write_char_number, write_boolean_number, write_line_number, WritesString, WritesChar, WritesBoolean, WritesLine};
 
 mod showing;
 

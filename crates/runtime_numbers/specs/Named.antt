@@ -1,27 +1,27 @@
 -- The numbers by which flat code names the runtime's routines, and its data that others name.
 use Rattle.flat_code.specs.Program.{Name, Key, runtime_key, text_unit, strings_unit, overlay_unit, heap_segment_key, heap_bytes_key, ovr_name_key}
 use Rattle.std.specs.Prelude.{◌≡◌, ℕ}
-use Rattle.rt_write_text.specs.Promises.{write_string_number, write_char_number, write_boolean_number, write_line_number}
-use Rattle.rt_read_text.specs.Promises.{eof_number, eoln_number, read_char_number, read_line_number}
-use Rattle.rt_write_numbers.specs.Promises.{write_integer_number}
-use Rattle.rt_read_strings.specs.Promises.{read_string_number}
-use Rattle.rt_val.specs.Promises.{val_value_number, val_place_number}
-use Rattle.rt_read_numbers.specs.Promises.{read_number_number}
-use Rattle.rt_str.specs.Promises.{str_number}
+use Rattle.rt_write_text.specs.Specifications.{write_string_number, write_char_number, write_boolean_number, write_line_number}
+use Rattle.rt_read_text.specs.Specifications.{eof_number, eoln_number, read_char_number, read_line_number}
+use Rattle.rt_write_numbers.specs.Specifications.{write_integer_number}
+use Rattle.rt_read_strings.specs.Specifications.{read_string_number}
+use Rattle.rt_val.specs.Specifications.{val_value_number, val_place_number}
+use Rattle.rt_read_numbers.specs.Specifications.{read_number_number}
+use Rattle.rt_str.specs.Specifications.{str_number}
 use Rattle.flat_code.specs.Runtime.{negation_number, product_number, less_number, quotient_number, remainder_number}
 use Rattle.rt_numbers.specs.Numbers.{sum_number, difference_number, equal_number, left_shift_number, right_shift_number, range_number}
-use Rattle.rt_short_strings.specs.Promises.{assign_number}
-use Rattle.rt_string_joins.specs.Promises.{concat_number, insert_number}
-use Rattle.rt_string_parts.specs.Promises.{copy_number, delete_number, upper_number}
-use Rattle.rt_string_compare.specs.Promises.{compare_number}
-use Rattle.rt_string_search.specs.Promises.{position_number}
-use Rattle.rt_sets.specs.Promises.{union_number, intersection_number}
-use Rattle.rt_set_relations.specs.Promises.{same_number, subset_number, member_number}
-use Rattle.rt_set_constructors.specs.Promises.{include_number}
-use Rattle.rt_overlay.specs.Promises.{init_number, set_buffer_number, clear_buffer_number}
-use Rattle.rt_heap.specs.Promises.{new_number, dispose_number}
-use Rattle.rt_clear.specs.Promises.{clear_number}
-use Rattle.rt_sets.specs.Promises as sets
+use Rattle.rt_short_strings.specs.Specifications.{assign_number}
+use Rattle.rt_string_joins.specs.Specifications.{concat_number, insert_number}
+use Rattle.rt_string_parts.specs.Specifications.{copy_number, delete_number, upper_number}
+use Rattle.rt_string_compare.specs.Specifications.{compare_number}
+use Rattle.rt_string_search.specs.Specifications.{position_number}
+use Rattle.rt_sets.specs.Specifications.{union_number, intersection_number}
+use Rattle.rt_set_relations.specs.Specifications.{same_number, subset_number, member_number}
+use Rattle.rt_set_constructors.specs.Specifications.{include_number}
+use Rattle.rt_overlay.specs.Specifications.{init_number, set_buffer_number, clear_buffer_number}
+use Rattle.rt_heap.specs.Specifications.{new_number, dispose_number}
+use Rattle.rt_clear.specs.Specifications.{clear_number}
+use Rattle.rt_sets.specs.Specifications as sets
 use Rattle.rt_overlay.specs.Data.{ovr_result_key}
 use Rattle.runtime_numbers.specs.declared.numbers.RuntimeUnit.{RuntimeUnit}
 use Rattle.runtime_numbers.specs.declared.numbers.RuntimeUnit.TheVariants as unit

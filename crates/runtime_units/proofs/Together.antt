@@ -12,7 +12,7 @@ use Rattle.heap_runtime.proofs.Works.{heap-works}
 use Rattle.heap_runtime.proofs.Places.{has-overlay, heap-places}
 use Rattle.heap_runtime.proofs.Starting as heap_start
 use Rattle.runtime_units.specs.Units.{runtime_codes, HoldsRuntime, ReachesRuntimeData, RuntimePlaces, CanStart}
-use Rattle.runtime_units.specs.Promises.{RuntimeWorks, StartsRuntime}
+use Rattle.runtime_units.specs.Specifications.{RuntimeWorks, StartsRuntime}
 
 pub holds : (units : List UnitCode) (overlaid : List Name) (stack heap : ℕ) → let program = program_of (runtime_codes ++ units) overlaid stack heap in program.overlaid text_unit ≡ false → program.overlaid strings_unit ≡ false → program.overlaid overlay_unit ≡ false → HoldsRuntime program
 holds units overlaid stack heap p q r = record {

@@ -1,3 +1,3 @@
 pub mod Units
-pub mod Promises
+pub mod Specifications
 pub mod Bounds

@@ -9,7 +9,7 @@ use Rattle.rt_heap.specs.HeapMemory.{HeapPlaces, ReachesHeapData}
 use Rattle.rt_text.specs.Unit.{text_code, HoldsTextUnit}
 use Rattle.rt_strings.specs.Unit.{strings_code, HoldsStrings}
 use Rattle.heap_runtime.specs.Unit.{heap_code, HoldsHeapUnit}
-use Rattle.heap_runtime.specs.Promises.{ReachesOverlay, IsFileName}
+use Rattle.heap_runtime.specs.Specifications.{ReachesOverlay, IsFileName}
 
 -- they stand first in each list of units that makes a program
 abbrev pub runtime_codes : List UnitCode

@@ -6,7 +6,7 @@ ghost use Rattle.flat_code.specs.Program.{Name, UnitCode, FlatProgram, Choice, t
 ghost use Rattle.flat_code.specs.Legal.{Mention, StackFits, IsLegal, IsWellFormed};
 ghost use Rattle.flat_code.specs.Plain.{view_unit, program_of, units_size};
 ghost use Rattle.runtime_units.specs.Units.{runtime_codes, HoldsRuntime, ReachesRuntimeData, RuntimePlaces, CanStart};
-ghost use Rattle.runtime_units.specs.Promises.{RuntimeWorks, StartsRuntime};
+ghost use Rattle.runtime_units.specs.Specifications.{RuntimeWorks, StartsRuntime};
 ghost use Rattle.runtime_units.specs.Bounds.{IsShallowRuntime, StandFirst};
 
 use flat_code::FlatUnit;

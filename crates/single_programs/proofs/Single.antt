@@ -19,7 +19,7 @@ use Rattle.meaning.specs.Found.{◌>>=◌, known}
 use Rattle.meaning.specs.Programs.{Sort, definition, sort_in, class_key, method_key, unit_in}
 use Rattle.meaning.specs.Activations.{callee_of}
 use Rattle.declared_types.specs.Declared.{declared, declared_header}
-use Rattle.declared_types.specs.Agreement.{IsUnit, IsKnown, AreAgreed}
+use Rattle.declared_types.specs.Agreement.{IsUnit, IsKnown, AreConsistent}
 use Rattle.sound_stores.proofs.Seen.{header_same}
 use Rattle.single_units.proofs.Single.{single_agrees}
 use Rattle.typed_programs.specs.Outcomes.{world}
@@ -45,7 +45,7 @@ module _ (program : Program) (unit : TypedUnit) (alone : IsAlone program unit) (
       subst (λ (units : List TypedUnit). unit_in units unit.name ≡ Some unit) (sym alone.single.units)
       (ap (λ (b : Bool). if b then Some unit else None) ((bytes_decides unit.name unit.name).1 refl))
 
-  agreed : AreAgreed program
+  agreed : AreConsistent program
   agreed = single_agrees program unit alone.single
 
   -- a type of the program is one of the unit's table

@@ -12,7 +12,7 @@ use Rattle.typed_tree.specs.declared.units.Program.{Program}
 use Rattle.meaning.specs.Trees.{Key}
 use Rattle.meaning.specs.Programs.{Sort, definition, class_key, unit_in}
 use Rattle.declared_types.specs.Declared.{declared, AreAlike}
-use Rattle.declared_types.specs.Agreement.{IsUnit, IsKnown, IsLawful, AreAgreed}
+use Rattle.declared_types.specs.Agreement.{IsUnit, IsKnown, IsLawful, AreConsistent}
 use Rattle.declared_types.proofs.Agreed.{get_within}
 use Rattle.declared_types.proofs.Lines.{is_declared}
 use Rattle.single_units.specs.Laws.{IsSingle}
@@ -55,7 +55,7 @@ module _ (program : Program) (unit : TypedUnit) (single : IsSingle program unit)
       subst (λ (t : Table). AreAlike t one b.table other) (sym ta)
       (subst (λ (t : Table). AreAlike unit.types one t other) (sym tb) (subst (AreAlike unit.types one unit.types) equal (alike_itself unit.types one)))
 
-  pub single_agrees : AreAgreed program
+  pub single_agrees : AreConsistent program
   single_agrees = record {
     lawful = λ other is. subst (λ (u : TypedUnit). IsLawful u.types) (sym (only_unit other is)) single.lawful;
     alike = λ a b one other ka kb ea eb same. alike_in a b one other (only_table a ka) (only_table b kb) ea eb same;

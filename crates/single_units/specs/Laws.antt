@@ -5,7 +5,7 @@ use Rattle.typed_tree.specs.declared.units.Unit.{Unit as TypedUnit}
 use Rattle.typed_tree.specs.declared.units.Program.{Program}
 use Rattle.meaning.specs.Trees.{Key}
 use Rattle.declared_types.specs.Declared.{declared}
-use Rattle.declared_types.specs.Agreement.{IsLawful, AreAgreed}
+use Rattle.declared_types.specs.Agreement.{IsLawful, AreConsistent}
 
 -- the only unit of a program, in whose table no two types were declared at one place
 pub record IsSingle (program : Program) (unit : TypedUnit) : Type 0 where
@@ -14,4 +14,4 @@ pub record IsSingle (program : Program) (unit : TypedUnit) : Type 0 where
   pub apart : (a b : TypeId) (key : Key) → declared unit.types a ≡ Some key → declared unit.types b ≡ Some key → a ≡ b
 
 abbrev pub SingleUnitsAgree : Type 0
-SingleUnitsAgree = (program : Program) (unit : TypedUnit) → IsSingle program unit → AreAgreed program
+SingleUnitsAgree = (program : Program) (unit : TypedUnit) → IsSingle program unit → AreConsistent program

@@ -14,7 +14,7 @@ use Rattle.meaning.specs.Programs.{Sort, definition, is_overlaid, sort_in}
 use Rattle.meaning.specs.Outcomes.{State, Does, and_then, ◌>>=◌, ◌>>◌, give, found, raised_if, looked, changed, is_installed}
 use Rattle.meaning.specs.Activations.{Level, Activation, Callee, callee_of, opened, class_set, result_of}
 use Rattle.meaning.specs.Calls.{Do, Runs, activation_of, activated, is_too_deep, entered}
-use Rattle.declared_types.specs.Agreement.{IsUnit, AreAgreed}
+use Rattle.declared_types.specs.Agreement.{IsUnit, AreConsistent}
 use Rattle.sound_stores.specs.Worlds.{Made, World}
 use Rattle.sound_stores.proofs.Grown.{grows_by, place_grows}
 use Rattle.sound_stores.proofs.Kept.{without_keeps}
@@ -58,14 +58,14 @@ opening again callee own class args f first = changed (opened callee own args) >
 abbrev level_of : Callee → ℕ → Level
 level_of callee first = record { number = callee.number; routine = callee.routine; first = first }
 
-module _ (w : World) (agreed : AreAgreed w.program) (callee : Callee) (first : ℕ) where
+module _ (w : World) (agreed : AreConsistent w.program) (callee : Callee) (first : ℕ) where
   closing_ends : (x : Value) (s : State) → IsTypedState w s → Gives callee w x → Ends w (Gives callee) (closing callee first x s)
   closing_ends x s typed is =
       let count : ℕ = length (variables_of callee.routine) in
       ends_done (Gives callee) w x (record s { store = without s.store first count }) (record { store = without_keeps w count s.store first typed.store; input = typed.input }) is
 
 -- the result is known before the variables are gone
-resulting_ends : (w : World) → AreAgreed w.program → (callee : Callee) (first : ℕ) → IsLevel w callee.unit (level_of callee first) → (s : State) → IsTypedState w s → Ends w (Gives callee) (resulting callee first s)
+resulting_ends : (w : World) → AreConsistent w.program → (callee : Callee) (first : ℕ) → IsLevel w callee.unit (level_of callee first) → (s : State) → IsTypedState w s → Ends w (Gives callee) (resulting callee first s)
 resulting_ends w agreed callee first level s typed =
     ends_bind (Gives callee) w (Gives callee) (looked (result_of callee first) s) (closing callee first)
     (ends_looked (Gives callee) w (result_of callee first) s typed (result_found w agreed s.store typed.store callee first level))
@@ -77,7 +77,7 @@ record IsReady (w : World) (callee : Callee) (f : Activation) (first : ℕ) : Ty
   active : IsActive w f callee.number []
   level : IsLevel w callee.unit (level_of callee first)
 
-module _ (again : Runs) (callee : Callee) (w : World) (agreed : AreAgreed w.program) (bodies : RunsBodies w.program again) (listed : IsUnit w.program callee.unit)
+module _ (again : Runs) (callee : Callee) (w : World) (agreed : AreConsistent w.program) (bodies : RunsBodies w.program again) (listed : IsUnit w.program callee.unit)
     (numbered : slice_get callee.unit.routines callee.number ≡ Some callee.routine) (f : Activation) (first : ℕ) (ready : IsReady w callee f first) where
   -- the body
   running_ends : (s : State) → IsTypedState w s → Ends w (Gives callee) (running again callee f first s)
@@ -92,7 +92,7 @@ module _ (again : Runs) (callee : Callee) (w : World) (agreed : AreAgreed w.prog
       changed_then (Gives callee) w (class_set callee own class s.store) s (running again callee f first) (class_set_keeps w agreed s.store typed.store callee listed own class sound is)
       (λ store typed'. running_ends (record s { store = store }) (record { store = typed'; input = typed.input }))
 
-module _ (w : World) (agreed : AreAgreed w.program) where
+module _ (w : World) (agreed : AreConsistent w.program) where
   -- an instance is one in a world after more objects
   instance_after : (more : List Made) (unit : TypedUnit) (owner : Option TypeId) (own : Option Spot) (class : Option Key) → IsInstanceBy w unit owner own class → IsInstanceBy (after w more) unit owner own class
   instance_after more unit None None None is = tt
@@ -111,7 +111,7 @@ module _ (w : World) (agreed : AreAgreed w.program) where
       let b : Sort = sort_in unit owner in
       place_up w agreed spot is.top b is.known (unit_type unit w.program listed owner (is_some_object (definition b) object)) object is.line is.place
 
-module _ (again : Runs) (callee : Callee) (w : World) (agreed : AreAgreed w.program) (routines : HasRoutines w.program) (bodies : RunsBodies w.program again) (globals : HasGlobals w) where
+module _ (again : Runs) (callee : Callee) (w : World) (agreed : AreConsistent w.program) (routines : HasRoutines w.program) (bodies : RunsBodies w.program again) (globals : HasGlobals w) where
   -- the variables are made before
   opening_ends : (levels : List Level) (own : Option Spot) (class : Option Key) (args : List Value) (called : IsCalled w levels callee own class args) (rest : List Level) → AreLevels w callee.unit callee.routine.outer rest
       → (sum : ℕ) (s : State) → IsTypedState w s → Ends w (Gives callee) (opening again callee own class args (activation_of callee rest (next_serial s.store) sum) (next_serial s.store) s)
@@ -148,7 +148,7 @@ raised_then P w true code s go h = tt
 raised_then P w false code s go h = h
 
 -- a routine that is found by its key is called
-pub entered_ends : (again : Runs) (callee : Callee) (w : World) → AreAgreed w.program → HasRoutines w.program → RunsBodies w.program again → HasGlobals w → (f : Activation) (key : Key) → callee_of w.program key ≡ Ok callee
+pub entered_ends : (again : Runs) (callee : Callee) (w : World) → AreConsistent w.program → HasRoutines w.program → RunsBodies w.program again → HasGlobals w → (f : Activation) (key : Key) → callee_of w.program key ≡ Ok callee
     → (own : Option Spot) (class : Option Key) (args : List Value) → IsCalled w f.levels callee own class args → (s : State) → IsTypedState w s → Ends w (Gives callee) (entered w.program again f key own class args s)
 entered_ends again callee w agreed routines bodies globals f key is own class args called s typed =
     let deep : Does Value = raised_if (is_too_deep w.program callee f.sum) 202 >> activated again callee f own class args in

@@ -18,7 +18,7 @@ use Rattle.meaning.specs.Outcomes.{State}
 use Rattle.meaning.specs.Activations.{Level, Activation, Callee, callee_of, levels_around}
 use Rattle.meaning.specs.Calls.{Runs, entered}
 use Rattle.declared_types.specs.Declared.{DeclaredHeader}
-use Rattle.declared_types.specs.Agreement.{IsUnit, IsKnown, AreAgreed}
+use Rattle.declared_types.specs.Agreement.{IsUnit, IsKnown, AreConsistent}
 use Rattle.sound_stores.specs.Worlds.{Made, World}
 use Rattle.sound_stores.proofs.Grown.{grows_by, place_grows, value_grows}
 use Rattle.sound_places.specs.Frames.{AreLevels, IsActive}
@@ -92,7 +92,7 @@ taken_after w more unit (param ∷ params) (x ∷ args) are = (one param.by_ref 
   one true is = (is.0, is.1, place_grows w (after w more) (grows_by w more) is.0 (sort_in unit param.ty) is.2)
   one false is = value_grows w (after w more) (grows_by w more) (sort_in unit param.ty) x is
 
-module _ (w : World) (agreed : AreAgreed w.program) (routines : HasRoutines w.program) (again : Runs) (bodies : RunsBodies w.program again) (f : Activation) (number : ℕ) (withs : List TypeId) (active : IsActive w f number withs) where
+module _ (w : World) (agreed : AreConsistent w.program) (routines : HasRoutines w.program) (again : Runs) (bodies : RunsBodies w.program again) (f : Activation) (number : ℕ) (withs : List TypeId) (active : IsActive w f number withs) where
   abbrev here : Site
   here = record { program = w.program; unit = f.unit; number = number }
 

@@ -14,7 +14,7 @@ use Rattle.meaning.specs.Shapes.{Part, FieldPart, ClassPart, parts_at, class_pla
 use Rattle.meaning.specs.Programs.{Sort, definition, class_key}
 use Rattle.meaning.specs.Store.{Store, tree_at, value_in, value_at, class_of}
 use Rattle.meaning.specs.Activations.{Reached, Callee, inside, class_at, is_constructor, instance_of, class_set_in, class_set}
-use Rattle.declared_types.specs.Agreement.{IsUnit, IsKnown, AreAgreed, IsOfLine}
+use Rattle.declared_types.specs.Agreement.{IsUnit, IsKnown, AreConsistent, IsOfLine}
 use Rattle.declared_types.specs.Forms.{ClassOf, Form, Cell, form_at, line}
 use Rattle.declared_types.proofs.Agreed.{keyed, parts_agree}
 use Rattle.sound_stores.specs.Worlds.{World, IsHeld, HasForm}
@@ -56,7 +56,7 @@ place_by_keys types (ClassPart ∷ parts) = refl
 place_by_keys types (FieldPart ty ∷ parts) = ap (option_map (λ place. 1 + place)) (place_by_keys types parts)
 
 -- what was declared at one place has its class at one place
-pub place_shared : (w : World) → AreAgreed w.program → (a b : Sort) → IsKnown w.program a → IsKnown w.program b → class_key a ≡ class_key b
+pub place_shared : (w : World) → AreConsistent w.program → (a b : Sort) → IsKnown w.program a → IsKnown w.program b → class_key a ≡ class_key b
     → class_place (parts_at a.table.types a.ty) ≡ class_place (parts_at b.table.types b.ty)
 place_shared w agreed a b ka kb same =
     place_by_keys a.table (parts_at a.table.types a.ty) ∙ ap first_none (parts_agree w.program agreed a b ka kb same) ∙ sym (place_by_keys b.table (parts_at b.table.types b.ty))
@@ -75,7 +75,7 @@ abbrev pub HasClass : World → Spot → Sort → Option Key → Type 0
 HasClass w spot sort None = Unit {0}
 HasClass w spot sort (Some class) = IsInstanceOf w spot sort class
 
-module _ (w : World) (agreed : AreAgreed w.program) where
+module _ (w : World) (agreed : AreConsistent w.program) where
   -- a place of an instance is one of each type of its line
   pub instance_place : (spot : Spot) (own top : Sort) → IsKnown w.program own → LiesAt w spot (form_at own) → IsKnown w.program top → IsObject (definition top) → IsOfLine own (class_key top) → IsPlaceOf w spot top
   instance_place spot own top ko lies kt object of = record { form = form_at own; lies = lies; covers = Heir own ko kt object of refl }
@@ -117,7 +117,7 @@ pub some_of : (o : Option ℕ) → is_some o ≡ true → (n : ℕ) × (o ≡ So
 some_of None e = absurd cc
 some_of (Some n) e = (n, refl)
 
-module _ (w : World) (agreed : AreAgreed w.program) where
+module _ (w : World) (agreed : AreConsistent w.program) where
   -- a place of an instance is one of what the instance's type descends from
   pub place_up : (spot : Spot) (top b : Sort) → IsKnown w.program top → IsKnown w.program b → IsObject (definition b) → IsOfLine top (class_key b) → IsPlaceOf w spot top → IsPlaceOf w spot b
   place_up spot top b kt kb object of place = record { form = place.form; lies = place.lies; covers = up place.covers } where

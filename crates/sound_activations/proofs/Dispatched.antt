@@ -19,7 +19,7 @@ use Rattle.meaning.specs.Outcomes.{State, Does, ◌>>=◌, looked}
 use Rattle.meaning.specs.Activations.{Reached, Activation, Callee, class_at}
 use Rattle.meaning.specs.Calls.{Runs, entered, with_method, dispatched_in, dispatched_by, method_of}
 use Rattle.declared_types.specs.Declared.{declared}
-use Rattle.declared_types.specs.Agreement.{IsKnown, AreAgreed, IsOfLine}
+use Rattle.declared_types.specs.Agreement.{IsKnown, AreConsistent, IsOfLine}
 use Rattle.declared_types.specs.Forms.{form_at}
 use Rattle.declared_types.proofs.Agreed.{defined}
 use Rattle.declared_types.proofs.Lines.{begins}
@@ -57,7 +57,7 @@ no_ordinal None h is e = is
 
 -- ---- types of a line
 
-module _ (w : World) (agreed : AreAgreed w.program) where
+module _ (w : World) (agreed : AreConsistent w.program) where
   -- a type with an ancestor that is an object type is one
   object_below : (own top : Sort) → IsKnown w.program own → IsKnown w.program top → IsOfLine own (class_key top) → IsObject (definition top) → IsObject (definition own)
   object_below own top ko kt of object =
@@ -71,7 +71,7 @@ module _ (w : World) (agreed : AreAgreed w.program) where
   object_above own ko object zero ty e = subst (λ (t : TypeId). IsObject (slice_get own.table.types t.0)) (same_Some own.ty ty e) object
   object_above own ko object (suc steps) ty e = parent_object w.program agreed own.table.types (defined w.program agreed own ko) steps own.ty ty e
 
-module _ (w : World) (agreed : AreAgreed w.program) (routines : HasRoutines w.program) (closed : HasClasses w.program) (methods : HasMethods w.program)
+module _ (w : World) (agreed : AreConsistent w.program) (routines : HasRoutines w.program) (closed : HasClasses w.program) (methods : HasMethods w.program)
     (unit : TypedUnit) (number : ℕ) (class : TypeId) (slot : ℕ) (method : Method) (is : slot_method (sort_in unit class) slot ≡ Some method)
     (known : IsKnown w.program (sort_in unit class)) (object : IsObject (definition (sort_in unit class))) where
   abbrev seen : Sort
@@ -132,7 +132,7 @@ abbrev pub AnswersFor : TypedUnit → ℕ → Spot → Method → World → Key 
 AnswersFor unit number spot method w key = MethodFor w unit number spot method.header key
 
 -- the method of an instance, by its class
-pub method_ends : (w : World) → AreAgreed w.program → HasRoutines w.program → HasClasses w.program → HasMethods w.program → (unit : TypedUnit) (number : ℕ) (class : TypeId) (slot : ℕ) (method : Method)
+pub method_ends : (w : World) → AreConsistent w.program → HasRoutines w.program → HasClasses w.program → HasMethods w.program → (unit : TypedUnit) (number : ℕ) (class : TypeId) (slot : ℕ) (method : Method)
     → slot_method (sort_in unit class) slot ≡ Some method → IsObject (definition (sort_in unit class)) → is_some (class_place (parts_at unit.types.types class)) ≡ true
     → (at : Reached) → IsAt w at (sort_in unit class) → (checked : Bool) (s : State) → IsTypedState w s → Ends w (AnswersFor unit number at.spot method) (method_of w.program at slot checked s)
 method_ends w agreed routines closed methods unit number class slot method is object part at fits checked s typed = by fits.same where
@@ -148,7 +148,7 @@ method_ends w agreed routines closed methods unit number class slot method is ob
       (λ more found t typed' has. class_answers (after w more) agreed routines closed methods unit number class slot method is ks object at.spot at.sort same checked found has t typed')
 
 -- a method is called by the class of an instance
-pub by_class_ends : (w : World) → AreAgreed w.program → HasRoutines w.program → HasClasses w.program → HasMethods w.program → (again : Runs) → RunsBodies w.program again → (f : Activation) (number : ℕ) (withs : List TypeId)
+pub by_class_ends : (w : World) → AreConsistent w.program → HasRoutines w.program → HasClasses w.program → HasMethods w.program → (again : Runs) → RunsBodies w.program again → (f : Activation) (number : ℕ) (withs : List TypeId)
     → IsActive w f number withs → (class : TypeId) (slot : ℕ) (method : Method) → slot_method (sort_in f.unit class) slot ≡ Some method → IsObject (definition (sort_in f.unit class))
     → is_some (class_place (parts_at f.unit.types.types class)) ≡ true → (at : Reached) → IsAt w at (sort_in f.unit class) → (checked : Bool) (xs : List Value) → AreTaken w f.unit method.header.params xs
     → (s : State) → IsTypedState w s → Ends w (GivesAs f.unit method.header.result) ((method_of w.program at slot checked >>= λ key. entered w.program again f key (Some at.spot) None xs) s)

@@ -11,7 +11,7 @@ use Rattle.meaning.specs.Outcomes.{State, give}
 use Rattle.meaning.specs.Activations.{whole, assigned}
 use Rattle.meaning.specs.Calls.{overlay_variable, with_overlay_result, is_file, installed_if, overlay_called}
 use Rattle.meaning.specs.Standard.{Operand, handed}
-use Rattle.declared_types.specs.Agreement.{AreAgreed}
+use Rattle.declared_types.specs.Agreement.{AreConsistent}
 use Rattle.declared_types.specs.Forms.{Number, Cell, form_at}
 use Rattle.sound_stores.specs.Worlds.{Own, World}
 use Rattle.sound_stores.specs.Places.{Same, IsPlaceOf}
@@ -28,7 +28,7 @@ use Rattle.sound_activations.proofs.Changed.{changed_then}
 abbrev pub GivesNothing : World → Value → Type 0
 GivesNothing w v = IsResult w None v
 
-module _ (w : World) (agreed : AreAgreed w.program) (globals : HasGlobals w) where
+module _ (w : World) (agreed : AreConsistent w.program) (globals : HasGlobals w) where
   -- the variable of the unit Overlay is set
   result_set : (store : Store) → IsTypedStore w store → (z : ℤ) → IsTrue (holds host.Integer z z) → Finds (IsTypedStore w) (assigned overlay_variable (Ordinal z) store)
   result_set store typed z held =

@@ -10,7 +10,7 @@ use Rattle.type_fits.specs.Routines.{listed, variables_of}
 use Rattle.meaning.specs.Store.{Store}
 use Rattle.meaning.specs.Programs.{Sort, sort_in}
 use Rattle.meaning.specs.Activations.{Callee, whole, is_alias, is_self_of, result_number, result_in, result_of}
-use Rattle.declared_types.specs.Agreement.{AreAgreed}
+use Rattle.declared_types.specs.Agreement.{AreConsistent}
 use Rattle.declared_types.specs.Forms.{form_at}
 use Rattle.sound_stores.specs.Worlds.{Own, World}
 use Rattle.sound_stores.specs.Places.{Same, IsPlaceOf}
@@ -62,7 +62,7 @@ module _ (routine : Routine) where
 
 -- ---- the result
 
-module _ (w : World) (agreed : AreAgreed w.program) (store : Store) (typed : IsTypedStore w store) where
+module _ (w : World) (agreed : AreConsistent w.program) (store : Store) (typed : IsTypedStore w store) where
   result_by : (callee : Callee) (first : ℕ) → IsLevel w callee.unit (record { number = callee.number; routine = callee.routine; first = first }) → (result : Option TypeId) → callee.routine.header.result ≡ result
       → Finds (IsResult w (option_map (sort_in callee.unit) result)) (result_in callee.unit.types.types result (whole (first + result_number callee.routine)) store)
   result_by callee first level None e = tt

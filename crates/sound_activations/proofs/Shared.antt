@@ -10,7 +10,7 @@ use Rattle.typed_tree.specs.declared.units.Unit.{Unit as TypedUnit}
 use Rattle.meaning.specs.Trees.{Key, Value}
 use Rattle.meaning.specs.Programs.{Sort, sort_in, class_by, class_key}
 use Rattle.declared_types.specs.Declared.{declared, declared_param}
-use Rattle.declared_types.specs.Agreement.{IsUnit, IsKnown, AreAgreed}
+use Rattle.declared_types.specs.Agreement.{IsUnit, IsKnown, AreConsistent}
 use Rattle.declared_types.proofs.Agreed.{within_get, get_within, lawful, known_at}
 use Rattle.declared_types.proofs.Lines.{is_declared}
 use Rattle.sound_stores.specs.Worlds.{World}
@@ -23,7 +23,7 @@ declared_within : (table : Table) → IsWellFormed table → (ty : TypeId) (key 
 declared_within table law ty key e =
     option_and_then_some (class_by table) (slice_get table.origins ty.0) key e (λ origin found made. omega (arith, get_within table.origins ty.0 origin found, law.origins))
 
-module _ (w : World) (agreed : AreAgreed w.program) where
+module _ (w : World) (agreed : AreConsistent w.program) where
   -- what was declared where a type of the program was is a type too
   pub known_shared : (unit : TypedUnit) (ty : TypeId) (b : Sort) → IsUnit w.program unit → IsKnown w.program b → class_key (sort_in unit ty) ≡ class_key b → IsKnown w.program (sort_in unit ty)
   known_shared unit ty b listed kb same =

@@ -8,7 +8,7 @@ use Rattle.meaning.specs.Outcomes.{State}
 use Rattle.meaning.specs.Activations.{Activation}
 use Rattle.meaning.specs.Calls.{Runs, entered}
 use Rattle.declared_types.specs.Declared.{declared_header}
-use Rattle.declared_types.specs.Agreement.{AreAgreed}
+use Rattle.declared_types.specs.Agreement.{AreConsistent}
 use Rattle.sound_stores.specs.Worlds.{World, IsCode}
 use Rattle.sound_places.specs.Frames.{IsActive}
 use Rattle.sound_calls.specs.Callees.{AreTaken}
@@ -18,7 +18,7 @@ use Rattle.typed_programs.specs.Calls.{IsInstanceBy, IsInstance, GivesAs}
 use Rattle.sound_activations.proofs.Callers.{HasRoutines, RunsBodies}
 use Rattle.sound_activations.proofs.Called.{named_ends}
 
-module _ (w : World) (agreed : AreAgreed w.program) (routines : HasRoutines w.program) (again : Runs) (bodies : RunsBodies w.program again) (f : Activation) (number : ℕ) (withs : List TypeId) (active : IsActive w f number withs) where
+module _ (w : World) (agreed : AreConsistent w.program) (routines : HasRoutines w.program) (again : Runs) (bodies : RunsBodies w.program again) (f : Activation) (number : ℕ) (withs : List TypeId) (active : IsActive w f number withs) where
   -- a routine that stands as a value
   pub code_ends : (header : Header) (key : Key) → IsCode w.program (declared_header f.unit.types header) key → (xs : List Value) → AreTaken w f.unit header.params xs
       → (s : State) → IsTypedState w s → Ends w (GivesAs f.unit header.result) (entered w.program again f key None None xs s)

@@ -13,7 +13,7 @@ use Rattle.meaning.specs.Shapes.{new_tree}
 use Rattle.meaning.specs.Store.{Object, Store, with_new, spot_of}
 use Rattle.meaning.specs.Programs.{Sort, sort_in}
 use Rattle.meaning.specs.Activations.{Callee, passed, argument_tree, argument_trees, self_trees, result_trees, variable_object, opened}
-use Rattle.declared_types.specs.Agreement.{IsKnown, AreAgreed}
+use Rattle.declared_types.specs.Agreement.{IsKnown, AreConsistent}
 use Rattle.declared_types.specs.Forms.{form_at}
 use Rattle.sound_stores.specs.Worlds.{Made, Alias, World, Grows, HasForm}
 use Rattle.sound_stores.specs.Stores.{IsMadeOrGone, AreMade, IsTypedStore, Finds}
@@ -44,7 +44,7 @@ result_are : (w : World) (unit : TypedUnit) (result : Option TypeId) → AreMade
 result_are w unit None = tt
 result_are w unit (Some ty) = (new_has w unit.types ty, tt)
 
-module _ (w : World) (agreed : AreAgreed w.program) (store : Store) (typed : IsTypedStore w store) (v : World) (grows : Grows w v) (unit : TypedUnit) where
+module _ (w : World) (agreed : AreConsistent w.program) (store : Store) (typed : IsTypedStore w store) (v : World) (grows : Grows w v) (unit : TypedUnit) where
   -- Self
   self_are : (owner : Option TypeId) (own : Option Spot) → IsSelf w unit owner own → Finds (λ trees. AreMade v (self_made unit owner) (map variable_object trees)) (self_trees owner own)
   self_are None None is = tt
@@ -79,7 +79,7 @@ param_known routine [] rest P each param number e = absurd cc
 param_known routine (p ∷ params) rest P each param zero e = each 0 param.ty (ap (λ (o : Option Param). option_map (λ (q : Param). q.ty) o) e)
 param_known routine (p ∷ params) rest P each param (suc number) e = param_known routine params rest P (λ n ty e'. each (suc n) ty e') param number e
 
-module _ (w : World) (agreed : AreAgreed w.program) (store : Store) (typed : IsTypedStore w store) where
+module _ (w : World) (agreed : AreConsistent w.program) (store : Store) (typed : IsTypedStore w store) where
   -- the variables of a routine are made with their types
   pub opens : (callee : Callee) (own : Option Spot) (args : List Value) → HasTypes w callee → AreTaken w callee.unit callee.routine.header.params args → IsSelf w callee.unit callee.routine.owner own
       → Finds (IsTypedStore (grown w (variables_made callee.unit callee.routine))) (opened callee own args store)

@@ -1,7 +1,7 @@
 //! Calls of typed programs.
 #![tactic(auto)]
 
-ghost use Rattle.declared_types.specs.Agreement.{AreAgreed};
+ghost use Rattle.declared_types.specs.Agreement.{AreConsistent};
 ghost use Rattle.meaning.specs.Store.{Store};
 ghost use Rattle.sound_stores.specs.Worlds.{World};
 ghost use Rattle.sound_stores.specs.Stores.{IsTypedStore};
@@ -11,6 +11,6 @@ ghost use Rattle.sound_calls.specs.Laws.{CallLaws, LevelLaws};
 /// call ends by an undefined act; each of them is found by its number; and a routine that is declared inside another finds the
 /// activation of that one. None of these steps is ill-typed. It does nothing.
 pub fn sound_call_laws()
-    ensures calls { (w : World) (store : Store) → AreAgreed w.program → IsTypedStore w store → CallLaws w store }
+    ensures calls { (w : World) (store : Store) → AreConsistent w.program → IsTypedStore w store → CallLaws w store }
     ensures levels { (w : World) → LevelLaws w }
 {}

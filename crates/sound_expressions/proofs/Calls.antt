@@ -19,7 +19,7 @@ use Rattle.meaning.specs.Calls.{Runs, entered, method_of, overlay_called}
 use Rattle.meaning.specs.Standard.{Operand, handed, target_of, target, made as new_made}
 use Rattle.meaning.specs.Expressions.{Instance, no_instance, called, called_by_class, called_through, block_made}
 use Rattle.declared_types.specs.Declared.{DeclaredHeader, declared_header}
-use Rattle.declared_types.specs.Agreement.{IsKnown, AreAgreed}
+use Rattle.declared_types.specs.Agreement.{IsKnown, AreConsistent}
 use Rattle.declared_types.specs.Forms.{Link, Routine}
 use Rattle.declared_types.proofs.SameForms.{whole as whole_form}
 use Rattle.declared_types.proofs.Lines.{is_declared}
@@ -66,7 +66,7 @@ leads_kept program serial to = record {
 
 -- ---- new blocks
 
-module _ (program : Program) (agreed : AreAgreed program) where
+module _ (program : Program) (agreed : AreConsistent program) where
   -- a block that is made is one that a pointer may lead to
   pub block_ends : (made : List Made) (sort : Sort) (s : State) → IsKnown program sort → IsTypedState (world program made) s → Ends (world program made) (λ w serial. LeadsTo w serial (class_key sort)) (block_made program sort s)
   block_ends made sort s ks typed =
@@ -96,7 +96,7 @@ module _ (program : Program) (agreed : AreAgreed program) where
   code_of w header (At spot) is = absurd is
   code_of w header Void is = absurd is
 
-routine_found : (w : World) (agreed : AreAgreed w.program) (store : Store) → IsTypedStore w store → (at : Reached) (seen : Sort) (header : Header) → IsKnown w.program seen → definition seen ≡ Some (type.Procedural header) → IsAt w at seen
+routine_found : (w : World) (agreed : AreConsistent w.program) (store : Store) → IsTypedStore w store → (at : Reached) (seen : Sort) (header : Header) → IsKnown w.program seen → definition seen ≡ Some (type.Procedural header) → IsAt w at seen
     → Finds (IsCode w.program (declared_header seen.table header)) (held_routine at store)
 routine_found w agreed store typed at seen header ks e is =
     let dh : DeclaredHeader = declared_header seen.table header in
@@ -109,7 +109,7 @@ routine_found w agreed store typed at seen header ks e is =
 abbrev pub AreOperandsOf : List Slot → World → List Operand → Type 0
 AreOperandsOf slots w xs = AreOperands w slots xs
 
-module _ (program : Program) (agreed : AreAgreed program) (again : Runs) (sound : HasSoundCalls program again) (f : Activation) (number : ℕ) (withs : List TypeId) where
+module _ (program : Program) (agreed : AreConsistent program) (again : Runs) (sound : HasSoundCalls program again) (f : Activation) (number : ℕ) (withs : List TypeId) where
   abbrev here : Site
   here = record { program = program; unit = f.unit; number = number }
 

@@ -17,7 +17,7 @@ use Rattle.meaning.specs.Outcomes.{Outcome, and_then, give}
 use Rattle.meaning.specs.Activations.{Reached, Activation, Callee, is_self}
 use Rattle.meaning.specs.Expressions.{Instance, class_for, instance_at}
 use Rattle.declared_types.specs.Declared.{declared}
-use Rattle.declared_types.specs.Agreement.{IsKnown, AreAgreed, IsOfLine}
+use Rattle.declared_types.specs.Agreement.{IsKnown, AreConsistent, IsOfLine}
 use Rattle.sound_stores.specs.Worlds.{Made, World}
 use Rattle.sound_stores.specs.Places.{IsSeenAs, Shared, Letter, Whole, IsAt}
 use Rattle.sound_stores.proofs.Grown.{grows_by, place_grows}
@@ -78,7 +78,7 @@ no_object (Some (type.PointerTo target)) h object e = object
 no_object (Some (type.Procedural header)) h object e = object
 no_object None h object e = object
 
-module _ (w : World) (agreed : AreAgreed w.program) where
+module _ (w : World) (agreed : AreConsistent w.program) where
   -- one and the same type in two tables descends from the same types
   line_shared : (own other : Sort) (key : Option Key) → IsKnown w.program own → IsKnown w.program other → class_key other ≡ class_key own → IsOfLine own key → IsOfLine other key
   line_shared own other key ko k same of =
@@ -114,7 +114,7 @@ module _ (w : World) (agreed : AreAgreed w.program) where
 abbrev pub InstanceOf : Callee → World → Instance → Type 0
 InstanceOf callee w i = IsInstance w callee i.own i.class
 
-pub own_ends : (program : Program) → AreAgreed program → (made : List Made) (f : Activation) (site : Site) (class : TypeId) (callee : Callee) (own : Place) (o : Outcome Reached) → IsOwned site class callee
+pub own_ends : (program : Program) → AreConsistent program → (made : List Made) (f : Activation) (site : Site) (class : TypeId) (callee : Callee) (own : Place) (o : Outcome Reached) → IsOwned site class callee
     → Ends (world program made) (PlaceAt (sort_in site.unit class)) o → Ends (world program made) (InstanceOf callee) (and_then o (λ at. give (instance_at f own at)))
 own_ends program agreed made f site class callee own o owned h =
     ends_bind (PlaceAt (sort_in site.unit class)) (world program made) (InstanceOf callee) o (λ at. give (instance_at f own at)) h (λ more at s typed is.

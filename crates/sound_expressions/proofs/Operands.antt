@@ -14,7 +14,7 @@ use Rattle.meaning.specs.Outcomes.{State, Outcome, Done, Does, and_then, ◌>>=�
 use Rattle.meaning.specs.Activations.{Reached, Activation}
 use Rattle.meaning.specs.Standard.{Operand, Given, Named, handed}
 use Rattle.meaning.specs.Expressions.{constant_value, sort_of}
-use Rattle.declared_types.specs.Agreement.{IsKnown, AreAgreed}
+use Rattle.declared_types.specs.Agreement.{IsKnown, AreConsistent}
 use Rattle.sound_stores.specs.Worlds.{Made, World}
 use Rattle.sound_stores.specs.Places.{IsPlaceOf, IsAt, IsValueOf}
 use Rattle.sound_stores.proofs.Grown.{grows_by, at_grows}
@@ -64,7 +64,7 @@ module _ (program : Program) (kept : Kept) (P Q : World → List Operand → Typ
 abbrev pub TakenBy : TypedUnit → List Param → World → List Operand → Type 0
 TakenBy unit params w xs = AreTaken w unit params (map handed xs)
 
-module _ (w : World) (agreed : AreAgreed w.program) (unit : TypedUnit) (param : Param) where
+module _ (w : World) (agreed : AreConsistent w.program) (unit : TypedUnit) (param : Param) where
   pub value_taken : (given : TypeId) (v : Value) → param.by_ref ≡ false → IsKnown w.program (sort_in unit given) → IsKnown w.program (sort_in unit param.ty) → Joins unit.types.types param.ty given
       → IsValueOf w (sort_in unit given) v → IsTaken w (sort_in unit param.ty) param.by_ref v
   value_taken given v by_ref kg kt joins is =

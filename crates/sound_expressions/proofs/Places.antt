@@ -15,7 +15,7 @@ use Rattle.meaning.specs.Activations.{Reached, whole, loaded}
 use Rattle.meaning.specs.Standard.{target_of, target}
 use Rattle.meaning.specs.Expressions.{field_at, element_in}
 use Rattle.declared_types.specs.Declared.{declared}
-use Rattle.declared_types.specs.Agreement.{IsKnown, AreAgreed}
+use Rattle.declared_types.specs.Agreement.{IsKnown, AreConsistent}
 use Rattle.declared_types.specs.Forms.{Link}
 use Rattle.sound_stores.specs.Worlds.{Made, World, LeadsTo, IsHeld}
 use Rattle.sound_stores.specs.Places.{Shared, IsAt, IsValueBy, IsValueOf}
@@ -52,7 +52,7 @@ module _ (program : Program) (kept : Kept) where
       chain program kept (λ u z. Unit {0}) Q made' (found (number_of v) s) go k'
       (ends_found (λ u z. Unit {0}) (world program made') (number_of v) s typed (number_found (world program made') of v fits is)) (λ made'' z t k'' typed' u. next made'' z t k'' typed'))
 
-module _ (program : Program) (agreed : AreAgreed program) where
+module _ (program : Program) (agreed : AreConsistent program) where
   -- ---- loads
 
   pub load_ends : (made : List Made) (seen : Sort) (o : Outcome Reached) → Ends (world program made) (PlaceAt seen) o → Ends (world program made) (ValueAt seen) (and_then o (λ at. looked (loaded at)))
@@ -112,7 +112,7 @@ module _ (program : Program) (agreed : AreAgreed program) where
       ends_looks (PlaceAt (beside seen ty)) (world program (made ++ more)) (field_at at number s) s typed (laws.field at seen number ty s is e kt))
 
   -- what an index may be taken of
-  element_at : (w : World) → AreAgreed w.program → (at : Reached) (seen : Sort) (ty : TypeId) (index : Option TypeDef) (checked : Bool) (z : ℤ) (s : State) → IsTypedState w s → IsAt w at seen → IsKnown w.program (beside seen ty)
+  element_at : (w : World) → AreConsistent w.program → (at : Reached) (seen : Sort) (ty : TypeId) (index : Option TypeDef) (checked : Bool) (z : ℤ) (s : State) → IsTypedState w s → IsAt w at seen → IsKnown w.program (beside seen ty)
       → (one : Option TypeDef) → definition seen ≡ one → IsElement seen.table.types ty one index → Ends w (PlaceAt (beside seen ty)) (element_in at checked z (definition at.sort) s)
   element_at w agreed at seen ty index checked z s typed is kt (Some (type.ArrayOf i element)) e fits =
       let laws : PartLaws w = part_laws w agreed in

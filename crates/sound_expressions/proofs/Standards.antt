@@ -22,7 +22,7 @@ use Rattle.meaning.specs.Programs.{Sort, definition, beside, sort_in, class_key}
 use Rattle.meaning.specs.Outcomes.{State, Outcome, and_then, ◌>>=◌, give, known, found, changed}
 use Rattle.meaning.specs.Standard.{Operand, Given, Standard, Abs, Sqr, Odd, Ord, Chr, Succ, Pred, Inc, Dec, Hi, Lo, Swap, SizeOf, UpCase, Length, Copy, Delete, Insert, Concat, Pos, Str, Val, Eof, Eoln, New, Dispose, standard, Effect, Gives, Changes, Makes, Asks, effect_of, target_of}
 use Rattle.meaning.specs.Expressions.{block_made, effect_done, standard_done}
-use Rattle.declared_types.specs.Agreement.{IsKnown, AreAgreed}
+use Rattle.declared_types.specs.Agreement.{IsKnown, AreConsistent}
 use Rattle.declared_types.proofs.Agreed.{lawful, known_within}
 use Rattle.declared_types.specs.Forms.{Number}
 use Rattle.sound_stores.specs.Worlds.{Made, World, LeadsTo}
@@ -128,7 +128,7 @@ module _ (w : World) (unit : TypedUnit) where
 
 -- ---- effects
 
-module _ (program : Program) (agreed : AreAgreed program) where
+module _ (program : Program) (agreed : AreConsistent program) where
   -- what a pointer points to is in its table
   pub target_known : (sort : Sort) (to : TypeId) → IsKnown program sort → definition sort ≡ Some (type.PointerTo to) → IsKnown program (beside sort to)
   target_known sort to ks e = let law = lawful program agreed sort ks in known_within program agreed sort to ks (law.targets sort.ty.0 to e)

@@ -19,7 +19,7 @@ use Rattle.meaning.specs.Outcomes.{State, Outcome, Done, Does, and_then, ◌>>=�
 use Rattle.meaning.specs.Operators.{unary, binary, decided, converted, ranged, element_of}
 use Rattle.meaning.specs.Expressions.{constant_value, unless}
 use Rattle.declared_types.specs.Declared.{declared_header}
-use Rattle.declared_types.specs.Agreement.{IsKnown, AreAgreed}
+use Rattle.declared_types.specs.Agreement.{IsKnown, AreConsistent}
 use Rattle.sound_stores.specs.Worlds.{Made, World, IsCode}
 use Rattle.sound_stores.specs.Places.{IsValueBy, IsValueOf}
 use Rattle.sound_stores.proofs.Grown.{grows_by, value_grows}
@@ -35,7 +35,7 @@ ValueAt sort w v = IsValueOf w sort v
 
 -- ---- constants
 
-module _ (w : World) (agreed : AreAgreed w.program) (sort : Sort) where
+module _ (w : World) (agreed : AreConsistent w.program) (sort : Sort) where
   constant_by : (v : Constant) (one : TypeDef) → slice_get sort.table.types sort.ty.0 ≡ Some one → IsKnown w.program sort → IsValue sort.table.types v (Some one) → IsValueBy w sort (Some one) (constant_value v)
   constant_by (constant.Number n) (type.Ordinal host low high) e ks is = is
   constant_by (constant.Chars text) (type.Str max) e ks is =

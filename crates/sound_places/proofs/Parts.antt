@@ -20,7 +20,7 @@ use Rattle.meaning.specs.Operators.{is_between}
 use Rattle.meaning.specs.Activations.{Reached, inside}
 use Rattle.meaning.specs.Expressions.{field_of, field_at, outside, element_between, element_in}
 use Rattle.declared_types.specs.Declared.{declared, AreAlike}
-use Rattle.declared_types.specs.Agreement.{IsKnown, AreAgreed}
+use Rattle.declared_types.specs.Agreement.{IsKnown, AreConsistent}
 use Rattle.declared_types.specs.Forms.{Form, letter, repeated, line, part_forms, form_beside}
 use Rattle.declared_types.specs.Laws.{FieldOf, AgreementLaws}
 use Rattle.declared_types.proofs.Whole.{fields_at, parts_of_record, no_fields_of, element_below}
@@ -42,7 +42,7 @@ absent (x ∷ l) number ty none e = cc
 rising : (m n : ℤ) → int_le m n ≡ true → m ≤ℤ n
 rising m n e = grind (arith, ints)
 
-module _ (w : World) (agreed : AreAgreed w.program) where
+module _ (w : World) (agreed : AreConsistent w.program) where
   no_field : (sort : Sort) (number : ℕ) (ty : TypeId) → IsKnown w.program sort → field_type sort.table.types sort.ty number ≡ Some ty → (one : TypeDef) → definition sort ≡ Some one
       → ((front : List TypeDef) (given : List (List TypeId)) → fields_by front given one ≡ []) → ⊥
   no_field sort number ty ks e one is none =

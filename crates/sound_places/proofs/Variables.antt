@@ -17,7 +17,7 @@ use Rattle.meaning.specs.Found.{Found, ◌>>=◌, known}
 use Rattle.meaning.specs.Store.{Object, Store, tree_in, value_in, value_at, spot_of}
 use Rattle.meaning.specs.Programs.{Sort, sort_in, global_serial, key_of}
 use Rattle.meaning.specs.Activations.{Reached, Level, Activation, whole, is_alias, spot_through, variable_in, global_at, first_held, held_or, variable_by, variable_at}
-use Rattle.declared_types.specs.Agreement.{AreAgreed}
+use Rattle.declared_types.specs.Agreement.{AreConsistent}
 use Rattle.declared_types.specs.Forms.{form_at}
 use Rattle.declared_types.proofs.Agreed.{get_within}
 use Rattle.sound_stores.specs.Worlds.{Own, Alias, World}
@@ -59,7 +59,7 @@ held_at w unit (t ∷ tys) [] k ty are e = absurd are
 held_at w unit (t ∷ tys) (a ∷ ats) zero ty are e = (a, refl, subst (λ (x : TypeId). IsAt w a (sort_in unit x)) (same_Some t ty e) are.0)
 held_at w unit (t ∷ tys) (a ∷ ats) (suc k) ty are e = held_at w unit tys ats k ty are.1 e
 
-module _ (w : World) (agreed : AreAgreed w.program) (store : Store) (typed : IsTypedStore w store) where
+module _ (w : World) (agreed : AreConsistent w.program) (store : Store) (typed : IsTypedStore w store) where
   -- a whole object is a place of the type that it was made with
   whole_place : (serial : ℕ) (sort : Sort) → slice_get w.made serial ≡ Some (Own sort) → IsPlaceOf w (whole serial) sort
   whole_place serial sort e = record { form = form_at sort; lies = record { whole = sort; made = e; leads = refl }; covers = Same refl }

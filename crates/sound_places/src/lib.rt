@@ -1,7 +1,7 @@
 //! Places of typed programs.
 #![tactic(auto)]
 
-ghost use Rattle.declared_types.specs.Agreement.{AreAgreed};
+ghost use Rattle.declared_types.specs.Agreement.{AreConsistent};
 ghost use Rattle.meaning.specs.Store.{Store};
 ghost use Rattle.sound_stores.specs.Worlds.{World};
 ghost use Rattle.sound_stores.specs.Stores.{IsTypedStore};
@@ -12,6 +12,6 @@ ghost use Rattle.sound_places.specs.Laws.{PlaceLaws, PartLaws};
 /// read. Fields of places, elements of arrays and characters of strings are places of their types; or the run ends there by error 201 or an
 /// undefined act. None of these is an ill-typed step. It does nothing.
 pub fn sound_place_laws()
-    ensures variables { (w : World) (store : Store) → AreAgreed w.program → IsTypedStore w store → PlaceLaws w store }
-    ensures parts { (w : World) → AreAgreed w.program → PartLaws w }
+    ensures variables { (w : World) (store : Store) → AreConsistent w.program → IsTypedStore w store → PlaceLaws w store }
+    ensures parts { (w : World) → AreConsistent w.program → PartLaws w }
 {}

@@ -17,7 +17,7 @@ use Rattle.meaning.specs.Activations.{Reached, assigned}
 use Rattle.meaning.specs.Standard.{Operand, Given, Named, New, Dispose, target_of, target, with_new_block, made, made_for, disposed_by, place_arg}
 use Rattle.declared_types.specs.Declared.{declared, AreAlike}
 use Rattle.declared_types.specs.Forms.{Link}
-use Rattle.declared_types.specs.Agreement.{IsKnown, AreAgreed}
+use Rattle.declared_types.specs.Agreement.{IsKnown, AreConsistent}
 use Rattle.declared_types.proofs.Agreed.{lawful, known_within}
 use Rattle.sound_stores.specs.Worlds.{Made, Own, World, LeadsTo, IsHeld}
 use Rattle.sound_stores.specs.Places.{IsSeenAs, Shared, Letter, Whole, IsAt, IsValueBy, IsValueOf}
@@ -60,7 +60,7 @@ pointer_stored : {A : Type 0} (o : Option TypeDef) (h : _) → IsPointer o → s
 pointer_stored (Some (type.PointerTo t)) h p e = absurd cc
 pointer_stored o h p e = absurd p
 
-module _ (w : World) (agreed : AreAgreed w.program) where
+module _ (w : World) (agreed : AreConsistent w.program) where
   -- a block is made for a type, and a pointer may lead to it
   pub record IsMadeFor (sort : Sort) (serial : ℕ) (store : Store) : Type 0 where
     pub typed : IsTypedStore (grown w (Own sort ∷ [])) store

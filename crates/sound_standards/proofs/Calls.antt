@@ -8,7 +8,7 @@ use Rattle.type_fits.specs.Standard.{Slot, Integer, Ordinal as OrdinalSlot, Char
 use Rattle.meaning.specs.Store.{Store}
 use Rattle.meaning.specs.Programs.{Sort, definition}
 use Rattle.meaning.specs.Standard.{Operand, Given, Named}
-use Rattle.declared_types.specs.Agreement.{AreAgreed}
+use Rattle.declared_types.specs.Agreement.{AreConsistent}
 use Rattle.sound_stores.specs.Worlds.{World}
 use Rattle.sound_stores.specs.Stores.{IsTypedStore}
 use Rattle.sound_standards.specs.Operands.{IsOperand, AreOperands, HoldsNumber, IsLikeNumber}
@@ -66,7 +66,7 @@ three_given : (w : World) (a b c : Slot) (xs : List Operand) → AreOperands w (
 three_given w a b c [] are = absurd are
 three_given w a b c (x ∷ xs) are = let two = two_given w b c xs are.1 in record { x = x; y = two.x; z = two.y; is = ap (λ (l : List Operand). x ∷ l) two.is; first = are.0; second = two.first; third = two.second }
 
-module _ (w : World) (agreed : AreAgreed w.program) (closed : HasClasses w.program) (store : Store) (typed : IsTypedStore w store) where
+module _ (w : World) (agreed : AreConsistent w.program) (closed : HasClasses w.program) (store : Store) (typed : IsTypedStore w store) where
   pub standard_laws : StandardLaws w store
   standard_laws _ _ _ None xs abs are gives = absurd gives
   standard_laws _ _ _ (Some r) xs abs are gives =

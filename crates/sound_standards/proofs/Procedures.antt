@@ -19,7 +19,7 @@ use Rattle.meaning.specs.Store.{Store, text_at}
 use Rattle.meaning.specs.Programs.{Sort, definition}
 use Rattle.meaning.specs.Activations.{Reached, assigned, number_in}
 use Rattle.meaning.specs.Standard.{Operand, Given, Named, Inc, Dec, Delete, Insert, Str, Val, text_of, field_text, number_assigned, moved, moving, deleting, inserting, text_assigned, telling, value_assigned, valuing}
-use Rattle.declared_types.specs.Agreement.{AreAgreed}
+use Rattle.declared_types.specs.Agreement.{AreConsistent}
 use Rattle.declared_types.specs.Forms.{Number}
 use Rattle.sound_stores.specs.Worlds.{World, IsHeld}
 use Rattle.sound_stores.specs.Places.{IsAt, IsText}
@@ -93,7 +93,7 @@ inserted_small part text place is_part is =
     let each : All IsByte whole = three_small (take n text) part (drop n text) (All-take IsByte n text is.each) is_part.each (All-drop IsByte n text is.each) in
     All-take IsByte longest (take longest whole) (All-take IsByte longest whole each)
 
-module _ (w : World) (agreed : AreAgreed w.program) (store : Store) (typed : IsTypedStore w store) where
+module _ (w : World) (agreed : AreConsistent w.program) (store : Store) (typed : IsTypedStore w store) where
   abbrev Keeps : Found Store → Type 0
   Keeps x = Finds (IsTypedStore w) x
 

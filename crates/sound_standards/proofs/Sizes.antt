@@ -22,7 +22,7 @@ use Rattle.meaning.specs.Store.{Store}
 use Rattle.meaning.specs.Programs.{Sort, definition, beside, size_in, class_key}
 use Rattle.meaning.specs.Activations.{Reached, class_at}
 use Rattle.meaning.specs.Standard.{Operand, SizeOf, place_arg, instance_size, size_freed, size_by, size_of_variable}
-use Rattle.declared_types.specs.Agreement.{IsKnown, AreAgreed}
+use Rattle.declared_types.specs.Agreement.{IsKnown, AreConsistent}
 use Rattle.declared_types.proofs.Whole.{parts_of_record, parts_of_none, no_parts}
 use Rattle.declared_types.proofs.Agreed.{lawful, defined}
 use Rattle.declared_types.proofs.Lines.{begins}
@@ -68,7 +68,7 @@ module _ (types : List TypeDef) (ty : TypeId) (parts_none : (one : TypeDef) → 
   class_object (Some (type.Procedural header)) e = without (ap class_place (parts_none (type.Procedural header) e (λ f g. refl)))
   class_object None e = without (ap class_place (no_parts types ty e))
 
-module _ (w : World) (agreed : AreAgreed w.program) (closed : HasClasses w.program) where
+module _ (w : World) (agreed : AreConsistent w.program) (closed : HasClasses w.program) where
   known_size : (sort : Sort) → IsKnown w.program sort → IsSize (size_in sort)
   known_size sort ks =
       let law = lawful w.program agreed sort ks in

@@ -16,7 +16,7 @@ use Rattle.meaning.specs.Programs.{Sort, definition}
 use Rattle.meaning.specs.Activations.{Reached, number_in, assigned}
 use Rattle.meaning.specs.Standard.{number_assigned}
 use Rattle.declared_types.specs.Declared.{AreAlike}
-use Rattle.declared_types.specs.Agreement.{IsKnown, AreAgreed}
+use Rattle.declared_types.specs.Agreement.{IsKnown, AreConsistent}
 use Rattle.declared_types.specs.Forms.{Number, letter, repeated, form_at}
 use Rattle.declared_types.proofs.Agreed.{lawful}
 use Rattle.declared_types.proofs.SameForms.{whole}
@@ -88,7 +88,7 @@ string_stored : {A : Type 0} (o : Option TypeDef) (h : Host) → IsString o → 
 string_stored (Some (type.Str max)) h s e = absurd cc
 string_stored o h s e = absurd s
 
-module _ (w : World) (agreed : AreAgreed w.program) where
+module _ (w : World) (agreed : AreConsistent w.program) where
   -- what the place's own type says
   stored_at : (at : Reached) (seen : Sort) (h : Host) → IsSeenAs w.program at.sort seen → stored_as (definition seen) ≡ Some h → stored_as (definition at.sort) ≡ Some h
   stored_at at seen h (Shared ko ks same) e =

@@ -1,7 +1,7 @@
 //! Standard routines of typed programs.
 #![tactic(auto)]
 
-ghost use Rattle.declared_types.specs.Agreement.{AreAgreed};
+ghost use Rattle.declared_types.specs.Agreement.{AreConsistent};
 ghost use Rattle.meaning.specs.Store.{Store};
 ghost use Rattle.sound_stores.specs.Worlds.{World};
 ghost use Rattle.sound_stores.specs.Stores.{IsTypedStore};
@@ -11,5 +11,5 @@ ghost use Rattle.sound_standards.specs.Laws.{HasClasses, StandardLaws};
 /// value of its type, leaves the store typed, or ends the run by a runtime error or an undefined act; none of its steps is
 /// ill-typed. It does nothing.
 pub fn sound_standard_laws()
-    ensures { (w : World) (store : Store) → AreAgreed w.program → HasClasses w.program → IsTypedStore w store → StandardLaws w store }
+    ensures { (w : World) (store : Store) → AreConsistent w.program → HasClasses w.program → IsTypedStore w store → StandardLaws w store }
 {}

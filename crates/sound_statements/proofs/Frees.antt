@@ -21,7 +21,7 @@ use Rattle.meaning.specs.Activations.{Reached, Activation, whole}
 use Rattle.meaning.specs.Calls.{Flow, Next, Runs, entered, method_of}
 use Rattle.meaning.specs.Standard.{Operand, handed, target_of, target, size_freed}
 use Rattle.meaning.specs.Statements.{block_of, destructor_of, freed}
-use Rattle.declared_types.specs.Agreement.{IsKnown, AreAgreed}
+use Rattle.declared_types.specs.Agreement.{IsKnown, AreConsistent}
 use Rattle.declared_types.specs.Forms.{Link}
 use Rattle.sound_stores.specs.Worlds.{Made, World, LeadsTo, IsHeld}
 use Rattle.sound_stores.specs.Places.{Shared, IsAt, IsValueBy}
@@ -64,7 +64,7 @@ some_place : (o : Option ℕ) → is_some o ≡ true → (n : ℕ) × (o ≡ Som
 some_place None e = absurd cc
 some_place (Some n) e = (n, refl)
 
-module _ (program : Program) (agreed : AreAgreed program) (closed : HasClasses program) (again : Runs) (sound : HasSoundCalls program again) (f : Activation) (number : ℕ) (withs : List TypeId) (s : Scope) where
+module _ (program : Program) (agreed : AreConsistent program) (closed : HasClasses program) (again : Runs) (sound : HasSoundCalls program again) (f : Activation) (number : ℕ) (withs : List TypeId) (s : Scope) where
   abbrev site : Site
   site = record { program = program; unit = f.unit; number = number }
 

@@ -17,7 +17,7 @@ use Rattle.meaning.specs.Activations.{Reached, Activation, variable_at, number_i
 use Rattle.meaning.specs.Calls.{Flow, Next, Turns, Runs}
 use Rattle.meaning.specs.Standard.{number_assigned}
 use Rattle.meaning.specs.Statements.{counter, counted, turned, turn, then_next, chosen, step}
-use Rattle.declared_types.specs.Agreement.{IsKnown, AreAgreed}
+use Rattle.declared_types.specs.Agreement.{IsKnown, AreConsistent}
 use Rattle.declared_types.specs.Forms.{Form, Cell, Number}
 use Rattle.sound_stores.specs.Worlds.{Made, World, IsHeld, HasForm}
 use Rattle.sound_stores.specs.Places.{IsPlaceOf, IsSeenAs, Shared, Letter, Whole, IsAt}
@@ -40,7 +40,7 @@ use Rattle.sound_statements.proofs.Flows.{Ended, next_ends, chosen_ends, changed
 
 -- ---- the variable becomes unset
 
-module _ (w : World) (agreed : AreAgreed w.program) where
+module _ (w : World) (agreed : AreConsistent w.program) where
   known_seen : (one seen : Sort) → IsSeenAs w.program one seen → IsKnown w.program seen
   known_seen one seen (Shared ko ks same) = ks
   known_seen one seen (Letter is ks stored) = ks
@@ -60,7 +60,7 @@ module _ (w : World) (agreed : AreAgreed w.program) where
 
 -- ---- a turn
 
-module _ (program : Program) (agreed : AreAgreed program) (again : Runs) (sound : AreSound program again) (f : Activation) (number : ℕ) (withs : List TypeId) (variable : Variable) (ty : TypeId)
+module _ (program : Program) (agreed : AreConsistent program) (again : Runs) (sound : AreSound program again) (f : Activation) (number : ℕ) (withs : List TypeId) (variable : Variable) (ty : TypeId)
     (is_counter : IsCounter (record { program = program; unit = f.unit; number = number }) withs variable ty) (h : Host) (stored : stored_as (definition (sort_in f.unit ty)) ≡ Some h) where
   abbrev Body : List Made → Type 0
   Body made = IsActive (world program made) f number withs

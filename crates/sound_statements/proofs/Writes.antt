@@ -17,7 +17,7 @@ use Rattle.meaning.specs.Outcomes.{State, ◌>>=◌, changed, taking}
 use Rattle.meaning.specs.Activations.{Reached, assigned}
 use Rattle.meaning.specs.Standard.{ordinal_text, text_of, number_assigned}
 use Rattle.meaning.specs.Statements.{tested, numeral_or_error, number_taken, char_taken, text_taken, taken_as}
-use Rattle.declared_types.specs.Agreement.{AreAgreed}
+use Rattle.declared_types.specs.Agreement.{AreConsistent}
 use Rattle.declared_types.specs.Forms.{Number}
 use Rattle.sound_stores.specs.Worlds.{Made, World, IsHeld}
 use Rattle.sound_stores.specs.Places.{IsAt, IsValueBy}
@@ -81,7 +81,7 @@ text_found w sort None v may is = absurd is
 
 -- ---- items that are read
 
-module _ (program : Program) (agreed : AreAgreed program) where
+module _ (program : Program) (agreed : AreConsistent program) where
   abbrev seen_kept : Reached → Sort → Kept
   seen_kept at seen = record {
     holds = λ made. IsAt (world program made) at seen;

@@ -11,7 +11,7 @@ use Rattle.meaning.specs.Shapes.{Part, FieldPart, ClassPart, parts_at, class_pla
 use Rattle.meaning.specs.Programs.{Sort, definition, class_key}
 use Rattle.meaning.specs.Store.{Store, tree_at, value_in, value_at, class_of, replaced}
 use Rattle.meaning.specs.Activations.{Reached, inside, class_at, with_class}
-use Rattle.declared_types.specs.Agreement.{IsKnown, AreAgreed, IsOfLine}
+use Rattle.declared_types.specs.Agreement.{IsKnown, AreConsistent, IsOfLine}
 use Rattle.declared_types.specs.Forms.{ClassOf, Form, Cell, line, part_form, part_forms, form_at, form_beside}
 use Rattle.sound_stores.specs.Worlds.{World, IsClassOf, IsHeld, HasForm}
 use Rattle.sound_stores.specs.Places.{form_part, LiesAt, IsPlaceOf, IsClassFor}
@@ -41,7 +41,7 @@ get_map f [] n x e = absurd cc
 get_map f (y ∷ xs) zero x e = ap (option_map f) e
 get_map f (y ∷ xs) (suc n) x e = get_map f xs n x e
 
-module _ (w : World) (agreed : AreAgreed w.program) where
+module _ (w : World) (agreed : AreConsistent w.program) where
   pub lies_inside : (spot : Spot) (form part : Form) (n : ℕ) → LiesAt w spot form → form_part form (n ∷ []) ≡ Some part → LiesAt w (inside spot n) part
   lies_inside spot form part n lies e = record { whole = lies.whole; made = lies.made; leads = further (form_at lies.whole) form spot.path n part lies.leads e }
 

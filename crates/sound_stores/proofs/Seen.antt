@@ -21,7 +21,7 @@ use Rattle.type_fits.specs.Fits.{stored_as, ancestor, parent_of, Descends, shape
 use Rattle.meaning.specs.Trees.{Key, Spot, Value, Ordinal, Text, Elements, Nil, Block, Code, Class, At, Void}
 use Rattle.meaning.specs.Programs.{Sort, definition, class_key, beside, char_sort, integer_sort}
 use Rattle.declared_types.specs.Declared.{DeclaredHeader, declared, declared_param, declared_header, AreAlike}
-use Rattle.declared_types.specs.Agreement.{IsKnown, AreAgreed, IsOfLine}
+use Rattle.declared_types.specs.Agreement.{IsKnown, AreConsistent, IsOfLine}
 use Rattle.declared_types.specs.Forms.{Number, Link, Routine, Form, Cell, form_at}
 use Rattle.declared_types.proofs.Whole.{parent_is_object}
 use Rattle.declared_types.proofs.Agreed.{defined, known_beside, known_within, known_at}
@@ -59,7 +59,7 @@ parent_alike a b one (type.PointerTo target) is parent e = absurd cc
 parent_alike a b one (type.Procedural header) is parent e = absurd cc
 parent_alike a b one other is parent e = absurd is
 
-module _ (program : Program) (agreed : AreAgreed program) where
+module _ (program : Program) (agreed : AreConsistent program) where
   -- the type that is reached on a line is one of the table
   pub reached_known : (own : Sort) (above : Option Key) → IsKnown program own → (of : IsOfLine own above) → IsKnown program (beside own of.ty)
   reached_known own above ko of =
@@ -179,7 +179,7 @@ module _ (program : Program) (agreed : AreAgreed program) where
   covers_above top ty form kt ku by (Heir own kw k object of is) =
       subst (Covers program (beside top ty)) (sym is) (covers_of_line own (beside top ty) kw ku (line_along by.0 own top kw kt of ty by.1))
 
-module _ (w : World) (agreed : AreAgreed w.program) where
+module _ (w : World) (agreed : AreConsistent w.program) where
   pub place_seen : (spot : Spot) (one seen : Sort) → IsSeenAs w.program one seen → IsPlaceOf w spot one → IsPlaceOf w spot seen
   place_seen spot one seen how h = record { form = h.form; lies = h.lies; covers = covers_seen w.program agreed one seen h.form how h.covers }
 

@@ -19,7 +19,7 @@ use Rattle.meaning.specs.Programs.{Sort, definition, class_key}
 use Rattle.meaning.specs.Store.{Store, tree_at, value_in, value_at, text_in, text_at, number_of, pointer_of, routine_of, bytes_of, set_over, text_over, assigned_over, fields_over, copied_over, replaced}
 use Rattle.meaning.specs.Activations.{Reached, loaded_as, loaded, assigned, copied, passed}
 use Rattle.declared_types.specs.Declared.{declared, declared_header, AreAlike}
-use Rattle.declared_types.specs.Agreement.{IsKnown, IsShort, AreAgreed, IsOfLine}
+use Rattle.declared_types.specs.Agreement.{IsKnown, IsShort, AreConsistent, IsOfLine}
 use Rattle.declared_types.specs.Forms.{Held, Number, Members, Link, Routine, Form, Cell, letter, repeated, line, part_forms, form_of, form_at, form_beside}
 use Rattle.declared_types.specs.Laws.{AgreementLaws}
 use Rattle.declared_types.proofs.Agreed.{lawful}
@@ -120,7 +120,7 @@ structured_alike a b (type.PointerTo target) other is h = absurd (not_structured
 structured_alike a b (type.Procedural header) other is h = absurd (not_structured h)
 structured_alike a b one other is h = absurd is
 
-module _ (w : World) (agreed : AreAgreed w.program) where
+module _ (w : World) (agreed : AreConsistent w.program) where
   pub structured_seen : (a b : Sort) → IsKnown w.program a → IsKnown w.program b → class_key a ≡ class_key b → IsStructured (definition a) → IsStructured (definition b)
   structured_seen a b ka kb same h =
       subst IsStructured (sym kb.is) (structured_alike a.table b.table ka.one kb.one (agreed.alike a b ka.one kb.one ka kb ka.is kb.is same) (subst IsStructured ka.is h))
@@ -213,7 +213,7 @@ module _ (w : World) (agreed : AreAgreed w.program) where
   not_object (Some (type.Procedural header)) simple is = is
   not_object None simple is = is
 
-module _ (w : World) (agreed : AreAgreed w.program) (store : Store) (typed : IsTypedStore w store) where
+module _ (w : World) (agreed : AreConsistent w.program) (store : Store) (typed : IsTypedStore w store) where
   -- what a cell holds
   pub cell_found : (spot : Spot) (sort : Sort) (held : Held) → IsPlaceOf w spot sort → (IsObject (definition sort) → ⊥) → form_at sort ≡ Cell held → Finds (IsHeld w held) (value_at store spot)
   cell_found spot sort held place never e =

@@ -10,7 +10,7 @@ use Rattle.scopes.specs.Lines.{fields_of}
 use Rattle.scopes.specs.Environment.{Environment}
 use Rattle.virtual_slots.specs.Laws.{IsNumbered}
 use Rattle.typed_nodes.specs.Tables.{IsSound}
-use Rattle.closed_constants.specs.Bounds.{IsClosedScope}
+use Rattle.closed_constants.specs.Bounds.{IsWellScopedEnvironment}
 
 -- types that are defined one over another, with sizes within the limit; not too many, no line with too many fields, and methods that are
 -- numbered
@@ -27,7 +27,7 @@ HasPredeclared types = (rest : List TypeDef) × (types ≡ type_list ++ rest)
 
 -- Each table keeps its types within these bounds, and no line of a source has so many fields.
 abbrev pub SoundLaw : Type 0
-SoundLaw = (g : Environment) → IsFit g.types.types → IsClosedScope g → HasPredeclared g.types.types → IsSound g.types.types
+SoundLaw = (g : Environment) → IsFit g.types.types → IsWellScopedEnvironment g → HasPredeclared g.types.types → IsSound g.types.types
 
 -- the types that a table had before were within them too
 abbrev pub FrontLaw : Type 0

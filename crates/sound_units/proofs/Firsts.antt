@@ -14,7 +14,7 @@ use Rattle.scopes.specs.Environment.{Environment}
 use Rattle.type_denoters.specs.Trees.{view_denoter}
 use Rattle.type_denoters.specs.Denoters.{ground}
 use Rattle.typed_constants.specs.Trees.{Initial, view_initializer}
-use Rattle.typed_constants.specs.FirstValues.{is_plain, first_value}
+use Rattle.typed_constants.specs.Initializers.{is_plain, first_value}
 use Rattle.declarations.specs.declared.homes.Home.{Home}
 use Rattle.declarations.specs.declared.homes.Home.TheVariants as home
 use Rattle.declarations.specs.Progress.{Progress, knowing, unset, beginning}

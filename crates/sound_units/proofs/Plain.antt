@@ -6,7 +6,7 @@ use Rattle.type_layout.specs.declared.definitions.Field.{Field}
 use Rattle.type_layout.specs.declared.definitions.TypeDef.{TypeDef}
 use Rattle.type_layout.specs.declared.definitions.TypeDef.TheVariants as type
 use Rattle.type_layout.specs.Layouts.{given_by}
-use Rattle.typed_constants.specs.FirstValues as constants
+use Rattle.typed_constants.specs.Initializers as constants
 use Rattle.typed_programs.specs.WellTyped as programs
 
 -- ---- more types

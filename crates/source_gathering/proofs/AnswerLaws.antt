@@ -194,7 +194,7 @@ module _ (name : List ℕ) where
   spells_nothing (Some held) (Ok found) answer = λ meets. gathers_or_nothing held name found.texts.items found.sources.items answer meets
   spells_nothing (Some held) (Err error) answer = λ meets. unless_then error (IsRefused held name error) (Meets held name (IsMisspelled held error)) (λ r. misspelled_once held name error meets r) answer
 
-  -- where nothing but a fault of the files or want of memory is told
+  -- where nothing but a fault of the files or out of memory is told
   spared : (error cause : GatherError) → Unless error (AreAlike error cause) → AreAlike error cause
   spared refusal.FilesFault cause h = tt
   spared refusal.NoMemory cause h = tt

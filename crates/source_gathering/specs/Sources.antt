@@ -54,7 +54,7 @@ pub record IsMisspelled (held : Folder) (error : GatherError) (texts : List Text
   pub is_fault : IsFault tokens fault
   pub error_is : error ≡ fault_refusal after main tokens fault
 
--- The same kind of refusal, with all that it tells but which feature is left out; a fault of the files and want of memory are like any.
+-- The same kind of refusal, with all that it tells but which feature is left out; a fault of the files and out of memory are like any.
 abbrev pub AreAlike : GatherError → GatherError → Type 0
 AreAlike refusal.FilesFault y = Unit {0}
 AreAlike refusal.NoMemory y = Unit {0}

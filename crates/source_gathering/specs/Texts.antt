@@ -48,7 +48,7 @@ abbrev pub place_in : ℕ → List Token → Place → Place
 place_in main [] place = record { text = main; line = place.line; column = place.column }
 place_in main (token ∷ tokens) place = place
 
--- a fault of the files, or want of memory
+-- a fault of the files, or out of memory
 abbrev pub read_refusal : ReadError → GatherError
 read_refusal read_errors.Failed = FilesFault
 read_refusal read_errors.NoMemory = NoMemory

@@ -71,7 +71,7 @@ Meets held name P =
 abbrev pub IsRefused : Folder → List ℕ → GatherError → Type 0
 IsRefused held name error = Meets held name (IsUnreadable held error) ⊎ Meets held name (IsMisspelled held error)
 
--- the fact holds, unless the error is a fault of the files or want of memory
+-- the fact holds, unless the error is a fault of the files or out of memory
 abbrev pub Unless : GatherError → Type 0 → Type 0
 Unless FilesFault P = Unit {0}
 Unless NoMemory P = Unit {0}

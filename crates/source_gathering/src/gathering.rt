@@ -189,7 +189,7 @@ pub fn gather<F: Files>(alloc: Global, name: &Name, files: &mut F) -> Result<Gat
     ensures some { IfOk result (λ found. (held : Folder) × Gathers held name.now found.texts.items found.sources.items) }
 
     // Where the sources are in order they are what is answered, and where one is not, that is told: but for a fault of the files or
-    // want of memory.
+    // out of memory.
     ensures accepts { IfSome (F.folder files.old) (λ held.
         (texts : List Text) (sources : List Source) → Gathers held name.now texts sources → IfErr result (λ error. Unless error ⊥)) }
     ensures refuses { IfSome (F.folder files.old) (λ held.

@@ -11,7 +11,7 @@ use crate::error::{At, GatherError};
 use std::alloc::Global;
 use std::marker::Model;
 use tp_lexer::{Text, Token};
-use tp_outside::{Files, read_front};
+use tp_outside::{Files, read_prefix};
 use type_layout::{Bytes, FileName, Place};
 
 /// The most bytes that a text may have.
@@ -193,7 +193,7 @@ impl Texts {
         if size > TEXT_LIMIT {
             return Err(GatherError::TooLarge { bytes: size });
         }
-        let bytes = read_front(alloc, files, file.as_str(), size)?;
+        let bytes = read_prefix(alloc, files, file.as_str(), size)?;
         self.push(file, bytes)
     }
 }

@@ -23,7 +23,7 @@ use Rattle.typing_rules.specs.Judgements.{Judgement, makes, part}
 use Rattle.type_denoters.specs.Denoters.{ground}
 use Rattle.typed_constants.specs.Trees as first
 use Rattle.typed_constants.specs.Trees.{Initial, Initials, Named, view_initializer, view_row, view_field_row}
-use Rattle.typed_constants.specs.FirstValues.{first_value}
+use Rattle.typed_constants.specs.Initializers.{first_value}
 use Rattle.declarations.specs.declared.homes.Home.{Home}
 use Rattle.declarations.specs.Progress.{Progress, knowing}
 use Rattle.declarations.specs.Constants as constants

@@ -168,7 +168,7 @@ fn telling(alloc: Global, args: &[Operand], store: &mut Store) -> Result<(), Sto
     }
 }
 
-// A number of bytes. One that passes 63 bits finds no room.
+// A number of bytes. One that passes 63 bits is answered as out of memory.
 fn number_of_bytes(bytes: usize) -> Result<i64, AllocError>
     ensures { IfOk result (λ z. z ≡ pos bytes) }
 {

@@ -93,13 +93,13 @@ pub(crate) fn of_number(one: Plain, args: &[Operand]) -> Result<Value, Trap>
     Ok(Value::Ordinal(plain_of(one, z)))
 }
 
-// A number of bytes. One that passes 32 bits finds no room.
+// A number of bytes. One that passes 32 bits is answered as out of memory.
 fn count(bytes: usize) -> Result<Value, Stop>
     ensures { Gets view_value result (Ok (Ordinal (pos bytes))) }
 {
     match i32::try_from(bytes) {
         Ok(bytes) => Ok(Value::Ordinal(bytes)),
-        Err(_) => Err(Stop::NoRoom),
+        Err(_) => Err(Stop::OutOfMemory),
     }
 }
 

@@ -15,13 +15,13 @@ use type_layout::TypeDef;
 use typed_cells::{Reached, Sort, class_place, new_tree, parts_of_type};
 use typed_tree::Program;
 
-/// What a pointer type points to. A pointer type in a table of its own, which no program has, finds no room.
+/// What a pointer type points to. A pointer type in a table of its own, which no program has, is answered as out of memory.
 pub fn target<'a>(sort: &Sort<'a>) -> Result<Sort<'a>, Stop>
     ensures { Gets view_sort result (target (view_sort sort.now)) }
 {
     match sort.definition() {
         Some(TypeDef::PointerTo { target }) => match sort {
-            Sort::Alone(_) => Err(Stop::NoRoom),
+            Sort::Alone(_) => Err(Stop::OutOfMemory),
             Sort::Of { types, .. } => Ok(Sort::Of { types, ty: *target }),
         },
         _ => Err(Stop::Trapped(Trap::IllTyped)),
@@ -34,7 +34,7 @@ pub fn make(alloc: Global, program: &Program, sort: &Sort, store: &mut Store) ->
     ensures { Gets (λ _. view_store store.new) result (made program.now (view_sort sort.now) (view_store store.old)) }
 {
     let Sort::Of { types, ty } = sort else {
-        return Err(Stop::NoRoom);
+        return Err(Stop::OutOfMemory);
     };
     let tree = new_tree(alloc, types, *ty)?;
     let bytes = size_in(sort)?;
@@ -97,7 +97,7 @@ pub fn size_freed(
     instance_size(program, &class)
 }
 
-// Whether values of a type have a class. What stands in a table of its own is an ordinal; any other type there finds no room.
+// Whether values of a type have a class. What stands in a table of its own is an ordinal; any other type there is answered as out of memory.
 fn has_class(alloc: Global, sort: &Sort) -> Result<bool, AllocError>
     ensures { IfOk result (λ has. let sort = view_sort sort.now in has ≡ is_some (class_place (parts_at sort.table.types sort.ty))) }
 {

@@ -21,7 +21,7 @@ use Rattle.expression_parser.specs.Gives as g
 use Rattle.expression_parser.specs.Reading.{begins, selectors_at, named_at, arguments_at, simple_at, expression_at, inside}
 use Rattle.expression_parser.proofs.Shapes.{begins_is, same_kind, word_asked, second_read, pair_read}
 use Rattle.expression_parser.proofs.Sound.{inside_reads, expression_reads, simple_reads, selectors_reads, arguments_reads}
-use Rattle.statement_parser.specs.declared.front.StatementStart.TheVariants as start
+use Rattle.statement_parser.specs.declared.lookahead.StatementStart.TheVariants as start
 use Rattle.statement_parser.specs.Starting.{statement_start, behind_designator, behind_arguments, behind_with, ends_arms}
 use Rattle.statement_parser.specs.Chains.{chain_from, chain_at}
 use Rattle.statement_parser.specs.Reading.{label_end_by, label_end_at, label_at, labels, statement_end_by, statement_end_at, called_at, after_by, after_at, named_statement_at, designator_at, compound_at, if_at, case_at, while_at, repeat_at, for_at, with_at, statement_by, statement_at, more_statements, statements_at, else_by, case_else_by, arm_at, arms_end_by, more_arms, with_rest_by, with_rest_at, statement_parts, within, compound_by, whole_compound_at}

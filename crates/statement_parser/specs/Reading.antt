@@ -14,14 +14,14 @@ use Rattle.syntax_tree.specs.declared.expression.Designator.{Designator}
 use Rattle.syntax_tree.specs.Statements.{named_of, arms_end}
 use Rattle.expression_parser.specs.Gives.{Reads, Inside, ask, name_at}
 use Rattle.expression_parser.specs.Reading.{begins, tail_of, wrong, leaves, inside, expression_at, simple_at, named_at, arguments_at}
-use Rattle.statement_parser.specs.declared.front.StatementStart.{StatementStart}
-use Rattle.statement_parser.specs.declared.front.StatementStart.TheVariants as start
-use Rattle.statement_parser.specs.declared.front.BehindDesignator.{BehindDesignator}
-use Rattle.statement_parser.specs.declared.front.BehindDesignator.TheVariants as behind
-use Rattle.statement_parser.specs.declared.front.BehindArguments.{BehindArguments}
-use Rattle.statement_parser.specs.declared.front.BehindArguments.TheVariants as past
-use Rattle.statement_parser.specs.declared.front.BehindWith.{BehindWith}
-use Rattle.statement_parser.specs.declared.front.BehindWith.TheVariants as further
+use Rattle.statement_parser.specs.declared.lookahead.StatementStart.{StatementStart}
+use Rattle.statement_parser.specs.declared.lookahead.StatementStart.TheVariants as start
+use Rattle.statement_parser.specs.declared.lookahead.BehindDesignator.{BehindDesignator}
+use Rattle.statement_parser.specs.declared.lookahead.BehindDesignator.TheVariants as behind
+use Rattle.statement_parser.specs.declared.lookahead.BehindArguments.{BehindArguments}
+use Rattle.statement_parser.specs.declared.lookahead.BehindArguments.TheVariants as past
+use Rattle.statement_parser.specs.declared.lookahead.BehindWith.{BehindWith}
+use Rattle.statement_parser.specs.declared.lookahead.BehindWith.TheVariants as further
 use Rattle.statement_parser.specs.Starting.{statement_start, behind_designator, behind_arguments, behind_with, ends_arms}
 use Rattle.statement_parser.specs.Chains.{Chain, chain_at}
 

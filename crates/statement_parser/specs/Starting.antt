@@ -3,14 +3,14 @@ use Rattle.std.specs.Prelude.{Bool, true, false, if◌then◌else◌, Option, So
 use Rattle.pascal_grammar.specs.declared.kind.Kind.{Kind}
 use Rattle.pascal_grammar.specs.declared.kind.Kind.TheVariants as k
 use Rattle.expression_parser.specs.Starting.{names}
-use Rattle.statement_parser.specs.declared.front.StatementStart.{StatementStart}
-use Rattle.statement_parser.specs.declared.front.StatementStart.TheVariants as s
-use Rattle.statement_parser.specs.declared.front.BehindDesignator.{BehindDesignator}
-use Rattle.statement_parser.specs.declared.front.BehindDesignator.TheVariants as d
-use Rattle.statement_parser.specs.declared.front.BehindArguments.{BehindArguments}
-use Rattle.statement_parser.specs.declared.front.BehindArguments.TheVariants as a
-use Rattle.statement_parser.specs.declared.front.BehindWith.{BehindWith}
-use Rattle.statement_parser.specs.declared.front.BehindWith.TheVariants as w
+use Rattle.statement_parser.specs.declared.lookahead.StatementStart.{StatementStart}
+use Rattle.statement_parser.specs.declared.lookahead.StatementStart.TheVariants as s
+use Rattle.statement_parser.specs.declared.lookahead.BehindDesignator.{BehindDesignator}
+use Rattle.statement_parser.specs.declared.lookahead.BehindDesignator.TheVariants as d
+use Rattle.statement_parser.specs.declared.lookahead.BehindArguments.{BehindArguments}
+use Rattle.statement_parser.specs.declared.lookahead.BehindArguments.TheVariants as a
+use Rattle.statement_parser.specs.declared.lookahead.BehindWith.{BehindWith}
+use Rattle.statement_parser.specs.declared.lookahead.BehindWith.TheVariants as w
 
 abbrev pub statement_start : Option Kind → StatementStart
 statement_start (Some k.Begin) = s.Compound

@@ -1,7 +1,7 @@
 //! Statements of Turbo Pascal, read from lexemes.
 #![tactic(auto)]
 
-mod front;
+mod lookahead;
 mod label;
 mod list;
 mod named;

@@ -4,7 +4,7 @@ ghost use Rattle.syntax_tree.specs.Statements.{of_statement, designator_of};
 ghost use Rattle.expression_parser.specs.Gives.{Gives};
 ghost use Rattle.statement_parser.specs.Reading.{named_statement_at, named_with, after_at, called_at, designator_at};
 
-use crate::front::{BehindArguments, BehindDesignator, behind_arguments, behind_designator};
+use crate::lookahead::{BehindArguments, BehindDesignator, behind_arguments, behind_designator};
 use crate::node::{assignment_node, bare_call_node, call_node};
 use expression_parser::{ReadError, read_arguments, read_designator, read_expression, skip};
 use pascal_grammar::{Kind, Lexeme, Omission};

@@ -8,7 +8,7 @@ ghost use Rattle.expression_parser.specs.Gives.{Gives};
 ghost use Rattle.statement_parser.specs.Chains.{chain_at};
 ghost use Rattle.statement_parser.specs.Reading.{within, statement_at, compound_at, statements_at, if_at, else_at, case_at, case_else_at, more_arms, arm_at, while_at, repeat_at, for_at, with_at, with_rest_at};
 
-use crate::front::{
+use crate::lookahead::{
     BehindWith, StatementStart, arm_follows, behind_with, deeper, last_semicolon, read_direction,
     statement_start,
 };

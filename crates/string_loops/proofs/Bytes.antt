@@ -23,7 +23,7 @@ bytes-unshift m segment o n i j [] e has = tt
 bytes-unshift m segment o n i j (b ∷ bytes) e has =
     (ap m (address-shift segment o n i ∙ ap (address_of (place segment o)) (sym e)) ∙ has.0, has.1, bytes-unshift m segment o n (i + 1) (j + 1) bytes (omega (arith, e)) has.2)
 
--- what stands behind a front of a text
+-- what stands behind a prefix of a text
 pub bytes-behind : (m : Cells) (p : Place) (i n : ℕ) (bytes : List ℕ) → HasBytes m p i bytes → HasBytes m p (i + n) (drop n bytes)
 bytes-behind m p i n bytes has = by n i bytes (i + n) (omega arith) has
   where

@@ -86,7 +86,7 @@ plus-none segment o i = omega arith
 pub apart-in : (segment o i j : ℕ) → i < j → j < 65536 → address_of (record { segment = segment; offset = o }) i ≡ address_of (record { segment = segment; offset = o }) j → ⊥
 apart-in segment o i j p q e = omega (arith, p, q, e)
 
--- ---- fronts of texts
+-- ---- prefixes of texts
 
 pub bytes-front : (m : Cells) (p : Place) (i k : ℕ) (bytes : List ℕ) → HasBytes m p i bytes → HasBytes m p i (take k bytes)
 bytes-front m p i zero [] has = tt

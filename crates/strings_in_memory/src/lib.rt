@@ -6,7 +6,7 @@ ghost use Rattle.flat_code.specs.declared.memory.Place.{Place};
 ghost use Rattle.flat_code.specs.Memory.{Cells, laid};
 ghost use Rattle.strings_in_memory.specs.Strings.{HasBytes, place};
 
-/// The laws of bytes in memory: a front of bytes that stand somewhere stands there too, and bytes that
+/// The laws of bytes in memory: a prefix of bytes that stand somewhere stands there too, and bytes that
 /// were laid stand there, as far as offsets reach. It does nothing.
 pub fn move_laws()
     ensures front { (m : Cells) (p : Place) (i k : ℕ) (bytes : List ℕ) → HasBytes m p i bytes → HasBytes m p i (take k bytes) }

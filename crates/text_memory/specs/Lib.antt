@@ -1,3 +1,3 @@
 pub mod Data
 pub mod Pieces
-pub mod ActLaws
+pub mod EffectLaws

@@ -6,7 +6,7 @@ ghost use Rattle.std.specs.Prelude.{◌≡◌, IfOk, ℕ};
 ghost use Rattle.flat_code.specs.Program.{FlatProgram, Choice};
 ghost use Rattle.flat_code.specs.Meaning.{Frame};
 ghost use Rattle.routine_proofs.specs.Activation.{IsPlaced};
-ghost use Rattle.text_memory.specs.ActLaws.{Prints, Fetches, TellsEnd};
+ghost use Rattle.text_memory.specs.EffectLaws.{Prints, Fetches, TellsEnd};
 ghost use Rattle.flat_code.specs.Tree.{Code};
 ghost use Rattle.flat_code.specs.View.{view_expr, view_stmt};
 ghost use Rattle.text_memory.specs.Pieces.{item_at as item_place, ahead_at as ahead_place, item_offset as item_offset_code, item_segment as item_segment_code, set_segment as set_segment_code, print as print_code, fetch as fetch_code};
@@ -88,9 +88,9 @@ pub fn fetch(alloc: Global, at: i32) -> FlatStmt
     }
 }
 
-/// The laws of the acts of the machine by which routines write and read, for each activation of a
+/// The laws of the effects of the machine by which routines write and read, for each activation of a
 /// routine whose stack lies in a segment. It does nothing.
-pub fn act_laws()
+pub fn effect_laws()
     ensures print { (program : FlatProgram) (choice : Choice) (own : Frame) (sp above : ℕ) → IsPlaced choice own sp above → Prints program choice own sp above }
     ensures fetch { (program : FlatProgram) (choice : Choice) (own : Frame) (sp above : ℕ) → IsPlaced choice own sp above → Fetches program choice own sp above }
     ensures ends { (program : FlatProgram) (choice : Choice) (own : Frame) (sp above : ℕ) → IsPlaced choice own sp above → TellsEnd program choice own sp above }

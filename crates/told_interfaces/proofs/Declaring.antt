@@ -24,7 +24,7 @@ use Rattle.interface_laws.specs.Agreement.{IsPaired}
 use Rattle.interface_laws.specs.Declared.{with_declared, Declares}
 use Rattle.interface_laws.specs.Declared as declared
 use Rattle.interface_laws.proofs.Growing.{adds, declared_grows}
-use Rattle.told_types.specs.Told.{next_key, AreFollowed}
+use Rattle.told_types.specs.Consistency.{next_key, AreFollowed}
 use Rattle.told_types.specs.Laws.{IsWithDeclared}
 use Rattle.fitting_types.specs.Fits.{HaveOwnMethods}
 use Rattle.told_types.proofs.Keys.{not_found}

@@ -23,7 +23,7 @@ use Rattle.tp_check_decl.specs.Interfaces.{is_name_of, unit_front}
 use Rattle.tp_check_decl.specs.Shown.{outlined, with_nothing_else}
 use Rattle.source_interfaces.specs.Scopes.{outer_units, outer_scope}
 use Rattle.source_interfaces.proofs.Uses.{some_is}
-use Rattle.closed_scopes.specs.Scopes.{IsClosedInterface}
+use Rattle.closed_scopes.specs.Scopes.{IsWellScopedInterface}
 use Rattle.closed_tables.proofs.Ending.{outline_closed, interface_closed}
 use Rattle.interface_laws.specs.Declared.{Declares}
 use Rattle.interface_laws.proofs.AgreementLaws.{declare}
@@ -31,14 +31,14 @@ use Rattle.program_laws.specs.Closing.{AreInOrder}
 use Rattle.program_laws.proofs.Sources.{same_name, named_by}
 use Rattle.program_laws.proofs.Depth.{IsOf, AreUses, inherited}
 use Rattle.program_laws.proofs.Closing.{new_of, interfaces}
-use Rattle.told_types.specs.Told.{home_of, AreAtHome, IsClosedTable, AreClosedHomes, IsTold, IsToldInterface, IsToldBut}
+use Rattle.told_types.specs.Consistency.{home_of, AreAtHome, IsWellScopedTable, AreWellScopedHomes, IsConsistent, IsConsistentInterface, IsConsistentWithOthers}
 use Rattle.told_types.proofs.Keys.{At}
 use Rattle.told_types.proofs.First.{first_home}
 use Rattle.told_types.proofs.Arrived.{merged_home}
 use Rattle.told_types.proofs.Longer.{declared_told}
 use Rattle.told_types.proofs.Shown.{shown_told, shown_home}
 use Rattle.told_types.proofs.Ordered.{shown_defined, shown_small}
-use Rattle.fitting_types.specs.Fits.{HaveOwnMethods, IsToldScope, IsToldUse, AreToldUses}
+use Rattle.fitting_types.specs.Fits.{HaveOwnMethods, IsConsistentScope, IsConsistentUse, AreConsistentUses}
 use Rattle.fitting_types.proofs.Uses.{closed_homes, used_told, uses_told, all_used_told, first_scope}
 use Rattle.fitting_types.proofs.Own.{own_told}
 use Rattle.told_interfaces.proofs.Declaring.{own_methods, paired_of, pairs_behind, keys_behind, is_with_declared}
@@ -47,8 +47,8 @@ use Rattle.told_interfaces.proofs.ShownKeys.{shown_from, told_without}
 
 -- ---- types at home, with used units
 
-module _ (have : List Interface) (homes : AreClosedHomes have) where
-  use_home : (g : Environment) (name : List ℕ) → IsToldScope have g → AreAtHome have g.types → IsToldUse have name → AreAtHome have (with_use have g name).types
+module _ (have : List Interface) (homes : AreWellScopedHomes have) where
+  use_home : (g : Environment) (name : List ℕ) → IsConsistentScope have g → AreAtHome have g.types → IsConsistentUse have name → AreAtHome have (with_use have g name).types
   use_home g name scope home own = by (is_overlay name) refl (interface_named have name) refl
     where
       by : (b : Bool) → is_overlay name ≡ b → (found : Option Interface) → interface_named have name ≡ found → AreAtHome have (cond b (with_overlay g) (with_found g found)).types
@@ -56,7 +56,7 @@ module _ (have : List Interface) (homes : AreClosedHomes have) where
       by false is None at = home
       by false is (Some i) at = let o = own is i at in merged_home g.types i.types scope.told.keyed o.told.keyed have home o.at_home
 
-  pub uses_home : (g : Environment) (names : List (List ℕ)) → IsToldScope have g → AreAtHome have g.types → AreToldUses have names → AreAtHome have (with_uses have g names).types
+  pub uses_home : (g : Environment) (names : List (List ℕ)) → IsConsistentScope have g → AreAtHome have g.types → AreConsistentUses have names → AreAtHome have (with_uses have g names).types
   uses_home g [] scope home own = home
   uses_home g (name ∷ names) scope home own =
       uses_home (with_use have g name) names (used_told have homes g name scope own.0) (use_home g name scope home own.0) own.1
@@ -112,15 +112,15 @@ comes have s i of number key at =
     ]
 
 module _ (sources : List Source) (have : List Interface) (o : AreInOrder sources have) where
-  each_closed : (name : List ℕ) (i : Interface) → interface_named have name ≡ Some i → IsClosedInterface i
+  each_closed : (name : List ℕ) (i : Interface) → interface_named have name ≡ Some i → IsWellScopedInterface i
   each_closed name i is =
-      let n = named_by IsClosedInterface have name (interfaces sources have o) (ap (λ (x : Option Interface). is_some x) is) in
-      subst IsClosedInterface (some_is n.interface i (sym n.found ∙ is)) n.holds
+      let n = named_by IsWellScopedInterface have name (interfaces sources have o) (ap (λ (x : Option Interface). is_some x) is) in
+      subst IsWellScopedInterface (some_is n.interface i (sym n.found ∙ is)) n.holds
 
-  pub homes : AreClosedHomes have
+  pub homes : AreWellScopedHomes have
   homes = closed_homes have each_closed
 
-  told_uses : (names : List (List ℕ)) → AreUses (IsToldInterface have) have names → AreToldUses have names
+  told_uses : (names : List (List ℕ)) → AreUses (IsConsistentInterface have) have names → AreConsistentUses have names
   told_uses [] h = tt
   told_uses (name ∷ names) h = (h.0, told_uses names h.1)
 
@@ -136,24 +136,24 @@ module _ (sources : List Source) (have : List Interface) (o : AreInOrder sources
   no_own place s at other =
       outer_foreign sources (new_of sources have o) have o.shown (comes have) s.name place s at refl (not_system s.name other) o.acyclic
 
-  behind_so : (place : ℕ) (s : Source) → slice_get sources place ≡ Some s → same_bytes s.name system ≡ false → IsToldScope have (outer_scope have s) → AreAtHome have (outer_scope have s).types
-      → (after : Table) → Declares s.name (outer_scope have s).types after → IsToldBut have s.name after
+  behind_so : (place : ℕ) (s : Source) → slice_get sources place ≡ Some s → same_bytes s.name system ≡ false → IsConsistentScope have (outer_scope have s) → AreAtHome have (outer_scope have s).types
+      → (after : Table) → Declares s.name (outer_scope have s).types after → IsConsistentWithOthers have s.name after
   behind_so place s at other scope home after d =
       let table = (outer_scope have s).types in
       declared_told have homes s.name table after scope.told home (record { paired = scope.complete.ordered.paired; types = scope.complete.closed.types })
       (is_with_declared s.name table scope.told.keyed scope.told.followed (no_own place s at other) after d)
 
-  unit_told : (place : ℕ) (s : Source) (i : Interface) → slice_get sources place ≡ Some s → same_bytes s.name system ≡ false → IsToldScope have (outer_scope have s) → AreAtHome have (outer_scope have s).types
-      → IsOf have s i → home_of have s.name ≡ Some i.types → IsToldInterface have i
+  unit_told : (place : ℕ) (s : Source) (i : Interface) → slice_get sources place ≡ Some s → same_bytes s.name system ≡ false → IsConsistentScope have (outer_scope have s) → AreAtHome have (outer_scope have s).types
+      → IsOf have s i → home_of have s.name ≡ Some i.types → IsConsistentInterface have i
   unit_told place s i at other scope home of is =
       let g = outer_scope have s in
       let w = of.shows.unit in
       let unit = with_nothing_else w in
       let named : w.name ≡ s.name = outline_name s.name s.says g s.tree w of.shows.holds in
       let closed = outline_closed s.name s.says g s.tree w scope.complete of.shows.holds in
-      let table : IsClosedTable w.types = record { paired = closed.ordered.paired; types = closed.types } in
+      let table : IsWellScopedTable w.types = record { paired = closed.ordered.paired; types = closed.types } in
       let behind = behind_so place s at other scope home w.types (declare s.name s.says g s.tree w of.shows.holds) in
-      let but : IsToldBut have w.name w.types = subst (λ (n : List ℕ). IsToldBut have n w.types) (sym named) behind in
+      let but : IsConsistentWithOthers have w.name w.types = subst (λ (n : List ℕ). IsConsistentWithOthers have n w.types) (sym named) behind in
       let there : home_of have w.name ≡ Some i.types = subst (λ (n : List ℕ). home_of have n ≡ Some i.types) (sym named) is in
       record {
         told = shown_told unit i of.shows.shows have homes but table there;
@@ -163,14 +163,14 @@ module _ (sources : List Source) (have : List Interface) (o : AreInOrder sources
         fits = shown_small unit i of.shows.shows closed.ordered.paired closed.ordered.defined closed.ordered.fits;
       }
 
-  over : (names : List (List ℕ)) → AreToldUses have names → (name : List ℕ) → IsToldScope have (resolved have name names)
+  over : (names : List (List ℕ)) → AreConsistentUses have names → (name : List ℕ) → IsConsistentScope have (resolved have name names)
   over names uses name = all_used_told have homes (first name) names (first_scope have homes name) uses
 
-  home_over : (names : List (List ℕ)) → AreToldUses have names → (name : List ℕ) → AreAtHome have (resolved have name names).types
+  home_over : (names : List (List ℕ)) → AreConsistentUses have names → (name : List ℕ) → AreAtHome have (resolved have name names).types
   home_over names uses name = uses_home have homes (first name) names (first_scope have homes name) (first_home have) uses
 
-  told_over : (place : ℕ) (s : Source) (i : Interface) → slice_get sources place ≡ Some s → interface_named have s.name ≡ Some i → AreUses (IsToldInterface have) have (names_of (outer_units s)) → IsOf have s i
-      → IsToldInterface have i
+  told_over : (place : ℕ) (s : Source) (i : Interface) → slice_get sources place ≡ Some s → interface_named have s.name ≡ Some i → AreUses (IsConsistentInterface have) have (names_of (outer_units s)) → IsOf have s i
+      → IsConsistentInterface have i
   told_over place s i at found uses of =
       let names = names_of (outer_units s) in
       let scope = over names (told_uses names uses) s.name in
@@ -183,15 +183,15 @@ module _ (sources : List Source) (have : List Interface) (o : AreInOrder sources
       ]
 
   -- what a used unit shows is told
-  pub each_told : (name : List ℕ) → IsToldUse have name
-  each_told name other i is = inherited sources (new_of sources have o) have o.shown (IsToldInterface have) told_over o.acyclic name other i is
+  pub each_told : (name : List ℕ) → IsConsistentUse have name
+  each_told name other i is = inherited sources (new_of sources have o) have o.shown (IsConsistentInterface have) told_over o.acyclic name other i is
 
-  pub all_told : (names : List (List ℕ)) → AreToldUses have names
+  pub all_told : (names : List (List ℕ)) → AreConsistentUses have names
   all_told [] = tt
   all_told (name ∷ names) = (each_told name, all_told names)
 
   -- so is each scope that uses such units, and its types are at home
-  pub scopes_told : (name : List ℕ) (names : List (List ℕ)) → IsToldScope have (resolved have name names)
+  pub scopes_told : (name : List ℕ) (names : List (List ℕ)) → IsConsistentScope have (resolved have name names)
   scopes_told name names = over names (all_told names) name
 
   pub scopes_home : (name : List ℕ) (names : List (List ℕ)) → AreAtHome have (resolved have name names).types
@@ -203,13 +203,13 @@ module _ (sources : List Source) (have : List Interface) (o : AreInOrder sources
 
   -- behind its interface part too the table of a unit tells of the types of others what these tell
   pub told_behind : (place : ℕ) (s : Source) → slice_get sources place ≡ Some s → same_bytes s.name system ≡ false → (after : Table) → Declares s.name (outer_scope have s).types after
-      → IsToldBut have s.name after
+      → IsConsistentWithOthers have s.name after
   told_behind place s at other after d =
       behind_so place s at other (scopes_told s.name (names_of (outer_units s))) (scopes_home s.name (names_of (outer_units s))) after d
 
   -- and of its own types what its interface tells
   pub told_within : (place : ℕ) (s : Source) (i : Interface) → slice_get sources place ≡ Some s → same_bytes s.name system ≡ false → interface_named have s.name ≡ Some i → (of : IsOf have s i)
-      → IsTold have of.shows.unit.types
+      → IsConsistent have of.shows.unit.types
   told_within place s i at other found of =
       let scope = scopes_told s.name (names_of (outer_units s)) in
       let g = outer_scope have s in
@@ -217,9 +217,9 @@ module _ (sources : List Source) (have : List Interface) (o : AreInOrder sources
       let unit = with_nothing_else w in
       let named : w.name ≡ s.name = outline_name s.name s.says g s.tree w of.shows.holds in
       let closed = outline_closed s.name s.says g s.tree w scope.complete of.shows.holds in
-      let table : IsClosedTable w.types = record { paired = closed.ordered.paired; types = closed.types } in
+      let table : IsWellScopedTable w.types = record { paired = closed.ordered.paired; types = closed.types } in
       let d = declare s.name s.says g s.tree w of.shows.holds in
-      let but : IsToldBut have w.name w.types = subst (λ (n : List ℕ). IsToldBut have n w.types) (sym named) (told_behind place s at other w.types d) in
+      let but : IsConsistentWithOthers have w.name w.types = subst (λ (n : List ℕ). IsConsistentWithOthers have n w.types) (sym named) (told_behind place s at other w.types d) in
       let home : home_of have w.name ≡ Some i.types = subst (λ (n : List ℕ). home_of have n ≡ Some i.types) (sym named) (own_home have s.name i other found) in
       let methods : HaveOwnMethods w.name w.types =
       subst (λ (n : List ℕ). HaveOwnMethods n w.types) (sym named) (own_methods s.name g.types scope.told.keyed scope.told.followed (no_own place s at other) w.types d) in

@@ -129,7 +129,7 @@ pub never_mismatched : NeverMismatched
 never_mismatched held name unit import (inl ungathered) = gather_not unit import ungathered.error ungathered.is
 never_mismatched held name unit import (inr untyped) = none_misfits held name untyped.texts untyped.sources untyped.gathers unit import untyped.why
 
--- what is free is want of memory, or interfaces that do not fit
+-- what is free is out of memory, or interfaces that do not fit
 memory_else : (result : Outcome) → IsFree result → ((unit import : List ℕ) → result ≡ Mismatch unit import → ⊥) → result ≡ outcome.NoMemory
 memory_else outcome.NoMemory free other = refl
 memory_else (outcome.Refused (refusal.VersionMismatch unit import)) free other = absurd (other unit import refl)

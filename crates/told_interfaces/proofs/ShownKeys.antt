@@ -15,10 +15,10 @@ use Rattle.unit_interface.specs.declared.interfaces.Interface.{Interface}
 use Rattle.unit_interface.specs.Merge.{key_of, keys_of, renumbered}
 use Rattle.unit_interface.specs.Exports.{is_in, ReachedWithin, new_ids, with_kept, kept, IsInterfaceOf}
 use Rattle.unit_interface.proofs.KeyLaws.{keys_with, key_at, key_place}
-use Rattle.closed_scopes.specs.Scopes.{IsClosedInterface}
+use Rattle.closed_scopes.specs.Scopes.{IsWellScopedInterface}
 use Rattle.interface_laws.specs.Agreement.{IsPaired}
 use Rattle.interface_laws.proofs.Growing.{adds}
-use Rattle.told_types.specs.Told.{Stands, IsTold, IsToldInterface}
+use Rattle.told_types.specs.Consistency.{Stands, IsConsistent, IsConsistentInterface}
 use Rattle.told_types.proofs.Kept.{with_own, kept_by}
 
 abbrev nothing_there : Table
@@ -89,7 +89,7 @@ nothing_shown unit i shows none =
     let r = (shows.exactly number low).0 met in
     nothing_reached unit.types.types r.steps number (subst (λ (items : List Item). ReachedWithin r.steps unit.types.types items number) none r.within)))
 
-nothing_told : (have : List Interface) → IsTold have nothing_there
+nothing_told : (have : List Interface) → IsConsistent have nothing_there
 nothing_told have = record {
   keyed = record { paired = refl; known = All-nil (λ (o : Origin). o.unit < 0); apart = λ one other key at there. absurd (no_key one key at) };
   alike = λ number place key home first one at stands is there f. absurd (no_key number key at);
@@ -97,11 +97,11 @@ nothing_told have = record {
   fronted = λ number place key home low high at is there f. absurd (no_key number _ at);
 }
 
-pub told_without : (have : List Interface) (unit : typed.Unit) (i : Interface) → IsInterfaceOf unit i → unit.items ≡ [] → IsClosedInterface i → IsToldInterface have i
+pub told_without : (have : List Interface) (unit : typed.Unit) (i : Interface) → IsInterfaceOf unit i → unit.items ≡ [] → IsWellScopedInterface i → IsConsistentInterface have i
 told_without have unit i shows none closed =
     let is = nothing_shown unit i shows none in
     record {
-      told = subst (λ (t : Table). IsTold have t) (sym is) (nothing_told have);
+      told = subst (λ (t : Table). IsConsistent have t) (sym is) (nothing_told have);
       at_home = λ number key at. absurd (no_key number key (ap (λ (t : Table). slice_get (keys_of t) number) (sym is) ∙ at));
       closed = closed;
       defined = subst (λ (t : Table). AllDefined [] t.types) (sym is) tt;

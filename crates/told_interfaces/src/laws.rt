@@ -3,8 +3,8 @@
 ghost use Rattle.told_interfaces.specs.Laws.{AreTold, NoneMisfits, NeverMismatched, OnlyMemory};
 
 /// Interfaces that sources of one program show fit one another, whichever of them a source uses and in whatever order; so no source is
-/// refused since they don't, and where sources are a program, nothing is told of in its place but want of memory. It does nothing.
-pub fn told_interface_laws()
+/// refused since they don't, and where sources are a program, nothing is told of in its place but out of memory. It does nothing.
+pub fn consistent_interface_laws()
     ensures told { AreTold }
     ensures fitting { NoneMisfits }
     ensures folders { NeverMismatched }

@@ -3,4 +3,4 @@
 
 mod laws;
 
-pub use laws::told_interface_laws;
+pub use laws::consistent_interface_laws;

@@ -10,7 +10,7 @@ use Rattle.unit_interface.specs.declared.keys.Key.{Key}
 use Rattle.unit_interface.specs.declared.interfaces.Interface.{Interface}
 use Rattle.unit_interface.specs.Merge.{keys_of, place_of_key, ids_in, is_new, merged}
 use Rattle.unit_interface.proofs.KeyLaws.{known_after, count_of, id-at, merged_so}
-use Rattle.told_types.specs.Told.{IsClosedTable, AreClosedHomes, IsTold, IsToldInterface}
+use Rattle.told_types.specs.Consistency.{IsWellScopedTable, AreWellScopedHomes, IsConsistent, IsConsistentInterface}
 use Rattle.told_types.specs.Laws.{IsKnownThere}
 use Rattle.told_types.proofs.Keys.{at_place, after_from, in_first}
 use Rattle.told_types.proofs.Known.{key_there, type_there, keys_long, known_so}
@@ -23,7 +23,7 @@ not_new a b e = ltb-true a b (by (nat_lt a b) e)
     by true f = refl
     by false f = cc
 
-module _ (have : List Interface) (homes : AreClosedHomes have) (table : Table) (i : Interface) (told : IsTold have table) (closed : IsClosedTable table) (own : IsToldInterface have i) where
+module _ (have : List Interface) (homes : AreWellScopedHomes have) (table : Table) (i : Interface) (told : IsConsistent have table) (closed : IsWellScopedTable table) (own : IsConsistentInterface have i) where
   abbrev other : Table
   other = i.types
 

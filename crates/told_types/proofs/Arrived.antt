@@ -15,8 +15,8 @@ use Rattle.unit_interface.proofs.KeyLaws.{AreApart, known_after, count_of, key_a
 use Rattle.unit_interface.proofs.KeptLaws.{slice_get-seam}
 use Rattle.unit_interface.proofs.MergeLaws.{merged-new, merged-old}
 use Rattle.closed_scopes.proofs.Merging.{Has, has}
-use Rattle.told_types.specs.Told.{AreAtHome}
-use Rattle.told_types.proofs.Keys.{place_at, after_front, after_from, At, id_lands}
+use Rattle.told_types.specs.Consistency.{AreAtHome}
+use Rattle.told_types.proofs.Keys.{place_at, after_prefix, after_from, At, id_lands}
 
 past_of : (a b : ℕ) → not (nat_lt a b) ≡ true → b ≤ a
 past_of a b e = grind arith
@@ -39,7 +39,7 @@ module _ (table other : Table) (keyed : IsKeyed table) (own : IsKeyed other) whe
   -- a key of the table stays at its place
   pub key_stays : (place : ℕ) (key : Key) → slice_get (keys_of table) place ≡ Some key → slice_get (keys_of both) place ≡ Some key
   key_stays place key at =
-      ap (λ (ks : List Key). slice_get ks place) merged_keys ∙ after_front (keys_of table) (keys_of other) place key at
+      ap (λ (ks : List Key). slice_get ks place) merged_keys ∙ after_prefix (keys_of table) (keys_of other) place key at
 
   -- one of the other table stands at its id
   pub key_lands : (number : ℕ) (key : Key) (d : TypeId) → slice_get (keys_of other) number ≡ Some key
@@ -88,7 +88,7 @@ module _ (table other : Table) (keyed : IsKeyed table) (own : IsKeyed other) whe
       let known : List Key = known_after (keys_of table) (take number (keys_of other)) in
       let self : TypeId = record { 0 = number } in
       let id : (get_or (ids_in table other) number self).0 ≡ place_of_key known key = id-at (keys_of table) (keys_of other) number key self at in
-      let in_known : slice_get known place ≡ Some key = after_front (keys_of table) (take number (keys_of other)) place key there in
+      let in_known : slice_get known place ≡ Some key = after_prefix (keys_of table) (take number (keys_of other)) place key there in
       let apart : AreApart known = subst AreApart so.keys so.keyed.apart in
       let same : place_of_key known key ≡ place = place_at known key place apart in_known in
       let within : place < length known = slice_get_within known place key in_known in

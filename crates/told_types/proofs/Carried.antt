@@ -11,7 +11,7 @@ use Rattle.unit_interface.specs.Merge.{keys_of, place_of_key, new_id, renumbered
 use Rattle.unit_interface.specs.Exports.{in_type}
 use Rattle.unit_interface.proofs.KeyLaws.{AreApart}
 use Rattle.closed_constants.specs.Bounds.{AreBelow}
-use Rattle.told_types.specs.Told.{between, IsClosedTable}
+use Rattle.told_types.specs.Consistency.{between, IsWellScopedTable}
 use Rattle.told_types.proofs.Twice.{AllOf, twice_type}
 use Rattle.told_types.proofs.Keys.{place_at, at_place}
 use Rattle.told_types.proofs.Named.{all_below, all_two, all_three, Low, Renamed, low_type, named_type}
@@ -37,7 +37,7 @@ enumeration_was ids unit low high (ObjectOf parent dynamic fields methods) e = c
 enumeration_was ids unit low high (Procedural header) e = cc
 
 -- Keys of one table stand in another under new ids, those of some types at least.
-module _ (home from to : Table) (ids : List TypeId) (Q : ℕ → Type 0) (closed : IsClosedTable home) (paired : length from.origins ≡ length from.types) (apart : AreApart (keys_of to))
+module _ (home from to : Table) (ids : List TypeId) (Q : ℕ → Type 0) (closed : IsWellScopedTable home) (paired : length from.origins ≡ length from.types) (apart : AreApart (keys_of to))
     (carries : (key : Key) (ty : TypeId) → Q ty.0 → slice_get (keys_of from) ty.0 ≡ Some key → slice_get (keys_of to) (new_id ids ty).0 ≡ Some key) where
   abbrev IsCarried : ℕ → Type 0
   IsCarried x = (x < length home.types) × Low (length from.types) (between home from) x × Renamed Q (between home from) x
@@ -63,7 +63,7 @@ module _ (home from to : Table) (ids : List TypeId) (Q : ℕ → Type 0) (closed
       (all_below (length home.types) (in_type first) here) (low_type (length from.types) (between home from) q first there) (named_type Q (between home from) q first all))
 
 -- keys that stay at their places
-module _ (home from to : Table) (closed : IsClosedTable home) (paired : length from.origins ≡ length from.types) (apart : AreApart (keys_of to))
+module _ (home from to : Table) (closed : IsWellScopedTable home) (paired : length from.origins ≡ length from.types) (apart : AreApart (keys_of to))
     (stays : (number : ℕ) (key : Key) → slice_get (keys_of from) number ≡ Some key → slice_get (keys_of to) number ≡ Some key) where
   abbrev none : List TypeId
   none = []

@@ -11,7 +11,7 @@ use Rattle.unit_interface.specs.declared.interfaces.Interface.{Interface}
 use Rattle.unit_interface.specs.Merge.{keys_of, renumbered}
 use Rattle.unit_interface.specs.Misfits.{is_enumeration}
 use Rattle.unit_interface.proofs.KeyLaws.{keyed_first}
-use Rattle.told_types.specs.Told.{home_of, between, AreAtHome, AreAlike, next_key, AreFronted, IsTold}
+use Rattle.told_types.specs.Consistency.{home_of, between, AreAtHome, AreAlike, next_key, AreFronted, IsConsistent}
 use Rattle.told_types.proofs.Arrived.{some_is}
 
 -- each element of a list
@@ -77,7 +77,7 @@ fronted_first have number place key home low high at is there f =
     let h : type_table ≡ home = home_is have key.unit home (unit_at number (next_key key) at) is in
     absurd (no_enumeration place low high (subst (λ (t : Table). slice_get t.types place ≡ Some (type.Ordinal host.Enumeration low high)) (sym h) f))
 
-pub first_told : (have : List Interface) → IsTold have type_table
+pub first_told : (have : List Interface) → IsConsistent have type_table
 first_told have = record {
   keyed = keyed_first;
   alike = alike_first have;

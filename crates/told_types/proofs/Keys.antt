@@ -69,9 +69,9 @@ with_front known last place key at = by (is_some (position (same_key last) known
     by false = slice_get-push known last place key at
 
 -- those that were known stay
-pub after_front : (known keys : List Key) (place : ℕ) (key : Key) → slice_get known place ≡ Some key → slice_get (known_after known keys) place ≡ Some key
-after_front known [] place key at = at
-after_front known (one ∷ keys) place key at = after_front (with_key known one) keys place key (with_front known one place key at)
+pub after_prefix : (known keys : List Key) (place : ℕ) (key : Key) → slice_get known place ≡ Some key → slice_get (known_after known keys) place ≡ Some key
+after_prefix known [] place key at = at
+after_prefix known (one ∷ keys) place key at = after_prefix (with_key known one) keys place key (with_front known one place key at)
 
 -- a key stands at a place of a list
 pub record At (keys : List Key) (key : Key) : Type 0 where
@@ -117,7 +117,7 @@ id_lands known [] (suc number) key d at = cc
 id_lands known (one ∷ keys) zero key d at =
     let same : one ≡ key = cc in
     subst (λ (k : Key). slice_get (known_after (with_key known one) keys) (place_of_key known one) ≡ Some k) same
-    (after_front (with_key known one) keys (place_of_key known one) one (lands known one))
+    (after_prefix (with_key known one) keys (place_of_key known one) one (lands known one))
 id_lands known (one ∷ keys) (suc number) key d at = id_lands (with_key known one) keys number key d at
 
 -- ---- the first keys of a list

@@ -15,10 +15,10 @@ use Rattle.unit_interface.specs.Keyed.{IsKeyed}
 use Rattle.unit_interface.proofs.KeyLaws.{AreApart, known_after, id-at, count_of, merged_so}
 use Rattle.closed_constants.specs.Bounds.{AreBelow}
 use Rattle.closed_constants.proofs.Below.{below_first}
-use Rattle.told_types.specs.Told.{between, Stands, IsTold, IsToldInterface}
+use Rattle.told_types.specs.Consistency.{between, Stands, IsConsistent, IsConsistentInterface}
 use Rattle.told_types.proofs.Twice.{twice_type}
-use Rattle.told_types.specs.Told.{IsClosedTable, AreClosedHomes}
-use Rattle.told_types.proofs.Keys.{place_at, at_place, after_front}
+use Rattle.told_types.specs.Consistency.{IsWellScopedTable, AreWellScopedHomes}
+use Rattle.told_types.proofs.Keys.{place_at, at_place, after_prefix}
 use Rattle.told_types.proofs.Named.{all_below, all_three, Low, low_type}
 
 -- ---- a table with as many keys as types
@@ -39,7 +39,7 @@ type_there table number key paired at =
     (get_or table.types number d, slice_get-get_or table.types number d low)
 
 -- a type names types of its table
-pub own_named : (table : Table) (number : ℕ) (one : TypeDef) → IsClosedTable table → slice_get table.types number ≡ Some one → AreBelow (length table.types) (in_type one)
+pub own_named : (table : Table) (number : ℕ) (one : TypeDef) → IsWellScopedTable table → slice_get table.types number ≡ Some one → AreBelow (length table.types) (in_type one)
 own_named table number one closed at =
     below_first (length table.types) (in_type one) (behind number one)
     (subst (λ (o : Option TypeDef). AreBelow (length table.types) (with_type number o)) at (closed.types number))
@@ -57,7 +57,7 @@ between_at from to number key d at =
 pub same_id : (one other : TypeId) → one.0 ≡ other.0 → one ≡ other
 same_id one other e = ap (λ (n : ℕ). (let ty : TypeId = record { 0 = n } in ty)) e
 
-module _ (table other home : Table) (keyed : IsKeyed table) (own : IsKeyed other) (closed : IsClosedTable home) where
+module _ (table other home : Table) (keyed : IsKeyed table) (own : IsKeyed other) (closed : IsWellScopedTable home) where
   -- a number of the home that has a type in both tables
   abbrev pub InBoth : ℕ → Type 0
   InBoth x = (x < length home.types) × Low (length other.types) (between home other) x × Low (length table.types) (between home table) x
@@ -80,7 +80,7 @@ module _ (table other home : Table) (keyed : IsKeyed table) (own : IsKeyed other
       let known : List Key = known_after (keys_of table) (take q.0 (keys_of other)) in
       let so = merged_so table other keyed q.0 (omega (arith, q_low)) in
       let apart : AreApart known = subst AreApart so.keys so.keyed.apart in
-      let there : slice_get known t.0 ≡ Some key = after_front (keys_of table) (take q.0 (keys_of other)) t.0 key t_at in
+      let there : slice_get known t.0 ≡ Some key = after_prefix (keys_of table) (take q.0 (keys_of other)) t.0 key t_at in
       let id : (get_or (ids_in table other) q.0 q).0 ≡ place_of_key known key = id-at (keys_of table) (keys_of other) q.0 key q q_at in
       same_id (new_id (ids_in table other) q) t (id ∙ place_at known key t.0 apart there)
 
@@ -104,7 +104,7 @@ pub record IsFirst (home : Table) (key : Key) : Type 0 where
   pub first : TypeDef
   pub stands : slice_get home.types place ≡ Some first
 
-pub first_of : (home : Table) (key : Key) → IsClosedTable home → Stands (keys_of home) key → IsFirst home key
+pub first_of : (home : Table) (key : Key) → IsWellScopedTable home → Stands (keys_of home) key → IsFirst home key
 first_of home key closed s =
     let low : s.place < length home.types = omega (arith, slice_get_within (keys_of home) s.place key s.at, keys_long home closed.paired) in
     let d : TypeDef = PointerTo (record { 0 = 0 }) in
@@ -115,7 +115,7 @@ pub record IsKnownSo (ids : List TypeId) (old one : TypeDef) : Type 0 where
   pub unit : ℕ
   pub is : old ≡ renumbered ids unit one
 
-pub known_so : (have : List Interface) → AreClosedHomes have → (table : Table) (i : Interface) → IsTold have table → IsClosedTable table → IsToldInterface have i
+pub known_so : (have : List Interface) → AreWellScopedHomes have → (table : Table) (i : Interface) → IsConsistent have table → IsWellScopedTable table → IsConsistentInterface have i
     → (number place : ℕ) (key : Key) (one old : TypeDef) → slice_get (keys_of i.types) number ≡ Some key → slice_get i.types.types number ≡ Some one
     → slice_get (keys_of table) place ≡ Some key → slice_get table.types place ≡ Some old → IsKnownSo (ids_in table i.types) old one
 known_so have homes table i told closed own number place key one old at stands there found =
@@ -124,7 +124,7 @@ known_so have homes table i told closed own number place key one old at stands t
     let f = first_of h.home key at_home h.stands in
     let here = own.told.alike number f.place key h.home f.first one at stands h.is f.at f.stands in
     let known = told.alike place f.place key h.home f.first old there found h.is f.at f.stands in
-    let other : IsClosedTable i.types = record { paired = own.closed.paired; types = own.closed.types } in
+    let other : IsWellScopedTable i.types = record { paired = own.closed.paired; types = own.closed.types } in
     let meets = types_meet table i.types h.home told.keyed own.told.keyed at_home known.unit here.unit known.unit f.first
     (own_named h.home f.place f.first at_home f.stands)
     (subst (λ (t : TypeDef). AreBelow (length i.types.types) (in_type t)) here.is (own_named i.types number one other stands))

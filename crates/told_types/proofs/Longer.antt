@@ -11,13 +11,13 @@ use Rattle.unit_interface.specs.Merge.{keys_of, renumbered}
 use Rattle.unit_interface.specs.Exports.{in_type}
 use Rattle.unit_interface.specs.Keyed.{IsKeyed}
 use Rattle.closed_constants.specs.Bounds.{AreBelow}
-use Rattle.told_types.specs.Told.{between, AreAtHome, next_key, AreFollowed, IsOther, AreOthersAlike, AreOthersFronted, IsClosedTable, AreClosedHomes, IsTold, IsToldBut}
+use Rattle.told_types.specs.Consistency.{between, AreAtHome, next_key, AreFollowed, IsOther, AreOthersAlike, AreOthersFronted, IsWellScopedTable, AreWellScopedHomes, IsConsistent, IsConsistentWithOthers}
 use Rattle.told_types.specs.Laws.{IsWithDeclared}
 use Rattle.told_types.proofs.Known.{keys_long, own_named}
 use Rattle.told_types.proofs.Carried.{stays_same}
 
 -- a told table, of whatever unit
-pub told_all : (have : List Interface) (name : List ℕ) (table : Table) → IsTold have table → AreAtHome have table → IsToldBut have name table
+pub told_all : (have : List Interface) (name : List ℕ) (table : Table) → IsConsistent have table → AreAtHome have table → IsConsistentWithOthers have name table
 told_all have name table h home = record {
   keyed = h.keyed;
   alike = λ number place key from first one other at stands is there f. h.alike number place key from first one at stands is there f;
@@ -32,7 +32,7 @@ in_parts [] ys number x at = inr (number, at)
 in_parts (y ∷ xs) ys zero x at = inl at
 in_parts (y ∷ xs) ys (suc number) x at = in_parts xs ys number x at
 
-module _ (have : List Interface) (homes : AreClosedHomes have) (name : List ℕ) (table longer : Table) (told : IsTold have table) (home : AreAtHome have table) (closed : IsClosedTable table)
+module _ (have : List Interface) (homes : AreWellScopedHomes have) (name : List ℕ) (table longer : Table) (told : IsConsistent have table) (home : AreAtHome have table) (closed : IsWellScopedTable table)
     (keyed : IsKeyed longer) (followed : AreFollowed longer) (types : List TypeDef) (more_types : longer.types ≡ table.types ++ types) (keys : List Key) (more_keys : keys_of longer ≡ keys_of table ++ keys)
     (own : (number : ℕ) (key : Key) → slice_get keys number ≡ Some key → key.unit ≡ name) where
   stays : (number : ℕ) (key : Key) → slice_get (keys_of table) number ≡ Some key → slice_get (keys_of longer) number ≡ Some key
@@ -66,7 +66,7 @@ module _ (have : List Interface) (homes : AreClosedHomes have) (name : List ℕ)
       let s = told.fronted number place key from low high (other_in number (next_key key) other at) is there f in
       record { place = s.place; at = stays s.place key s.at }
 
-  pub told_longer : IsToldBut have name longer
+  pub told_longer : IsConsistentWithOthers have name longer
   told_longer = record {
     keyed = keyed;
     alike = alike;
@@ -75,7 +75,7 @@ module _ (have : List Interface) (homes : AreClosedHomes have) (name : List ℕ)
     at_home = λ number key other at. home number key (other_in number key other at);
   }
 
-pub declared_told : (have : List Interface) → AreClosedHomes have → (name : List ℕ) (table longer : Table) → IsTold have table → AreAtHome have table → IsClosedTable table
-    → IsWithDeclared name table longer → IsToldBut have name longer
+pub declared_told : (have : List Interface) → AreWellScopedHomes have → (name : List ℕ) (table longer : Table) → IsConsistent have table → AreAtHome have table → IsWellScopedTable table
+    → IsWithDeclared name table longer → IsConsistentWithOthers have name longer
 declared_told have homes name table longer told home closed h =
     told_longer have homes name table longer told home closed h.keyed h.followed h.types h.more_types h.keys h.more_keys h.own

@@ -15,7 +15,7 @@ use Rattle.unit_interface.specs.Keyed.{IsKeyed}
 use Rattle.unit_interface.proofs.KeyLaws.{key_itself, none_found, known_after, after-push, id-at}
 use Rattle.unit_interface.proofs.MergeLaws.{take-next}
 use Rattle.closed_constants.specs.Bounds.{AreBelow}
-use Rattle.told_types.specs.Told.{between, Stands, AreAlike, next_key, AreFollowed, AreFronted, IsClosedTable, AreClosedHomes, IsTold, IsToldInterface}
+use Rattle.told_types.specs.Consistency.{between, Stands, AreAlike, next_key, AreFollowed, AreFronted, IsWellScopedTable, AreWellScopedHomes, IsConsistent, IsConsistentInterface}
 use Rattle.told_types.proofs.Keys.{found_key, not_found, after_from, in_first}
 use Rattle.told_types.proofs.Named.{all_any}
 use Rattle.told_types.proofs.Known.{keys_long, key_there, type_there, own_named, first_of, known_so}
@@ -70,7 +70,7 @@ module _ (table other : Table) (keyed : IsKeyed table) (own : IsKeyed other) (nu
 
 -- ---- a told table and a told interface
 
-module _ (have : List Interface) (homes : AreClosedHomes have) (table : Table) (i : Interface) (told : IsTold have table) (closed : IsClosedTable table) (own : IsToldInterface have i) where
+module _ (have : List Interface) (homes : AreWellScopedHomes have) (table : Table) (i : Interface) (told : IsConsistent have table) (closed : IsWellScopedTable table) (own : IsConsistentInterface have i) where
   abbrev other : Table
   other = i.types
 
@@ -119,7 +119,7 @@ module _ (have : List Interface) (homes : AreClosedHomes have) (table : Table) (
   keyed : IsKeyed both
   keyed = merged_keyed table other told.keyed own.told.keyed
 
-  other_closed : IsClosedTable other
+  other_closed : IsWellScopedTable other
   other_closed = record { paired = own.closed.paired; types = own.closed.types }
 
   alike_both : AreAlike have both
@@ -175,5 +175,5 @@ module _ (have : List Interface) (homes : AreClosedHomes have) (table : Table) (
             record { place = (get_or (ids_in table other) s.place d).0; at = key_lands table other told.keyed own.told.keyed s.place key d s.at }
       ]
 
-  pub merged_told : IsTold have both
+  pub merged_told : IsConsistent have both
   merged_told = record { keyed = keyed; alike = alike_both; followed = followed_both; fronted = fronted_both }

@@ -20,7 +20,7 @@ use Rattle.unit_interface.proofs.ReachLaws.{goes_along, goes_in_front, is_front}
 use Rattle.unit_interface.proofs.KeyLaws.{same_itself}
 use Rattle.unit_interface.proofs.KeptLaws.{get_or-new_ids}
 use Rattle.closed_constants.specs.Bounds.{AreBelow}
-use Rattle.told_types.specs.Told.{home_of, between, Stands, AreAtHome, AreAlike, next_key, AreFollowed, AreFronted, IsClosedTable, AreClosedHomes, IsTold, IsToldBut}
+use Rattle.told_types.specs.Consistency.{home_of, between, Stands, AreAtHome, AreAlike, next_key, AreFollowed, AreFronted, IsWellScopedTable, AreWellScopedHomes, IsConsistent, IsConsistentWithOthers}
 use Rattle.told_types.proofs.Twice.{AllOf, twice_type}
 use Rattle.told_types.proofs.Keys.{place_at}
 use Rattle.told_types.proofs.Named.{all_in}
@@ -46,7 +46,7 @@ below_of n (y ∷ ys) x h e =
     ]
 
 -- the table of a unit, and which of its types are shown
-module _ (have : List Interface) (homes : AreClosedHomes have) (unit : typed.Unit) (but : IsToldBut have unit.name unit.types) (closed : IsClosedTable unit.types) (reached : List ℕ)
+module _ (have : List Interface) (homes : AreWellScopedHomes have) (unit : typed.Unit) (but : IsConsistentWithOthers have unit.name unit.types) (closed : IsWellScopedTable unit.types) (reached : List ℕ)
     (goes : (number to : ℕ) (one : TypeDef) → is_in reached number ≡ true → slice_get unit.types.types number ≡ Some one → is_in (goes_with unit.types.types number (Some one)) to ≡ true
     → to < length unit.types.types → is_in reached to ≡ true)
     (home_is : home_of have unit.name ≡ Some (kept unit.types reached (new_ids reached (length unit.types.types)) (length unit.types.types))) where
@@ -156,7 +156,7 @@ module _ (have : List Interface) (homes : AreClosedHomes have) (unit : typed.Uni
             record { place = kept_before reached s.place; at = all.there s.place key inside met s.at }
       ]
 
-  pub kept_told : IsTold have table
+  pub kept_told : IsConsistent have table
   kept_told = record { keyed = all.keyed; alike = alike_shown; followed = followed_shown; fronted = fronted_shown }
 
   pub kept_home : AreAtHome have table
@@ -200,13 +200,13 @@ module _ (unit : typed.Unit) (i : Interface) (shows : IsInterfaceOf unit i) wher
       let f = k.from number key one.0 there one.1 in
       record { place = f.number; at = f.key_at }
 
-  module _ (have : List Interface) (homes : AreClosedHomes have) (but : IsToldBut have unit.name unit.types) (closed : IsClosedTable unit.types)
+  module _ (have : List Interface) (homes : AreWellScopedHomes have) (but : IsConsistentWithOthers have unit.name unit.types) (closed : IsWellScopedTable unit.types)
       (home_is : home_of have unit.name ≡ Some i.types) where
     home_too : home_of have unit.name ≡ Some (kept unit.types shows.reached (new_ids shows.reached (length unit.types.types)) (length unit.types.types))
     home_too = home_is ∙ ap (λ (t : Table). Some t) types_are
 
-    pub shown_told : IsTold have i.types
-    shown_told = subst (IsTold have) (sym types_are) (kept_told have homes unit but closed shows.reached goes_shown home_too)
+    pub shown_told : IsConsistent have i.types
+    shown_told = subst (IsConsistent have) (sym types_are) (kept_told have homes unit but closed shows.reached goes_shown home_too)
 
     pub shown_home : AreAtHome have i.types
     shown_home = subst (AreAtHome have) (sym types_are) (kept_home have homes unit but closed shows.reached goes_shown home_too)

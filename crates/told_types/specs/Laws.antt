@@ -14,7 +14,7 @@ use Rattle.unit_interface.specs.declared.interfaces.Interface.{Interface}
 use Rattle.unit_interface.specs.Merge.{keys_of, ids_in, renumbered, is_new, merged, with_types}
 use Rattle.unit_interface.specs.Keyed.{IsKeyed}
 use Rattle.unit_interface.specs.Exports.{IsInterfaceOf}
-use Rattle.told_types.specs.Told.{home_of, AreAtHome, AreFollowed, IsClosedTable, AreClosedHomes, IsTold, IsToldInterface, IsToldBut}
+use Rattle.told_types.specs.Consistency.{home_of, AreAtHome, AreFollowed, IsWellScopedTable, AreWellScopedHomes, IsConsistent, IsConsistentInterface, IsConsistentWithOthers}
 
 -- a type stands in a list of types under an id, with the new ids of what it names
 pub record IsKnownThere (ids : List TypeId) (types : List TypeDef) (id : TypeId) (one : TypeDef) : Type 0 where
@@ -33,27 +33,27 @@ pub record IsWithDeclared (name : List ℕ) (table longer : Table) : Type 0 wher
 
 pub record AreToldOn : Type 0 where
   -- the table that every source begins with
-  pub first : (have : List Interface) → IsTold have type_table
+  pub first : (have : List Interface) → IsConsistent have type_table
   pub first_home : (have : List Interface) → AreAtHome have type_table
   -- with the types of an interface
-  pub brought : (have : List Interface) → AreClosedHomes have → (table : Table) (i : Interface) → IsTold have table → IsClosedTable table → IsToldInterface have i
-      → IsTold have (with_types table i.types)
+  pub brought : (have : List Interface) → AreWellScopedHomes have → (table : Table) (i : Interface) → IsConsistent have table → IsWellScopedTable table → IsConsistentInterface have i
+      → IsConsistent have (with_types table i.types)
   pub brought_home : (have : List Interface) (table other : Table) → IsKeyed table → IsKeyed other → AreAtHome have table → AreAtHome have other → AreAtHome have (with_types table other)
   -- a type of the interface that isn't new when it comes in is there already, the same under new ids
-  pub known : (have : List Interface) → AreClosedHomes have → (table : Table) (i : Interface) → IsTold have table → IsClosedTable table → IsToldInterface have i
+  pub known : (have : List Interface) → AreWellScopedHomes have → (table : Table) (i : Interface) → IsConsistent have table → IsWellScopedTable table → IsConsistentInterface have i
       → (number : ℕ) (one : TypeDef) (d : TypeId) → slice_get i.types.types number ≡ Some one → is_new (ids_in table i.types) (merged i.types (ids_in table i.types) table number) number ≡ false
       → IsKnownThere (ids_in table i.types) (merged i.types (ids_in table i.types) table number).types (get_or (ids_in table i.types) number d) one
   -- and the set behind an enumeration gets the next id
-  pub beside : (have : List Interface) → AreClosedHomes have → (table : Table) (i : Interface) → IsTold have table → IsClosedTable table → IsToldInterface have i
+  pub beside : (have : List Interface) → AreWellScopedHomes have → (table : Table) (i : Interface) → IsConsistent have table → IsWellScopedTable table → IsConsistentInterface have i
       → (number : ℕ) (low high : ℤ) (d e : TypeId) → slice_get i.types.types number ≡ Some (type.Ordinal host.Enumeration low high)
       → (get_or (ids_in table i.types) (number + 1) e).0 ≡ (get_or (ids_in table i.types) number d).0 + 1
   -- with types that a unit declares
-  pub declared : (have : List Interface) → AreClosedHomes have → (name : List ℕ) (table longer : Table) → IsTold have table → AreAtHome have table → IsClosedTable table
-      → IsWithDeclared name table longer → IsToldBut have name longer
+  pub declared : (have : List Interface) → AreWellScopedHomes have → (name : List ℕ) (table longer : Table) → IsConsistent have table → AreAtHome have table → IsWellScopedTable table
+      → IsWithDeclared name table longer → IsConsistentWithOthers have name longer
   -- what a unit shows of its table
-  pub shown : (have : List Interface) → AreClosedHomes have → (unit : typed.Unit) (i : Interface) → IsToldBut have unit.name unit.types → IsClosedTable unit.types → IsInterfaceOf unit i
-      → home_of have unit.name ≡ Some i.types → IsTold have i.types
-  pub shown_home : (have : List Interface) → AreClosedHomes have → (unit : typed.Unit) (i : Interface) → IsToldBut have unit.name unit.types → IsClosedTable unit.types → IsInterfaceOf unit i
+  pub shown : (have : List Interface) → AreWellScopedHomes have → (unit : typed.Unit) (i : Interface) → IsConsistentWithOthers have unit.name unit.types → IsWellScopedTable unit.types → IsInterfaceOf unit i
+      → home_of have unit.name ≡ Some i.types → IsConsistent have i.types
+  pub shown_home : (have : List Interface) → AreWellScopedHomes have → (unit : typed.Unit) (i : Interface) → IsConsistentWithOthers have unit.name unit.types → IsWellScopedTable unit.types → IsInterfaceOf unit i
       → home_of have unit.name ≡ Some i.types → AreAtHome have i.types
   -- its types stand behind their parts, and are not too large
   pub shown_defined : (unit : typed.Unit) (i : Interface) → length unit.types.origins ≡ length unit.types.types → AllDefined [] unit.types.types

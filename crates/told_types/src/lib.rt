@@ -3,4 +3,4 @@
 
 mod laws;
 
-pub use laws::told_laws;
+pub use laws::consistency_laws;

@@ -30,7 +30,7 @@ module _ (j : Judgement Whole) (m : Lawful j) (unit : typed.Unit) (is : j.run �
       let P : Whole → Type 0 = λ one. Shows one interface in
       of_shows unit interface (subst P (sym (complete_answer view_unit j m (Ok unit) is outline holds)) shows)
 
--- where an outline is refused, there is none, but for want of memory
+-- where an outline is refused, there is none, unless memory runs out
 pub refused_complete : (j : Judgement Whole) → Lawful j → (refused : Refusal) → FailsAs refused j.run → (outline : Whole) → j.holds outline → (interface : Interface)
     → IsAnswered (λ (one : Interface). one) interface (Err (error_for refused))
 refused_complete j m refusal.NoMemory fails outline holds interface = tt

@@ -89,7 +89,7 @@ pub fn check(
 ) -> Result<Unit, CheckError>
     // Every rule holds in the source, and this is its unit.
     ensures typed { IfOk result (λ unit. IsTypedAs name.now says.now scope.now have.now tree.now (view_unit unit)) }
-    // A source with a unit is given it, but for want of memory.
+    // A source with a unit is given it, unless memory runs out.
     ensures complete { (unit : Whole) → IsTypedAs name.now says.now scope.now have.now tree.now unit → IsAnswered view_unit unit result }
     // The unit has the name of its file.
     ensures named { IfOk result (λ unit. unit.name ≡ name.now) }

@@ -94,7 +94,7 @@ pub fn check_interface(
 ) -> Result<Interface, CheckError>
     // Every rule holds in the interface part, and this is what it shows.
     ensures typed { IfOk result (λ interface. IsShownAs name.now says.now scope.now tree.now interface) }
-    // An interface part that shows something is answered by that, but for want of memory.
+    // An interface part that shows something is answered by that, unless memory runs out.
     ensures complete { (interface : Interface) → IsShownAs name.now says.now scope.now tree.now interface → IsAnswered (λ one. one) interface result }
     // The interface has the name of its file.
     ensures named { IfOk result (λ interface. interface.name ≡ name.now) }

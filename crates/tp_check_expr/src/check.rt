@@ -38,7 +38,7 @@ pub fn judged_expression(alloc: Global, tree: &Expression, scope: &Scope) -> Res
 pub fn check_expr(alloc: Global, tree: &Expression, scope: &mut Scope) -> Result<Expr, CheckError>
     // Every rule holds in the expression, and this is its node.
     ensures typed { IfOk result (λ e. IsTypedAs scope.old (view_expression tree.now) (view_expr e)) }
-    // An expression with a node is given it, but for want of memory.
+    // An expression with a node is given it, unless memory runs out.
     ensures complete { (e : TypedExpression) → IsTypedAs scope.old (view_expression tree.now) e → IsAnswered view_expr e result }
     // What is told of fails there.
     ensures fails { IfErr result (λ error. Tells (FailsAt scope.old (view_expression tree.now)) error) }

@@ -29,7 +29,7 @@ fn answered(found: Result<Stmt, Refusal>) -> Result<Stmt, CheckError>
 pub fn check_stmt(alloc: Global, tree: &Statement, scope: &mut Scope) -> Result<Stmt, CheckError>
     // Every rule holds in the statement, and this is its node.
     ensures typed { IfOk result (λ s. IsStatedAs scope.old (view_statement tree.now) (view_stmt s)) }
-    // A statement with a node is given it, but for want of memory.
+    // A statement with a node is given it, unless memory runs out.
     ensures complete { (s : TypedStatement) → IsStatedAs scope.old (view_statement tree.now) s → IsAnswered view_stmt s result }
     // What is told of fails there.
     ensures fails { IfErr result (λ error. Tells (FailsAt scope.old (view_statement tree.now)) error) }

@@ -18,7 +18,7 @@ use Rattle.tp_lexer.proofs.Positive.{constant_positive}
 use Rattle.tp_lexer.proofs.Longest.{IsBest, blank_best, word_best, decimal_best, real_best, hexadecimal_best}
 use Rattle.tp_lexer.proofs.LongestConstants.{constant_best, open_constant_best}
 use Rattle.tp_lexer.proofs.LongestComments.{read_comments, skipped_comments, comment_best, open_comment_best, symbol_best}
-use Rattle.tp_lexer.proofs.Taken.{IsFront, IsSound, sound_by, word_sound, number_sound, hexadecimal_sound}
+use Rattle.tp_lexer.proofs.Taken.{IsPrefix, IsSound, sound_by, word_sound, number_sound, hexadecimal_sound}
 use Rattle.tp_lexer.proofs.TakenConstants.{constant_sound}
 use Rattle.tp_lexer.proofs.TakenComments.{brace_sound, star_sound, symbol_sound}
 
@@ -55,25 +55,25 @@ shape_sound c cs =
     (λ _. sound_by (IsSound bytes) (opens_star bytes) (star_extent bytes) (symbol_extent bytes) (λ is. star_front c cs is) (λ _. symbol_sound c cs)))))))
 
 -- the same for either text
-abbrev IsFrontOf : Bool → Shape → List ℕ → Type 0
-IsFrontOf is_live s.Other spelling = length spelling ≡ 1
-IsFrontOf is_live shape spelling = HasShape is_live shape spelling
+abbrev IsPrefixOf : Bool → Shape → List ℕ → Type 0
+IsPrefixOf is_live s.Other spelling = length spelling ≡ 1
+IsPrefixOf is_live shape spelling = HasShape is_live shape spelling
 
-read_front : (shape : Shape) (spelling : List ℕ) → IsFront shape spelling → IsFrontOf true shape spelling
-read_front shape spelling front = front
+read_prefix : (shape : Shape) (spelling : List ℕ) → IsPrefix shape spelling → IsPrefixOf true shape spelling
+read_prefix shape spelling front = front
 
-comment_front_by : (b : Bool) (m n : ℕ) (bytes : List ℕ) → IsSound bytes (cond b (extent s.Comment m) (extent s.OpenComment n)) → IsFrontOf false (cond b (extent s.Comment m) (extent s.OpenComment n)).shape (take (cond b (extent s.Comment m) (extent s.OpenComment n)).length bytes)
+comment_front_by : (b : Bool) (m n : ℕ) (bytes : List ℕ) → IsSound bytes (cond b (extent s.Comment m) (extent s.OpenComment n)) → IsPrefixOf false (cond b (extent s.Comment m) (extent s.OpenComment n)).shape (take (cond b (extent s.Comment m) (extent s.OpenComment n)).length bytes)
 comment_front_by true m n bytes front = front
 comment_front_by false m n bytes front = front
 
-comment_front : (bracket body : ℕ) (bytes : List ℕ) → IsSound bytes (comment_extent bracket body bytes) → IsFrontOf false (comment_extent bracket body bytes).shape (take (comment_extent bracket body bytes).length bytes)
+comment_front : (bracket body : ℕ) (bytes : List ℕ) → IsSound bytes (comment_extent bracket body bytes) → IsPrefixOf false (comment_extent bracket body bytes).shape (take (comment_extent bracket body bytes).length bytes)
 comment_front bracket body bytes front = comment_front_by (ltb (bracket + body) (length bytes)) (bracket + body + bracket) (length bytes) bytes front
 
-skipped_sound : (c : ℕ) (cs : List ℕ) → IsFrontOf false (passed_at (c ∷ cs)).shape (take (passed_at (c ∷ cs)).length (c ∷ cs))
+skipped_sound : (c : ℕ) (cs : List ℕ) → IsPrefixOf false (passed_at (c ∷ cs)).shape (take (passed_at (c ∷ cs)).length (c ∷ cs))
 skipped_sound c cs =
     let bytes : List ℕ = c ∷ cs in
     let star = cond (opens_star bytes) (star_extent bytes) (extent s.Other 1) in
-    let P : Extent → Type 0 = λ e. IsFrontOf false e.shape (take e.length bytes) in
+    let P : Extent → Type 0 = λ e. IsPrefixOf false e.shape (take e.length bytes) in
     sound_by P (eqb c 123) (brace_extent bytes) star (λ is. comment_front 1 (prefix_len (λ d. not (eqb d 125)) cs) bytes (brace_front c cs is))
     (λ _. sound_by P (opens_star bytes) (star_extent bytes) (extent s.Other 1) (λ is. comment_front 2 (star_len (drop 2 bytes)) bytes (star_front c cs is)) (λ _. refl))
 
@@ -140,11 +140,11 @@ none_longer : (is_live : Bool) (n : ℕ) (other : Shape) (front : List ℕ) → 
 none_longer is_live n other front one is (inl less) = let some = shape_some is_live other front is in absurd (omega arith)
 none_longer is_live n other front one is (inr same) = no_other is_live front (subst (λ (shape : Shape). HasShape is_live shape front) same.1 is)
 
-takes_by : (is_live : Bool) (shape : Shape) (spelling rest : List ℕ) → IsFrontOf is_live shape spelling → IsLongest is_live shape (length spelling) (spelling ++ rest) → Takes is_live shape spelling rest
+takes_by : (is_live : Bool) (shape : Shape) (spelling rest : List ℕ) → IsPrefixOf is_live shape spelling → IsLongest is_live shape (length spelling) (spelling ++ rest) → Takes is_live shape spelling rest
 takes_by is_live s.Other spelling rest front longest = (front, λ other before after e is. none_longer is_live (length spelling) other before front is (longest other before after e is))
 takes_by is_live shape spelling rest front longest = (front, longest)
 
-takes_at : (is_live : Bool) (e : Extent) (bytes : List ℕ) → e.length ≤ length bytes → IsFrontOf is_live e.shape (take e.length bytes) → IsLongest is_live e.shape e.length bytes → Takes is_live e.shape (take e.length bytes) (drop e.length bytes)
+takes_at : (is_live : Bool) (e : Extent) (bytes : List ℕ) → e.length ≤ length bytes → IsPrefixOf is_live e.shape (take e.length bytes) → IsLongest is_live e.shape e.length bytes → Takes is_live e.shape (take e.length bytes) (drop e.length bytes)
 takes_at is_live e bytes within front longest =
     let n = e.length in
     let whole : bytes ≡ take n bytes ++ drop n bytes = sym (take-append-drop n bytes) in
@@ -155,7 +155,7 @@ takes_at is_live e bytes within front longest =
 pub read_takes : (bytes : List ℕ) → 0 < length bytes → (shape_at bytes).length ≤ length bytes → Takes true (shape_at bytes).shape (take (shape_at bytes).length bytes) (drop (shape_at bytes).length bytes)
 read_takes [] some within = absurd (omega arith)
 read_takes (c ∷ cs) some within =
-    takes_at true (shape_at (c ∷ cs)) (c ∷ cs) within (read_front (shape_at (c ∷ cs)).shape _ (shape_sound c cs))
+    takes_at true (shape_at (c ∷ cs)) (c ∷ cs) within (read_prefix (shape_at (c ∷ cs)).shape _ (shape_sound c cs))
     (λ other front back e is. subst (λ (b : List ℕ). IsBest other (length front) (shape_at b)) (sym e) (read_best other front back is))
 
 pub skipped_takes : (bytes : List ℕ) → 0 < length bytes → (passed_at bytes).length ≤ length bytes → Takes false (passed_at bytes).shape (take (passed_at bytes).length bytes) (drop (passed_at bytes).length bytes)

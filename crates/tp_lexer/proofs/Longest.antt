@@ -13,7 +13,7 @@ use Rattle.tp_lexer.specs.declared.shape.Shape.TheVariants as s
 use Rattle.tp_lexer.specs.declared.shape.Extent.{Extent}
 use Rattle.tp_lexer.proofs.Prefixes.{and_left, prefix_ge, prefix_is, drop_front}
 
--- a front of this shape and length is shorter than what is taken, or has its shape and length
+-- a prefix of this shape and length is shorter than what is taken, or has its shape and length
 abbrev pub IsBest : Shape → ℕ → Extent → Type 0
 IsBest shape n e = (n < e.length) ⊎ ((n ≡ e.length) × (shape ≡ e.shape))
 

@@ -13,12 +13,12 @@ use Rattle.tp_lexer.proofs.Prefixes.{and_left, and_right, take_more, drop_more, 
 use Rattle.tp_lexer.proofs.Leads.{take_take}
 
 -- a spelling of this shape stands in the grammar; one of the shape Other is a byte
-abbrev pub IsFront : Shape → List ℕ → Type 0
-IsFront s.Other spelling = length spelling ≡ 1
-IsFront shape spelling = IsRead shape spelling
+abbrev pub IsPrefix : Shape → List ℕ → Type 0
+IsPrefix s.Other spelling = length spelling ≡ 1
+IsPrefix shape spelling = IsRead shape spelling
 
 abbrev pub IsSound : List ℕ → Extent → Type 0
-IsSound bytes e = IsFront e.shape (take e.length bytes)
+IsSound bytes e = IsPrefix e.shape (take e.length bytes)
 
 pub sound_by : (P : Extent → Type 0) (b : Bool) (x y : Extent) → (b ≡ true → P x) → (b ≡ false → P y) → P (cond b x y)
 sound_by P true x y left right = left refl

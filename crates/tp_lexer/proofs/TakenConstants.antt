@@ -12,7 +12,7 @@ use Rattle.tp_lexer.specs.declared.constant.Part.TheVariants as p
 use Rattle.tp_lexer.proofs.Positive.{constant_of-length}
 use Rattle.tp_lexer.proofs.Prefixes.{take_more}
 use Rattle.tp_lexer.proofs.LongestConstants.{run}
-use Rattle.tp_lexer.proofs.Taken.{IsFront, IsSound}
+use Rattle.tp_lexer.proofs.Taken.{IsPrefix, IsSound}
 
 -- what is left of a constant, between its parts: parts, and at last maybe an opening quote and text
 abbrev Tail : Part → List (List ℕ) → List ℕ → Type 0
@@ -147,7 +147,7 @@ parts_are : (bytes : List ℕ) → 0 < length bytes → (parts : List (List ℕ)
 parts_are bytes some [] are is = absurd (let h = ap length is in omega arith)
 parts_are bytes some (x ∷ xs) are is = record { part = x; parts = xs; spelled = is; is_part = are.0; are_parts = are.1 }
 
-constant_by : (last : Part) (n : ℕ) (spelling : List ℕ) → 0 < length spelling → Between last spelling → IsFront (constant_of last n).shape spelling
+constant_by : (last : Part) (n : ℕ) (spelling : List ℕ) → 0 < length spelling → Between last spelling → IsPrefix (constant_of last n).shape spelling
 constant_by p.Inside n spelling some b = record { parts = b.0; text = b.2.0; spelled = b.2.1; are_parts = b.1; each = b.2.2 }
 constant_by p.Start n spelling some b = parts_are spelling some b.0 b.1 b.2
 constant_by p.Closed n spelling some b = parts_are spelling some b.0 b.1 b.2
@@ -197,6 +197,6 @@ constant_sound bytes some =
     let long : length (take r.count bytes) ≡ r.count = length-take-le r.count bytes r.within in
     let e : (constant_from 0 p.Start bytes).length ≡ n = ap (λ (x : Extent). x.length) r.is ∙ constant_of-length r.last n in
     let there : 0 < length (take r.count bytes) = omega arith in
-    let front : IsFront (constant_of r.last n).shape (take r.count bytes) = constant_by r.last n (take r.count bytes) there (left_of p.Start (take r.count bytes) r.last r.runs) in
-    let at_count : IsFront (constant_of r.last n).shape (take (constant_of r.last n).length bytes) = subst (λ (m : ℕ). IsFront (constant_of r.last n).shape (take m bytes)) (sym (constant_of-length r.last n ∙ same)) front in
+    let front : IsPrefix (constant_of r.last n).shape (take r.count bytes) = constant_by r.last n (take r.count bytes) there (left_of p.Start (take r.count bytes) r.last r.runs) in
+    let at_count : IsPrefix (constant_of r.last n).shape (take (constant_of r.last n).length bytes) = subst (λ (m : ℕ). IsPrefix (constant_of r.last n).shape (take m bytes)) (sym (constant_of-length r.last n ∙ same)) front in
     subst (IsSound bytes) (sym r.is) at_count

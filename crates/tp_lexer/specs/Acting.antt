@@ -27,7 +27,7 @@ settings_of state = record { switches = state.switches; defined = has_name state
 abbrev pub context_of : State → List Condition → Context
 context_of state conditions = record { settings = settings_of state; conditions = conditions }
 
--- the fact holds, unless the error is want of memory
+-- the fact holds, unless the error is out of memory
 abbrev pub Unless : LexError → Type 0 → Type 0
 Unless NoMemory P = Unit {0}
 Unless error P = P

@@ -8,7 +8,7 @@ mod condition;
 mod constant;
 mod directive;
 mod file_name;
-mod front;
+mod prefix;
 mod lexer;
 mod meaning;
 mod number;

@@ -12,7 +12,7 @@ ghost use Rattle.tp_lexer.specs.Acting.{AreNumbers, settings_of, context_of, Act
 use crate::act::{act, pass};
 use crate::characters::before_end_len;
 use crate::condition::{Condition, innermost, is_read};
-use crate::front::{passed_at, shape_at};
+use crate::prefix::{passed_at, shape_at};
 use crate::meaning::{passed_of, piece_of};
 use crate::numbers::number_named;
 use crate::place::moved_over;

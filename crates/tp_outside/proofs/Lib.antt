@@ -1,3 +1,3 @@
 pub mod FolderLaws
-pub mod Front
+pub mod Prefix
 pub mod Known

@@ -19,7 +19,7 @@ pub use folders::Files;
 pub use memory_files::MemoryFiles;
 pub use memory_sink::MemorySink;
 pub use memory_source::MemorySource;
-pub use reading::{read_file, read_front, read_source};
+pub use reading::{read_file, read_prefix, read_source};
 pub use real_files::RealFiles;
 pub use real_sink::RealSink;
 pub use real_source::RealSource;

@@ -28,13 +28,13 @@ pub fn read_file<F: Files>(
 {
     match files.size(name)? {
         None => Ok(None),
-        Some(size) => Ok(Some(read_front(alloc, files, name, size)?)),
+        Some(size) => Ok(Some(read_prefix(alloc, files, name, size)?)),
     }
 }
 
 /// The first `size` bytes of a file, fewer where a read gives nothing before. A file that isn't there has no
 /// bytes.
-pub fn read_front<F: Files>(
+pub fn read_prefix<F: Files>(
     alloc: Global,
     files: &mut F,
     name: &str,

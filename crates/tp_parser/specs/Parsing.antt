@@ -30,7 +30,7 @@ pub record IsSource (tokens : List Token) (t : Parsed) : Type 0 where
   pub has : Has (Belongs grammar) t
   pub deep : deep grammar t ≤ limit
 
--- the answer is this tree, or want of memory
+-- the answer is this tree, or out of memory
 abbrev pub IsReadAs : Result Tree ParseError → Parsed → Type 0
 IsReadAs (Ok tree) t = of_tree tree ≡ t
 IsReadAs (Err e.NoMemory) t = Unit {0}
@@ -70,7 +70,7 @@ IsFault tokens (e.Syntax at) = (left : ℕ) × IsSyntax grammar n.source limit (
 IsFault tokens (e.NotInProfile at what) = (omission : Omission) × (left : ℕ) × IsLeftOut grammar n.source limit (lexemes_of tokens) (omitted omission) left × (at ≡ place_at tokens (lexemes_of tokens) left) × (what ≡ feature omission)
 IsFault tokens (e.TooDeep at) = (left : ℕ) × IsTooDeep grammar n.source limit (lexemes_of tokens) left × (at ≡ place_at tokens (lexemes_of tokens) left)
 
--- the same kind of fault at the same place; want of memory is like any
+-- the same kind of fault at the same place; out of memory is like any
 abbrev pub AreAlike : ParseError → ParseError → Type 0
 AreAlike e.NoMemory y = Unit {0}
 AreAlike x e.NoMemory = Unit {0}

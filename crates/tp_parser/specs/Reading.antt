@@ -14,10 +14,10 @@ use Rattle.parameter_parser.specs.Chains.{ReadsTo, Chain, chain_at}
 use Rattle.statement_parser.specs.Reading.{whole_compound_at}
 use Rattle.heading_parser.specs.Reading.{uses_at, heading_at, header_at}
 use Rattle.declaration_parser.specs.Reading.{part_by, declarations_at, nested}
-use Rattle.tp_parser.specs.declared.front.InterfaceStart.{InterfaceStart}
-use Rattle.tp_parser.specs.declared.front.InterfaceStart.TheVariants as item
-use Rattle.tp_parser.specs.declared.front.DirectiveStart.{DirectiveStart}
-use Rattle.tp_parser.specs.declared.front.DirectiveStart.TheVariants as directive
+use Rattle.tp_parser.specs.declared.lookahead.InterfaceStart.{InterfaceStart}
+use Rattle.tp_parser.specs.declared.lookahead.InterfaceStart.TheVariants as item
+use Rattle.tp_parser.specs.declared.lookahead.DirectiveStart.{DirectiveStart}
+use Rattle.tp_parser.specs.declared.lookahead.DirectiveStart.TheVariants as directive
 use Rattle.tp_parser.specs.Starting.{interface_start, directive_start}
 
 -- ---- the interface part, of which a declaration is read as what it makes of those behind it

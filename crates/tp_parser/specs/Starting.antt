@@ -2,11 +2,11 @@
 use Rattle.std.specs.Prelude.{Option, Some}
 use Rattle.pascal_grammar.specs.declared.kind.Kind.{Kind}
 use Rattle.pascal_grammar.specs.declared.kind.Kind.TheVariants as k
-use Rattle.declaration_parser.specs.declared.front.PartStart.TheVariants as part
-use Rattle.tp_parser.specs.declared.front.InterfaceStart.{InterfaceStart}
-use Rattle.tp_parser.specs.declared.front.InterfaceStart.TheVariants as item
-use Rattle.tp_parser.specs.declared.front.DirectiveStart.{DirectiveStart}
-use Rattle.tp_parser.specs.declared.front.DirectiveStart.TheVariants as directive
+use Rattle.declaration_parser.specs.declared.lookahead.PartStart.TheVariants as part
+use Rattle.tp_parser.specs.declared.lookahead.InterfaceStart.{InterfaceStart}
+use Rattle.tp_parser.specs.declared.lookahead.InterfaceStart.TheVariants as item
+use Rattle.tp_parser.specs.declared.lookahead.DirectiveStart.{DirectiveStart}
+use Rattle.tp_parser.specs.declared.lookahead.DirectiveStart.TheVariants as directive
 
 abbrev pub interface_start : Option Kind → InterfaceStart
 interface_start (Some k.Const) = item.Part part.Constants

@@ -8,7 +8,7 @@ ghost use Rattle.source_tree.specs.Sources.{of_interface, interface_of};
 ghost use Rattle.expression_parser.specs.Gives.{Gives};
 ghost use Rattle.tp_parser.specs.Reading.{directive_at, header_then, declared_at, interface_at};
 
-use crate::front::{
+use crate::lookahead::{
     DirectiveStart, InterfaceStart, begins_interface, directive_start, interface_start,
 };
 use declaration_parser::read_part;

@@ -2,7 +2,7 @@
 #![tactic(auto)]
 
 mod error;
-mod front;
+mod lookahead;
 mod interface;
 mod source;
 mod tree;

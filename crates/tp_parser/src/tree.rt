@@ -62,8 +62,8 @@ pub fn one_tree()
 
 /// Tokens have one fault at most, and none where they spell a source; it does nothing.
 pub fn one_fault()
-    // Two faults are of one kind and at one place, where neither is want of memory.
+    // Two faults are of one kind and at one place, where neither is out of memory.
     ensures alike { (tokens : List Token) (x y : ParseError) → IsFault tokens x → IsFault tokens y → AreAlike x y }
-    // Where a source is spelled, nothing but want of memory is a fault.
+    // Where a source is spelled, nothing but out of memory is a fault.
     ensures none { (tokens : List Token) (t : Parsed) (x : ParseError) → IsSource tokens t → IsFault tokens x → x ≡ NoMemory }
 {}

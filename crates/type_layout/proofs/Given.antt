@@ -64,7 +64,7 @@ get_or-given_by-middle {A} rule front one back d =
     let first = get_or-given_by-first rule front (given_by rule [] none front) one back d in
     rw (given_by-append, ← len) first
 
--- a front of the table gives the same alone
+-- a prefix of the table gives the same alone
 pub get_or-given_by-front : {A : Type 0} (rule : List TypeDef → List A → TypeDef → A) (front back : List TypeDef) (k : ℕ) (d : A)
     → k < length front → get_or (given_by rule [] [] (front ++ back)) k d ≡ get_or (given_by rule [] [] front) k d
 get_or-given_by-front {A} rule front back k d within =

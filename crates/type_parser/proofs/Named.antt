@@ -24,8 +24,8 @@ use Rattle.predictive_grammar.specs.Grammar.{token, part, leaf}
 use Rattle.predictive_grammar.specs.Readers.{made, opened, kept_by}
 use Rattle.syntax_tree.specs.declared.expression.PlacedSign.{PlacedSign}
 use Rattle.syntax_tree.specs.Expressions.{of}
-use Rattle.expression_parser.specs.declared.front.FactorStart.{FactorStart}
-use Rattle.expression_parser.specs.declared.front.FactorStart.TheVariants as factor
+use Rattle.expression_parser.specs.declared.lookahead.FactorStart.{FactorStart}
+use Rattle.expression_parser.specs.declared.lookahead.FactorStart.TheVariants as factor
 use Rattle.expression_parser.specs.Gives.{Inside, ask, name_at}
 use Rattle.expression_parser.specs.Gives as g
 use Rattle.expression_parser.specs.Starting.{selector_start, factor_start}

@@ -16,12 +16,12 @@ use Rattle.expression_parser.specs.Starting.{names}
 use Rattle.expression_parser.specs.Reading.{begins, tail_of, wrong, leaves, list_from, inside, simple_at}
 use Rattle.parameter_parser.specs.Chains.{ReadsTo}
 use Rattle.parameter_parser.specs.Reading.{identifiers_at, result_type_at, parameters_at, methods_at}
-use Rattle.type_parser.specs.declared.front.TypeStart.{TypeStart}
-use Rattle.type_parser.specs.declared.front.TypeStart.TheVariants as start
-use Rattle.type_parser.specs.declared.front.StructuredStart.{StructuredStart}
-use Rattle.type_parser.specs.declared.front.StructuredStart.TheVariants as structured
-use Rattle.type_parser.specs.declared.front.BehindName.{BehindName}
-use Rattle.type_parser.specs.declared.front.BehindName.TheVariants as behind
+use Rattle.type_parser.specs.declared.lookahead.TypeStart.{TypeStart}
+use Rattle.type_parser.specs.declared.lookahead.TypeStart.TheVariants as start
+use Rattle.type_parser.specs.declared.lookahead.StructuredStart.{StructuredStart}
+use Rattle.type_parser.specs.declared.lookahead.StructuredStart.TheVariants as structured
+use Rattle.type_parser.specs.declared.lookahead.BehindName.{BehindName}
+use Rattle.type_parser.specs.declared.lookahead.BehindName.TheVariants as behind
 use Rattle.type_parser.specs.Starting.{type_start, structured_start, behind_name, behind_caret}
 
 -- ---- subranges

@@ -4,12 +4,12 @@ use Rattle.pascal_grammar.specs.declared.kind.Kind.{Kind}
 use Rattle.pascal_grammar.specs.declared.kind.Kind.TheVariants as k
 use Rattle.pascal_grammar.specs.Asked.{is_adder, is_multiplier}
 use Rattle.expression_parser.specs.Starting.{names}
-use Rattle.type_parser.specs.declared.front.TypeStart.{TypeStart}
-use Rattle.type_parser.specs.declared.front.TypeStart.TheVariants as t
-use Rattle.type_parser.specs.declared.front.StructuredStart.{StructuredStart}
-use Rattle.type_parser.specs.declared.front.StructuredStart.TheVariants as s
-use Rattle.type_parser.specs.declared.front.BehindName.{BehindName}
-use Rattle.type_parser.specs.declared.front.BehindName.TheVariants as b
+use Rattle.type_parser.specs.declared.lookahead.TypeStart.{TypeStart}
+use Rattle.type_parser.specs.declared.lookahead.TypeStart.TheVariants as t
+use Rattle.type_parser.specs.declared.lookahead.StructuredStart.{StructuredStart}
+use Rattle.type_parser.specs.declared.lookahead.StructuredStart.TheVariants as s
+use Rattle.type_parser.specs.declared.lookahead.BehindName.{BehindName}
+use Rattle.type_parser.specs.declared.lookahead.BehindName.TheVariants as b
 
 abbrev pub type_start : Option Kind → TypeStart
 type_start (Some k.Caret) = t.Caret

@@ -1,7 +1,7 @@
 //! Types of Turbo Pascal, read from lexemes.
 #![tactic(auto)]
 
-mod front;
+mod lookahead;
 mod lexemes;
 mod list;
 mod object;

@@ -8,7 +8,7 @@ ghost use Rattle.type_parser.specs.Reading.{range_at, named_type_at, letter_type
 ghost use Rattle.type_tree.specs.Regrouped.{range_of};
 ghost use Rattle.type_tree.specs.Types.{of_type, simple_of};
 
-use crate::front::{BehindName, behind_caret, behind_name};
+use crate::lookahead::{BehindName, behind_caret, behind_name};
 use crate::lexemes::long_identifier;
 use expression_parser::{ReadError, begins, identifier, letter, mark, read_simple, skip, tail};
 use pascal_grammar::{Kind, Lexeme, Omission};

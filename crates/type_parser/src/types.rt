@@ -9,7 +9,7 @@ ghost use Rattle.type_parser.specs.Reading.{typed_inside, type_at, packed_at, st
 ghost use Rattle.type_parser.specs.Views.{indexes_of, fields_of, object_part_of, groups_of, group_of};
 ghost use Rattle.type_tree.specs.Types.{of_type, of_structured, index_type_list};
 
-use crate::front::{
+use crate::lookahead::{
     StructuredStart, TypeStart, begins_name, deeper, goes_on, structured_start, type_start,
 };
 use crate::list::{Groups, IndexTypes, ObjectPart, set_of};

@@ -35,7 +35,7 @@ fn is_read_as(alloc: Global, source: &str, expected: &str) -> Result<bool, Alloc
 }
 
 #[test]
-fn takes_first_values(rt: HostRuntime) {
+fn takes_initializers(rt: HostRuntime) {
     let rows = [
         ("1", "to end"),
         ("-a + b", "to end"),
@@ -62,7 +62,7 @@ fn takes_first_values(rt: HostRuntime) {
 }
 
 #[test]
-fn places_faults_of_first_values(rt: HostRuntime) {
+fn places_faults_of_initializers(rt: HostRuntime) {
     let rows = [
         ("", "Syntax end"),
         ("begin", "Syntax 1:1"),
@@ -139,7 +139,7 @@ fn has_shape(alloc: Global, source: &str, expected: &str) -> Result<bool, AllocE
 }
 
 #[test]
-fn makes_first_values(rt: HostRuntime) {
+fn makes_initializers(rt: HostRuntime) {
     let rows = [
         ("a", "value"),
         ("(a)", "list"),

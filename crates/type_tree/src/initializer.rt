@@ -1,9 +1,9 @@
-//! The first values of typed constants.
+//! The initializers of typed constants.
 
 use pascal_grammar::Position;
 use syntax_tree::{Identifier, SimpleExpression};
 
-/// The first value of a typed constant or of a part of one.
+/// The initializer of a typed constant or of a part of one.
 #[cycle(initializer)]
 #[derive(Drop)]
 pub enum Initializer {

@@ -7,7 +7,7 @@ use Rattle.type_layout.specs.declared.definitions.TypeDef.{TypeDef}
 use Rattle.type_layout.specs.Layouts.{given_by}
 use Rattle.type_layout.proofs.Given.{length-given_by, get_or-given_by-middle}
 
--- a front of a table up to a type, and behind it
+-- a prefix of a table up to a type, and behind it
 record Cut (types : List TypeDef) (n k : ℕ) (one : TypeDef) : Type 0 where
   back : List TypeDef
   is : take n types ≡ take k types ++ one ∷ back

@@ -19,7 +19,7 @@ use std::alloc::{AllocError, Global};
 use type_layout::{Bytes, TypeDef};
 use values::sets::assigned;
 
-// The size of a bound of a set, which no set type has above 255: such a one finds no room.
+// The size of a bound of a set, which no set type has above 255: such a one is answered as out of memory.
 fn set_bound(bound: i32) -> Result<u8, AllocError>
     ensures { IfOk result (λ size. size ≡ unsigned_abs bound) }
 {
@@ -194,8 +194,8 @@ fn fields_over(alloc: Global, parts: &[Part], old: &Tree, new: &Tree) -> Result<
     }
 }
 
-// The fields of an object of a type, which keeps its class. An object type in a table of its own, which no program has, finds no
-// room.
+// The fields of an object of a type, which keeps its class. An object type in a table of its own, which no program has, is answered as out of
+// memory.
 fn object_over(alloc: Global, sort: &Sort, old: &Tree, new: &Tree) -> Result<Tree, AllocError>
     ensures { let sort = view_sort sort.now in IfOk result (λ tree. view_tree tree ≡ fields_over (parts_at sort.table.types sort.ty) (view_tree old.now) (view_tree new.now)) }
 {

@@ -52,12 +52,12 @@ pub fn loaded_as(
     }
 }
 
-// Where the class of an instance lies. An object type in a table of its own, which no program has, finds no room.
+// Where the class of an instance lies. An object type in a table of its own, which no program has, is answered as out of memory.
 fn class_spot(alloc: Global, at: &Reached) -> Result<Spot, Stop>
     ensures { Gets view_spot result (class_spot (view_reached at.now)) }
 {
     let Sort::Of { types, ty } = at.sort else {
-        return Err(Stop::NoRoom);
+        return Err(Stop::OutOfMemory);
     };
     let parts = parts_of_type(alloc, types, ty)?;
     let Some(place) = class_place(parts.as_slice()) else {
@@ -66,7 +66,7 @@ fn class_spot(alloc: Global, at: &Reached) -> Result<Spot, Stop>
     Ok(inside(alloc, &at.spot, place)?)
 }
 
-/// The place of a part of another place. A part whose number passes 32 bits finds no room.
+/// The place of a part of another place. A part whose number passes 32 bits is answered as out of memory.
 pub fn inside(alloc: Global, spot: &Spot, place: usize) -> Result<Spot, AllocError>
     ensures { IfOk result (λ found. view_spot found ≡ inside (view_spot spot.now) place) }
 {

@@ -6,7 +6,7 @@ use Rattle.type_layout.specs.Layouts.{IsMeasured, size_of}
 use Rattle.scopes.specs.Environment.{Environment}
 use Rattle.typing_rules.specs.declared.faults.CheckError.{CheckError}
 use Rattle.typed_constants.specs.Trees.{Initial}
-use Rattle.typed_constants.specs.FirstValues.{IsFirst}
+use Rattle.typed_constants.specs.Initializers.{IsFirst}
 use Rattle.typed_constants.proofs.Sizes.{whole}
 
 pub whole_answer : (g : Environment) (place : Place) (ty : TypeId) (tree : Initial) → IsMeasured g.types.types → (answer : Result (List ℕ) CheckError)

@@ -1,4 +1,4 @@
 pub mod Views
-pub mod FirstValueLaws
+pub mod InitializerLaws
 pub mod Sizes
 pub mod Answered

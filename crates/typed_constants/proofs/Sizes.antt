@@ -22,7 +22,7 @@ use Rattle.typed_constants.specs.Trees.{Initial, Initials, Named, value, list, g
 use Rattle.typed_constants.specs.Places.{first_place}
 use Rattle.stored_values.specs.Stored.{ordinal_bytes, string_bytes}
 use Rattle.stored_values.proofs.Sizes.{whole as stored}
-use Rattle.typed_constants.specs.FirstValues.{set_fitted, fitted_by, fitted, due_type, element_of, counted_by, counted, fields_in, is_next, behind_first, behind_next, first_type, due_for, placed, ended, grouped_by, grouped, is_plain, judged, items_judged, fields_judged}
+use Rattle.typed_constants.specs.Initializers.{set_fitted, fitted_by, fitted, due_type, element_of, counted_by, counted, fields_in, is_next, behind_first, behind_next, first_type, due_for, placed, ended, grouped_by, grouped, is_plain, judged, items_judged, fields_judged}
 use Rattle.typed_constants.specs.Laws.{AreWhole}
 
 -- ---- single values

@@ -6,7 +6,7 @@ use Rattle.type_layout.specs.Layouts.{size_of, IsMeasured}
 use Rattle.scopes.specs.Environment.{Environment}
 use Rattle.typing_rules.specs.Laws.{IsExact}
 use Rattle.typed_constants.specs.Trees.{Initial}
-use Rattle.typed_constants.specs.FirstValues.{first_value, IsFirst}
+use Rattle.typed_constants.specs.Initializers.{first_value, IsFirst}
 
 -- A first value has one list of bytes at most; it has one exactly where no fault is in it.
 abbrev pub AreExact : Type 0

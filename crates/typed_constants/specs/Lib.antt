@@ -1,5 +1,5 @@
 pub mod Trees
 pub mod Places
 pub mod Written
-pub mod FirstValues
+pub mod Initializers
 pub mod Laws

@@ -1,7 +1,7 @@
 //! Sets against the bounds of their types.
 
 ghost use Rattle.std.specs.Prelude.{◌≡◌, ◌≤◌, IfSome};
-ghost use Rattle.typed_constants.specs.FirstValues.{byte_bounds, are_within};
+ghost use Rattle.typed_constants.specs.Initializers.{byte_bounds, are_within};
 
 /// The bounds of what a set is over, where they lie in 0..255.
 pub(crate) fn byte_bounds(low: i32, high: i32) -> Option<(u8, u8)>

@@ -4,7 +4,7 @@ ghost use Rattle.std.specs.Prelude.{◌≡◌, IfOk, IfErr, length, ℕ, List};
 ghost use Rattle.type_layout.specs.Layouts.{size_of};
 ghost use Rattle.typing_rules.specs.Faults.{Tells, answer_of, IsAnswered};
 ghost use Rattle.typed_constants.specs.Trees.{view_initializer};
-ghost use Rattle.typed_constants.specs.FirstValues.{IsFirst, FailsAt};
+ghost use Rattle.typed_constants.specs.Initializers.{IsFirst, FailsAt};
 ghost use Rattle.typed_constants.specs.Laws.{AreExact, AreWhole};
 
 use crate::initial::first_value;
@@ -26,7 +26,7 @@ fn answered(found: Result<Bytes, Refusal>) -> Result<Bytes, CheckError>
 
 /// The bytes that a typed constant of a type begins with, which stands at a place. An error names a rule that fails, or what is
 /// left out, and the place.
-pub fn check_first_value(
+pub fn check_initializer(
     alloc: Global,
     tree: &Initializer,
     scope: &Scope,
@@ -35,7 +35,7 @@ pub fn check_first_value(
 ) -> Result<Bytes, CheckError>
     // Every rule holds in the first value, and these are its bytes.
     ensures typed { IfOk result (λ bytes. IsFirst scope.now place ty (view_initializer tree.now) bytes) }
-    // What fits is answered, but for want of memory.
+    // What fits is answered, unless memory runs out.
     ensures complete { (bytes : List ℕ) → IsFirst scope.now place ty (view_initializer tree.now) bytes → IsAnswered (λ all. all) bytes result }
     // What is told of fails there.
     ensures fails { IfErr result (λ error. Tells (FailsAt scope.now place ty (view_initializer tree.now)) error) }
@@ -47,7 +47,7 @@ pub fn check_first_value(
 }
 
 /// A type and a first value give one list of bytes exactly where no rule fails in it, and that has the size of the type.
-pub fn first_value_laws()
+pub fn initializer_laws()
     ensures exact { AreExact }
     ensures whole { AreWhole }
 {}

@@ -3,7 +3,7 @@
 ghost use Rattle.std.specs.Prelude.{◌≡◌};
 ghost use Rattle.std.specs.Option.{option_copied};
 ghost use Rattle.typing_rules.specs.Judgements.{Gives};
-ghost use Rattle.typed_constants.specs.FirstValues.{element_of, due_type, fields_in, is_next, behind_next, due_for, placed, ended, grouped};
+ghost use Rattle.typed_constants.specs.Initializers.{element_of, due_type, fields_in, is_next, behind_next, due_for, placed, ended, grouped};
 
 use crate::fitting::unfit;
 use type_layout::{Bytes, Field, Name, Place, TypeDef, TypeId, Types};
@@ -84,7 +84,7 @@ pub(crate) fn ended(place: Place, due: Option<&[Field]>, bytes: Bytes) -> Result
 }
 
 /// The bytes of a group of fields at a place, where a record is due.
-#[tactic(auto, unfolding(crate::specs::FirstValues::grouped))]
+#[tactic(auto, unfolding(crate::specs::Initializers::grouped))]
 pub(crate) fn grouped(
     types: &Types,
     place: Place,

@@ -9,7 +9,7 @@ ghost use Rattle.typing_rules.specs.declared.faults.Refusal.TheVariants.{Because
 ghost use Rattle.typing_rules.specs.declared.faults.Rule.TheVariants.{FirstValue};
 ghost use Rattle.typing_rules.specs.Faults.{broken};
 ghost use Rattle.typing_rules.specs.Judgements.{Gives};
-ghost use Rattle.typed_constants.specs.FirstValues.{fitted_by, set_fitted, fitted, counted, counted_by};
+ghost use Rattle.typed_constants.specs.Initializers.{fitted_by, set_fitted, fitted, counted, counted_by};
 
 use crate::bounds::{are_within, byte_bounds};
 use crate::written::Written;
@@ -144,7 +144,7 @@ fn fitted_by(
 }
 
 /// The bytes of a value at a place behind those before it, where a type is due; where none is, those before it.
-#[tactic(auto, unfolding(crate::specs::FirstValues::fitted))]
+#[tactic(auto, unfolding(crate::specs::Initializers::fitted))]
 pub(crate) fn fitted(
     alloc: Global,
     types: &Types,
@@ -198,7 +198,7 @@ fn counted_by(
 }
 
 /// The bytes of a list of so many values at a place; where an array is due, it has so many elements.
-#[tactic(auto, unfolding(crate::specs::FirstValues::counted))]
+#[tactic(auto, unfolding(crate::specs::Initializers::counted))]
 pub(crate) fn counted(
     types: &Types,
     place: Place,

@@ -5,7 +5,7 @@ ghost use Rattle.std.specs.Option.{option_copied};
 ghost use Rattle.expression_tree.specs.Trees.{view_simple};
 ghost use Rattle.typing_rules.specs.Judgements.{Gives};
 ghost use Rattle.typed_constants.specs.Trees.{value, list, group, view_initializer, view_items, view_fields};
-ghost use Rattle.typed_constants.specs.FirstValues.{judged, items_judged, fields_judged, first_value};
+ghost use Rattle.typed_constants.specs.Initializers.{judged, items_judged, fields_judged, first_value};
 
 use crate::fields::{behind_next, due_for, element_due, ended, fields_due, grouped, placed};
 use crate::fitting::{counted, fitted};

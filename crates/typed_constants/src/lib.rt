@@ -10,5 +10,5 @@ mod places;
 mod plain;
 mod written;
 
-pub use check::{check_first_value, first_value_laws};
+pub use check::{check_initializer, initializer_laws};
 pub use initial::first_value;

@@ -3,7 +3,7 @@
 ghost use Rattle.std.specs.Prelude.{◌≡◌, IfOk, get_or, false};
 ghost use Rattle.std.specs.List.{list_all};
 ghost use Rattle.type_layout.specs.declared.definitions.Field.{Field as FieldOf};
-ghost use Rattle.typed_constants.specs.FirstValues.{plain_by, plain_types, is_plain};
+ghost use Rattle.typed_constants.specs.Initializers.{plain_by, plain_types, is_plain};
 
 use std::alloc::{AllocError, Global};
 use type_layout::{Field, TypeDef, TypeId, Types};

@@ -8,7 +8,7 @@ use std::alloc::{AllocError, Global};
 use tp_lexer::Feature;
 use type_layout::{Bytes, Place, TypeId};
 use type_tree::Initializer;
-use typed_constants::check_first_value;
+use typed_constants::check_initializer;
 use typing_rules::CheckError;
 use typing_samples::lexemes;
 
@@ -79,7 +79,7 @@ const CONSTANT: Place = Place {
 };
 
 fn checks(alloc: Global, tree: &Initializer, scope: &Scope, ty: TypeId, row: Expected) -> bool {
-    is_told(row, &check_first_value(alloc, tree, scope, CONSTANT, ty))
+    is_told(row, &check_initializer(alloc, tree, scope, CONSTANT, ty))
 }
 
 fn is_so(alloc: Global, scope: &Scope, row: &Row) -> Result<bool, AllocError> {

@@ -24,7 +24,7 @@ use Rattle.meaning.specs.Activations.{Callee, callee_of}
 use Rattle.object_vmt.specs.Members.{members_of, members_in}
 use Rattle.object_vmt.specs.Slots.{method_at}
 use Rattle.declared_types.specs.Declared.{DeclaredHeader, declared, declared_header}
-use Rattle.declared_types.specs.Agreement.{IsUnit, IsKnown, AreAgreed, IsOfLine}
+use Rattle.declared_types.specs.Agreement.{IsUnit, IsKnown, AreConsistent, IsOfLine}
 use Rattle.sound_standards.specs.Laws.{HasClasses}
 use Rattle.typed_programs.specs.Statements.{RefersStatement}
 
@@ -114,6 +114,6 @@ pub record IsSoundUnit (program : Program) (unit : TypedUnit) : Type 0 where
 pub record IsWellTyped (program : Program) : Type 0 where
   pub listed : All (IsUnit program) program.units
   pub units : (unit : TypedUnit) → IsUnit program unit → IsSoundUnit program unit
-  pub agreed : AreAgreed program
+  pub agreed : AreConsistent program
   pub classes : HasClasses program
   pub methods : HasMethods program

@@ -117,7 +117,7 @@ module _ {X C : Type 0} (view : X → C) (P : C → Type 0) (F : Fault → Type 
   pub is_fault : (z : Result C Fault) (f : Fault) → z ≡ Err f → Agrees z P F → F f
   is_fault = failing
 
-  -- where something holds it is answered, but for want of memory
+  -- where something holds it is answered, unless memory runs out
   pub is_only : (r : Result X Refusal) (z : Result C Fault) → Gives view r z → Agrees z P F → (c : C) → P c → Gives view r (Ok c)
   is_only r z g m c p = subst (λ (s : Result C Fault). Gives view r s) (sole z c p m) g
 

@@ -88,7 +88,7 @@ abbrev pub answer_of : {X : Type 0} → Result X Refusal → Result X CheckError
 answer_of (Ok x) = Ok x
 answer_of (Err r) = Err (error_for r)
 
--- this is what was answered, without where it lies in memory; but for want of memory
+-- this is what was answered, without where it lies in memory; unless memory runs out
 abbrev pub IsAnswered : {X C : Type 0} → (X → C) → C → Result X CheckError → Type 0
 IsAnswered view c (Ok x) = view x ≡ c
 IsAnswered view c (Err NoMemory) = Unit {0}
@@ -109,6 +109,6 @@ abbrev pub undeclared : Place → Option Feature → Fault
 undeclared place None = broken place rule.Declared
 undeclared place (Some one) = left_out place one
 
--- an error tells of a fault that is there, or of want of memory
+-- an error tells of a fault that is there, or of out of memory
 abbrev pub Tells : (Fault → Type 0) → CheckError → Type 0
 Tells IsThere error = (error ≡ NoMemory) ⊎ ((fault : Fault) × (error ≡ error_of fault) × IsThere fault)

@@ -92,7 +92,7 @@ abbrev pub FailsAs : {C : Type 0} → Refusal → Result C Fault → Type 0
 FailsAs refusal.NoMemory read = Unit {0}
 FailsAs (refusal.Because fault) read = read ≡ Err fault
 
--- What code answered, without where it lies in memory, is what is read; but for want of memory.
+-- What code answered, without where it lies in memory, is what is read; unless memory runs out.
 abbrev pub Gives : {X C : Type 0} → (X → C) → Result X Refusal → Result C Fault → Type 0
 Gives view (Ok x) read = read ≡ Ok (view x)
 Gives view (Err e) read = FailsAs e read

@@ -23,7 +23,7 @@ pub enum Rule {
     IndexType,
     /// The size of a string is a constant in 1..255.
     StringSize,
-    /// The first value of a typed constant fits its type.
+    /// The initializer of a typed constant fits its type.
     FirstValue,
     /// No object type is declared inside a routine or outside a type part, and each one stands behind its ancestor.
     ObjectPlace,

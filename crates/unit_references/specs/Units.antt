@@ -10,7 +10,7 @@ use Rattle.typed_tree.specs.declared.units.Unit.{Unit as TypedUnit}
 use Rattle.typed_tree.specs.declared.units.Program.{Program}
 use Rattle.well_formed.specs.WellFormed.{IsWellFormed}
 use Rattle.meaning.specs.Programs.{is_overlay}
-use Rattle.declared_types.specs.Agreement.{IsUnit, AreAgreed}
+use Rattle.declared_types.specs.Agreement.{IsUnit, AreConsistent}
 use Rattle.typed_programs.specs.WellTyped.{IsSoundRoutine, HasFirst}
 use Rattle.unit_references.specs.Held.{AreHeld}
 
@@ -33,7 +33,7 @@ pub record IsSupported (program : Program) (unit : TypedUnit) : Type 0 where
 
 -- Units that agree with one another, each with sound parts and with suppositions that are so.
 pub record HasSoundUnits (program : Program) : Type 0 where
-  pub agreed : AreAgreed program
+  pub agreed : AreConsistent program
   pub parts : (unit : TypedUnit) → IsUnit program unit → HasSoundParts unit
   pub marked : (unit : TypedUnit) → IsUnit program unit → AreMarked unit.types.types
   pub supported : (unit : TypedUnit) → IsUnit program unit → IsSupported program unit

@@ -13,7 +13,7 @@ use cell_store::{Stop, Trap, Value};
 use std::alloc::Global;
 use type_layout::{Bytes, TypeDef, storage_of};
 
-// A Char as a string. One above 255, which no typed program has, finds no room.
+// A Char as a string. One above 255, which no typed program has, is answered as out of memory.
 fn char_as_text(alloc: Global, z: i32) -> Result<Value, Stop>
     ensures { (max : ℕ) → Gets view_value result (converted (Some (type.Str max)) (Ordinal z)) }
 {
@@ -21,7 +21,7 @@ fn char_as_text(alloc: Global, z: i32) -> Result<Value, Stop>
         return Err(Stop::Trapped(Trap::IllTyped));
     }
     if z > 255 {
-        return Err(Stop::NoRoom);
+        return Err(Stop::OutOfMemory);
     }
     Ok(Value::Text(Bytes::from_slice(alloc, &[z as u8])?))
 }

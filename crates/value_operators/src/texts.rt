@@ -42,7 +42,7 @@ pub(crate) fn on_texts(alloc: Global, op: BinaryOp, a: &[u8], b: &[u8]) -> Resul
     }
 }
 
-// The text of a number. A Char above 255, which no typed program has, finds no room.
+// The text of a number. A Char above 255, which no typed program has, is answered as out of memory.
 fn ordinal_text(alloc: Global, host: Host, z: i32) -> Result<Vec<u8>, Stop>
     ensures { Gets (λ text. text.items) result (ordinal_text host z) }
 {
@@ -63,7 +63,7 @@ fn char_text(alloc: Global, z: i32) -> Result<Vec<u8>, Stop>
         return Err(Stop::Trapped(Trap::IllTyped));
     }
     if z > 255 {
-        return Err(Stop::NoRoom);
+        return Err(Stop::OutOfMemory);
     }
     Ok(Vec::from_slice(alloc, &[z as u8])?)
 }

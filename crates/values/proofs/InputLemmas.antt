@@ -3,7 +3,7 @@ use Rattle.std.proofs.Common.{◌≡◌, ℕ, suc, ◌+◌, min, Bool, true, fal
 use Rattle.std.specs.List.{prefix_len}
 use Rattle.std.proofs.lemmas.Bool.{eqb-true, eqb-false, cases_lt}
 use Rattle.std.proofs.lemmas.List.{length-take, take-append-drop}
-use Rattle.values.proofs.Fronts.{Stops, front_passes, rest_stops, prefix-within}
+use Rattle.values.proofs.Prefixes.{Stops, prefix_passes, rest_stops, prefix-within}
 use Rattle.values.specs.Input.{eof_byte, ends_line, is_eof, is_eoln, is_text_byte, is_separator, is_word_byte, char_read, string_length, string_read, after_separators, word_length, number_read, after_13, after_line}
 use Rattle.values.specs.InputLaws.{TakesChar, TakesString, EndsWord, TakesNumber, both, lone_13, lone_10, at_eof, TakesLine, TakingLaws}
 
@@ -42,7 +42,7 @@ string_ends size p input e =
 string : (size : ℕ) (input : List ℕ) → TakesString size input (string_read size input).0 (string_read size input).1
 string size input = record {
   parts = sym (take-append-drop (string_length size input) input);
-  bytes = front_passes is_text_byte input (string_length size input) (omega arith);
+  bytes = prefix_passes is_text_byte input (string_length size input) (omega arith);
   room = let taken = length-take (string_length size input) input in omega arith;
   ends = string_ends size (prefix_len is_text_byte input) input refl;
 }
@@ -71,8 +71,8 @@ number input = record {
   gap = take (prefix_len is_separator input) input;
   word = take (word_length (after_separators input)) (after_separators input);
   parts = sym (ap (λ (l : List ℕ). take (prefix_len is_separator input) input ++ l) (take-append-drop (word_length (after_separators input)) (after_separators input)) ∙ take-append-drop (prefix_len is_separator input) input);
-  separators = front_passes is_separator input (prefix_len is_separator input) (omega arith);
-  bytes = front_passes is_word_byte (after_separators input) (word_length (after_separators input)) (omega arith);
+  separators = prefix_passes is_separator input (prefix_len is_separator input) (omega arith);
+  bytes = prefix_passes is_word_byte (after_separators input) (word_length (after_separators input)) (omega arith);
   ends = word_ends _ (rest_stops is_word_byte (after_separators input));
   is = refl;
   some = no_word (after_separators input) (rest_stops is_separator input);

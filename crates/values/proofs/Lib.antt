@@ -1,6 +1,6 @@
 pub mod StringLemmas
 pub mod SetLemmas
-pub mod Fronts
+pub mod Prefixes
 pub mod InputLemmas
 pub mod BlockLemmas
 pub mod NumeralLemmas

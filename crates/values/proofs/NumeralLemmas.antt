@@ -15,7 +15,7 @@ use Rattle.std.proofs.lemmas.Int.Digits.{digits_value_push, digits_push}
 use Rattle.std.proofs.lemmas.List.{length-append}
 use Rattle.values.specs.declared.numerals.Stage.{Stage}
 use Rattle.values.specs.declared.numerals.Stage.TheVariants as stages
-use Rattle.values.specs.Numerals.{Sign, none, plus, minus, sign_bytes, is_minus, dollar_bytes, radix_of, signed, IsNumeral, IsFront, greatest_magnitude, with_digit, after_sign, next_stage, value_at, IsBounded, numeral_from, numeral_of}
+use Rattle.values.specs.Numerals.{Sign, none, plus, minus, sign_bytes, is_minus, dollar_bytes, radix_of, signed, IsNumeral, IsPrefix, greatest_magnitude, with_digit, after_sign, next_stage, value_at, IsBounded, numeral_from, numeral_of}
 use Rattle.values.specs.NumeralLaws.{IsFault, ReadingLaws}
 
 -- the stage behind a text
@@ -150,7 +150,7 @@ zero-bound : (negative : Bool) → 0 ≤ greatest_magnitude negative
 zero-bound true = omega arith
 zero-bound false = omega arith
 
-with_zero : (negative hex : Bool) (text : List ℕ) → IsSpelled negative hex [] text → IsFront text
+with_zero : (negative hex : Bool) (text : List ℕ) → IsSpelled negative hex [] text → IsPrefix text
 with_zero negative hex text s = record {
   rest = 48 ∷ [];
   value = signed negative 0;
@@ -163,18 +163,18 @@ with_zero negative hex text s = record {
   });
 }
 
-front_reached : (t : Stage) (text : List ℕ) → Reached t text → IsFront text
-front_reached stages.Start text h = with_zero false false text (record { sign = none; is = refl; parts = h; digits = tt })
-front_reached (stages.Signed negative) text h = with_zero negative false text h
-front_reached (stages.Dollar negative) text h = with_zero negative true text h
-front_reached (stages.Digits negative hex v) text h = record {
+prefix_reached : (t : Stage) (text : List ℕ) → Reached t text → IsPrefix text
+prefix_reached stages.Start text h = with_zero false false text (record { sign = none; is = refl; parts = h; digits = tt })
+prefix_reached (stages.Signed negative) text h = with_zero negative false text h
+prefix_reached (stages.Dollar negative) text h = with_zero negative true text h
+prefix_reached (stages.Digits negative hex v) text h = record {
   rest = [];
   value = signed negative v;
   whole = subst (λ (l : List ℕ). IsNumeral l (signed negative v)) (sym (append-nil text)) (read_numeral negative hex v text h);
 }
 
-pub front_from : (t : Stage) (text : List ℕ) → stage_after stages.Start text ≡ Some t → IsFront text
-front_from t text e = front_reached t text (reached stages.Start t [] text refl e)
+pub prefix_from : (t : Stage) (text : List ℕ) → stage_after stages.Start text ≡ Some t → IsPrefix text
+prefix_from t text e = prefix_reached t text (reached stages.Start t [] text refl e)
 
 -- ---- a numeral is read
 
@@ -260,8 +260,8 @@ none_after : (s : Stage) (text more : List ℕ) → stage_after s text ≡ None 
 none_after s [] more e = absurd cc
 none_after s (b ∷ text) more e = none_after_by s text more (next_stage s b) e (λ t f. none_after t text more f)
 
-pub no_front : (text : List ℕ) → stage_after stages.Start text ≡ None → ¬ IsFront text
-no_front text e f =
+pub no_prefix : (text : List ℕ) → stage_after stages.Start text ≡ None → ¬ IsPrefix text
+no_prefix text e f =
     let ends = numeral_after (text ++ f.rest) f.value f.whole in
     let a = ends.after in
     let n = none_after stages.Start text f.rest e in
@@ -335,7 +335,7 @@ value : (text : List ℕ) (z : ℤ) → numeral_of text ≡ Ok z → IsNumeral t
 unfolding numeral_of
 value text z e = value_from text z (numeral_from stages.Start 1 text) e (answers stages.Start 1 text)
 
-fault_from : (text : List ℕ) (p : ℕ) (answer : Result ℤ ℕ) → answer ≡ Err p → Answers stages.Start 1 text answer → IsFault IsFront text p
+fault_from : (text : List ℕ) (p : ℕ) (answer : Result ℤ ℕ) → answer ≡ Err p → Answers stages.Start 1 text answer → IsFault IsPrefix text p
 fault_from text p (Ok y) e a = absurd cc
 fault_from text p (Err q) e a =
     let same : q ≡ p = cc in
@@ -346,11 +346,11 @@ fault_from text p (Err q) e a =
     record {
       positive = omega arith;
       within = omega arith;
-      front = subst (λ (n : ℕ). IsFront (take n text)) (sym before) (front_from a.stage (take a.count text) a.after);
-      stops = λ h. subst (λ (n : ℕ). ¬ IsFront (take n text)) (sym behind) (no_front (take (suc a.count) text) (a.stops (omega arith)));
+      front = subst (λ (n : ℕ). IsPrefix (take n text)) (sym before) (prefix_from a.stage (take a.count text) a.after);
+      stops = λ h. subst (λ (n : ℕ). ¬ IsPrefix (take n text)) (sym behind) (no_prefix (take (suc a.count) text) (a.stops (omega arith)));
     }
 
-fault : (text : List ℕ) (p : ℕ) → numeral_of text ≡ Err p → IsFault IsFront text p
+fault : (text : List ℕ) (p : ℕ) → numeral_of text ≡ Err p → IsFault IsPrefix text p
 unfolding numeral_of
 fault text p e = fault_from text p (numeral_from stages.Start 1 text) e (answers stages.Start 1 text)
 

@@ -6,9 +6,9 @@ use Rattle.std.specs.Char.{digit_value}
 use Rattle.std.specs.Str.Parse.{AllDigits}
 use Rattle.std.proofs.lemmas.Bool.{ne_eqb}
 use Rattle.std.proofs.lemmas.List.{length-drop, take-append-drop}
-use Rattle.values.specs.Numerals.{Sign, none, plus, minus, sign_bytes, dollar_bytes, radix_of, IsNumeral, IsFront, numeral_of, is_gap_byte, gap_length, val_by, val_of, AllGap, IsValText, IsValFront}
+use Rattle.values.specs.Numerals.{Sign, none, plus, minus, sign_bytes, dollar_bytes, radix_of, IsNumeral, IsPrefix, numeral_of, is_gap_byte, gap_length, val_by, val_of, AllGap, IsValText, IsValPrefix}
 use Rattle.values.specs.NumeralLaws.{IsFault, ValLaws}
-use Rattle.values.proofs.Fronts.{Stops, front_passes, rest_stops, prefix-within, drop-run, same_rest}
+use Rattle.values.proofs.Prefixes.{Stops, prefix_passes, rest_stops, prefix-within, drop-run, same_rest}
 use Rattle.values.proofs.NumeralLemmas.{reading_laws}
 
 -- ---- a numeral has no blank first
@@ -38,7 +38,7 @@ value_by : (text : List ℕ) (r : Result ℤ ℕ) → numeral_of (drop (gap_leng
 value_by text (Ok z) e h = record {
   gap = take (gap_length text) text;
   rest = drop (gap_length text) text;
-  blank = front_passes is_gap_byte text (gap_length text) (omega arith);
+  blank = prefix_passes is_gap_byte text (gap_length text) (omega arith);
   parts = sym (take-append-drop (gap_length text) text);
   numeral = reading_laws.value (drop (gap_length text) text) z e;
 }
@@ -53,18 +53,18 @@ read text z v =
     let same : drop (gap_length text) text ≡ v.rest = ap (λ (l : List ℕ). drop (gap_length l) l) v.parts ∙ drop-run is_gap_byte v.gap v.rest v.blank stops in
     ap (λ (l : List ℕ). val_by (gap_length text) (numeral_of l)) same ∙ ap (val_by (gap_length text)) (reading_laws.read v.rest z v.numeral)
 
-stops_front : (rest more : List ℕ) (n : ℕ) → 0 < n → n ≤ length rest → Stops is_gap_byte rest → Stops is_gap_byte (take n rest ++ more)
-stops_front [] more n h l s = absurd (omega arith)
-stops_front (b ∷ rest) more zero h l s = absurd (omega arith)
-stops_front (b ∷ rest) more (suc n) h l s = s
+stops_prefix : (rest more : List ℕ) (n : ℕ) → 0 < n → n ≤ length rest → Stops is_gap_byte rest → Stops is_gap_byte (take n rest ++ more)
+stops_prefix [] more n h l s = absurd (omega arith)
+stops_prefix (b ∷ rest) more zero h l s = absurd (omega arith)
+stops_prefix (b ∷ rest) more (suc n) h l s = s
 
-fault_by : (text : List ℕ) (g p : ℕ) → g ≡ gap_length text → IsFault IsFront (drop g text) p → IsFault IsValFront text (g + p)
+fault_by : (text : List ℕ) (g p : ℕ) → g ≡ gap_length text → IsFault IsPrefix (drop g text) p → IsFault IsValPrefix text (g + p)
 fault_by text g p e f =
     let positive = f.positive in
     let within = f.within in
     let inside : g ≤ length text = let w = prefix-within is_gap_byte text in omega arith in
     let left = length-drop g text in
-    let passes : AllGap (take g text) = front_passes is_gap_byte text g (omega arith) in
+    let passes : AllGap (take g text) = prefix_passes is_gap_byte text g (omega arith) in
     let stops : Stops is_gap_byte (drop g text) = subst (λ (n : ℕ). Stops is_gap_byte (drop n text)) (sym e) (rest_stops is_gap_byte text) in
     let before : g + p - 1 ≡ g + (p - 1) = omega arith in
     record {
@@ -84,11 +84,11 @@ fault_by text g p e f =
       stops = λ h v.
           let w = v.whole in
           let there : take (g + p) text ++ v.rest ≡ take g text ++ (take p (drop g text) ++ v.rest) = rw (take-add g p text) (append_assoc (take g text) (take p (drop g text)) v.rest) in
-          let same = same_rest is_gap_byte w.gap w.rest (take g text) (take p (drop g text) ++ v.rest) (sym w.parts ∙ there) w.blank (numeral_stops w.rest v.value w.numeral) passes (stops_front (drop g text) v.rest p positive (omega arith) stops) in
+          let same = same_rest is_gap_byte w.gap w.rest (take g text) (take p (drop g text) ++ v.rest) (sym w.parts ∙ there) w.blank (numeral_stops w.rest v.value w.numeral) passes (stops_prefix (drop g text) v.rest p positive (omega arith) stops) in
           f.stops (omega arith) (record { rest = v.rest; value = v.value; whole = subst (λ (l : List ℕ). IsNumeral l v.value) same w.numeral });
     }
 
-fault_of : (text : List ℕ) (r : Result ℤ ℕ) → numeral_of (drop (gap_length text) text) ≡ r → 0 < (val_by (gap_length text) r).1 → IsFault IsValFront text (val_by (gap_length text) r).1
+fault_of : (text : List ℕ) (r : Result ℤ ℕ) → numeral_of (drop (gap_length text) text) ≡ r → 0 < (val_by (gap_length text) r).1 → IsFault IsValPrefix text (val_by (gap_length text) r).1
 fault_of text (Ok z) e h = absurd (omega arith)
 fault_of text (Err p) e h = fault_by text (gap_length text) p refl (reading_laws.fault (drop (gap_length text) text) p e)
 

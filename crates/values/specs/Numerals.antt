@@ -59,7 +59,7 @@ pub record IsNumeral (text : List ℕ) (value : ℤ) : Type 0 where
   pub fits : FitsSigned w32 value
 
 -- some numeral goes on from the front
-pub record IsFront (front : List ℕ) : Type 0 where
+pub record IsPrefix (front : List ℕ) : Type 0 where
   pub rest : List ℕ
   pub value : ℤ
   pub whole : IsNumeral (front ++ rest) value
@@ -130,7 +130,7 @@ pub record IsValText (text : List ℕ) (value : ℤ) : Type 0 where
   pub parts : text ≡ gap ++ rest
   pub numeral : IsNumeral rest value
 
-pub record IsValFront (front : List ℕ) : Type 0 where
+pub record IsValPrefix (front : List ℕ) : Type 0 where
   pub rest : List ℕ
   pub value : ℤ
   pub whole : IsValText (front ++ rest) value

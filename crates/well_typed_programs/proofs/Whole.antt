@@ -7,7 +7,7 @@ use Rattle.type_layout.specs.declared.definitions.TypeDef.TheVariants as type
 use Rattle.type_parts.specs.Objects.{has_class, is_dynamic}
 use Rattle.typed_tree.specs.declared.units.Unit as typed
 use Rattle.held_suppositions.proofs.Below.{listed}
-use Rattle.held_suppositions.specs.Below.{AgreedLaw, ListedLaw, ClassesLaw, MethodsLaw}
+use Rattle.held_suppositions.specs.Below.{ConsistencyLaw, ListedLaw, ClassesLaw, MethodsLaw}
 use Rattle.numbered_methods.specs.Laws as numbered
 use Rattle.numbered_methods.specs.Laws.{HaveDeclaredMethods}
 use Rattle.sound_units.specs.Laws.{ProgramLaw}
@@ -43,7 +43,7 @@ marked unit have class parent dynamic fields methods place method at stands is =
 all_at : {X : Type 0} (P : X → Type 0) (xs : List X) (place : ℕ) (x : X) → All P xs → slice_get xs place ≡ Some x → P x
 all_at P xs place x all at = subst P (get_or_from_slice_get xs place x x at) (all place x (slice_get_within xs place x at))
 
-pub all_typed : AgreedLaw → ListedLaw → ClassesLaw → MethodsLaw → numbered.MethodsLaw → ProgramLaw → SupportedLaw → UnitsAreWellTyped → WellTypedLaw
+pub all_typed : ConsistencyLaw → ListedLaw → ClassesLaw → MethodsLaw → numbered.MethodsLaw → ProgramLaw → SupportedLaw → UnitsAreWellTyped → WellTypedLaw
 all_typed agreed by_name classes methods declared parts supported typed_by held name texts sources gathers program is written room bounded kept =
     let sound = parts sources program is bounded in
     let told = declared held name texts sources gathers program is in

@@ -2,7 +2,7 @@
 
 ghost use Rattle.well_typed_programs.specs.Laws.{WellTypedLaw};
 
-use held_suppositions::{agreed_program_laws, held_supposition_laws, lawful_method_laws};
+use held_suppositions::{consistent_program_laws, satisfied_supposition_laws, lawful_method_laws};
 use numbered_methods::numbered_method_laws;
 use sound_units::sound_unit_laws;
 use unit_references::unit_reference_laws;
@@ -11,10 +11,10 @@ use unit_references::unit_reference_laws;
 pub fn well_typed_program_laws()
     ensures { WellTypedLaw }
 {
-    agreed_program_laws();
+    consistent_program_laws();
     lawful_method_laws();
     numbered_method_laws();
     sound_unit_laws();
-    held_supposition_laws();
+    satisfied_supposition_laws();
     unit_reference_laws();
 }

@@ -22,7 +22,7 @@ abbrev pub IsTooLong : Option (List ℕ) → Option (List ℕ) → InputError �
 IsTooLong old new (e.TooLarge number) = HasMore old new number
 IsTooLong old new other = Unit {0}
 
--- the fact holds, unless the error is a fault of the source or want of memory
+-- the fact holds, unless the error is a fault of the source or out of memory
 abbrev pub Unless : InputError → Type 0 → Type 0
 Unless e.Failed P = Unit {0}
 Unless e.NoMemory P = Unit {0}

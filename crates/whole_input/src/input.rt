@@ -19,7 +19,7 @@ pub fn whole_input<S: Source>(alloc: Global, input: &mut S) -> Result<Vec<u8>, I
     ensures whole { IfOk result (λ bytes. IsWhole (S.remaining input.old) (S.remaining input.new) bytes.items) }
     ensures large { IfErr result (IsTooLong (S.remaining input.old) (S.remaining input.new)) }
     // Where the source tells what is to come, an input within the limit is what is answered, and a longer one is told as such: but
-    // for a fault of the source or want of memory.
+    // for a fault of the source or out of memory.
     ensures accepts { IfSome (S.remaining input.old) (λ held. length held ≤ INPUT_LIMIT
         → MatchResult result (λ bytes. bytes.items ≡ held) (λ error. Unless error ⊥)) }
     ensures refuses { IfSome (S.remaining input.old) (λ held. INPUT_LIMIT < length held

@@ -22,7 +22,7 @@ use Rattle.well_formed.specs.Typed.{IsTyped, HasPlace, IsOwn, TakeEach, FillEach
 use Rattle.object_vmt.specs.Members.{Members, members_of, members_in}
 use Rattle.object_vmt.specs.Slots.{method_at}
 use Rattle.well_formed.specs.Laws.{HaveTypes}
-use Rattle.wider_scopes.specs.Wider.{IsSame, Widens}
+use Rattle.wider_scopes.specs.Weakening.{IsSame, Weakens}
 use Rattle.wider_scopes.proofs.Types.{within_some, some_of, more_kept, more_descends, more_field, more_members, more_value, more_joins}
 
 same_prototype : (one other : Routine) → IsSame one other → prototype one ≡ prototype other
@@ -33,7 +33,7 @@ same_prototype one other same =
     let far = same.far in
     cc
 
-module _ (have : HaveTypes) (s t : Scope) (w : Widens s t) where
+module _ (have : HaveTypes) (s t : Scope) (w : Weakens s t) where
   -- what holds over the types of the first and others holds over those of the second
   over : (P : List TypeDef → Type 0) → P (s.types ++ w.types.0) → P t.types
   over P h = subst P (sym w.types.1) h

@@ -14,12 +14,12 @@ use Rattle.well_formed.specs.Scopes.{Prototype, Scope}
 use Rattle.well_formed.specs.Typed.{IsTyped, HasPlace, TakeEach, sort_of}
 use Rattle.well_formed.specs.WellFormed.{IsCondition, IsCount, IsWidth, IsWritten, IsTaken, IsAssignment, IsCopy, IsCounted, IsDestructorOf, IsDestructor, IsUnmade, within, IsStatement, AreStatements, AreArms}
 use Rattle.well_formed.specs.Laws.{HaveTypes}
-use Rattle.wider_scopes.specs.Wider.{Widens}
+use Rattle.wider_scopes.specs.Weakening.{Weakens}
 use Rattle.wider_scopes.proofs.Nodes.{asked, descends, is_object, sorted, takes, variable, routine, slot_fits, place_type, typed, place, taken}
 
 -- inside a `with` too
-within_widens : (s t : Scope) (ty : TypeId) → Widens s t → Widens (within s ty) (within t ty)
-within_widens s t ty w = record {
+within_weakens : (s t : Scope) (ty : TypeId) → Weakens s t → Weakens (within s ty) (within t ty)
+within_weakens s t ty w = record {
   defined = w.defined;
   types = w.types;
   others = w.others;
@@ -30,7 +30,7 @@ within_widens s t ty w = record {
   withs = ap (λ (all : List TypeId). all ++ ty ∷ []) w.withs;
 }
 
-module _ (have : HaveTypes) (s t : Scope) (w : Widens s t) where
+module _ (have : HaveTypes) (s t : Scope) (w : Weakens s t) where
   condition : (e : Expression) → IsCondition s e → IsCondition t e
   condition e h = (typed have s t w e h.0, sorted have s t w (λ (d : Option TypeDef). IsBoolean d) e h.0 h.1)
 
@@ -115,7 +115,7 @@ module _ (have : HaveTypes) (s t : Scope) (w : Widens s t) where
   fields_there at ty there h = asked have s t w (λ (d : Option TypeDef). IsRecord d ⊎ IsObject d) ty (place_type have s t w at ty there) h
 
 mutual
-  pub statement : (have : HaveTypes) (one : Statement) (s t : Scope) → Widens s t → IsStatement s one → IsStatement t one
+  pub statement : (have : HaveTypes) (one : Statement) (s t : Scope) → Weakens s t → IsStatement s one → IsStatement t one
   statement have (Assign at e) s t w h = assigned have s t w at e h
   statement have (CopyAll to from) s t w h = copied have s t w to from h
   statement have (Run call) s t w h = (typed have s t w call h.0, h.1)
@@ -126,17 +126,17 @@ mutual
   statement have (Case e all other) s t w h = (typed have s t w e h.0, chosen have s t w e h.0 h.1, arms have all s t w h.2, statement have other s t w h.3)
   statement have (For v ty from to down checked body) s t w h = (counted have s t w v ty from to h.0, statement have body s t w h.1)
   statement have (With at body) s t w h =
-      (h.0, place have s t w at h.0 h.1, fields_there have s t w at h.0 h.1 h.2, statement have body (within s h.0) (within t h.0) (within_widens s t h.0 w) h.3)
+      (h.0, place have s t w at h.0 h.1, fields_there have s t w at h.0 h.1 h.2, statement have body (within s h.0) (within t h.0) (within_weakens s t h.0 w) h.3)
   statement have (WriteItems items line) s t w h = λ k d below. written have s t w (get_or items k d) (h k d below)
   statement have (ReadItems items line) s t w h = λ k d below. read have s t w (get_or items k d) (h k d below)
   statement have (Halt e) s t w h = count have s t w e h
   statement have Exit s t w h = tt
   statement have (Unmake pointer with args) s t w h = unmade have s t w pointer with args h
 
-  statements : (have : HaveTypes) (all : Statements) (s t : Scope) → Widens s t → AreStatements s all → AreStatements t all
+  statements : (have : HaveTypes) (all : Statements) (s t : Scope) → Weakens s t → AreStatements s all → AreStatements t all
   statements have NoStatements s t w h = tt
   statements have (Then one rest) s t w h = (statement have one s t w h.0, statements have rest s t w h.1)
 
-  arms : (have : HaveTypes) (all : Arms) (s t : Scope) → Widens s t → AreArms s all → AreArms t all
+  arms : (have : HaveTypes) (all : Arms) (s t : Scope) → Weakens s t → AreArms s all → AreArms t all
   arms have NoArms s t w h = tt
   arms have (Branch labels body rest) s t w h = (h.0, statement have body s t w h.1, arms have rest s t w h.2)

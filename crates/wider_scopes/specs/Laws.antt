@@ -5,13 +5,13 @@ use Rattle.typed_tree.specs.Statements.{Statement}
 use Rattle.well_formed.specs.Scopes.{Scope}
 use Rattle.well_formed.specs.Typed.{IsTyped, HasPlace}
 use Rattle.well_formed.specs.WellFormed.{IsStatement}
-use Rattle.wider_scopes.specs.Wider.{Widens}
+use Rattle.wider_scopes.specs.Weakening.{Weakens}
 
 abbrev pub ExpressionsStay : Type 0
-ExpressionsStay = (s t : Scope) → Widens s t → (e : Expression) → IsTyped s e → IsTyped t e
+ExpressionsStay = (s t : Scope) → Weakens s t → (e : Expression) → IsTyped s e → IsTyped t e
 
 abbrev pub PlacesStay : Type 0
-PlacesStay = (s t : Scope) → Widens s t → (at : Place) (ty : TypeId) → HasPlace s at ty → HasPlace t at ty
+PlacesStay = (s t : Scope) → Weakens s t → (at : Place) (ty : TypeId) → HasPlace s at ty → HasPlace t at ty
 
 abbrev pub StatementsStay : Type 0
-StatementsStay = (s t : Scope) → Widens s t → (one : Statement) → IsStatement s one → IsStatement t one
+StatementsStay = (s t : Scope) → Weakens s t → (one : Statement) → IsStatement s one → IsStatement t one

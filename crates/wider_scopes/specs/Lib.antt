@@ -1,2 +1,2 @@
-pub mod Wider
+pub mod Weakening
 pub mod Laws

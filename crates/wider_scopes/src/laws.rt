@@ -5,7 +5,7 @@ ghost use Rattle.wider_scopes.specs.Laws.{ExpressionsStay, PlacesStay, Statement
 use well_formed::typed_laws;
 
 /// What is typed or well formed in a scope is so in a wider one: with types at the end, and globals, routines and variables, of the unit itself and of others, besides.
-pub fn wider_laws()
+pub fn weakening_laws()
     ensures expressions { ExpressionsStay }
     ensures places { PlacesStay }
     ensures statements { StatementsStay }

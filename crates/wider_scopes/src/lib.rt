@@ -3,4 +3,4 @@
 
 mod laws;
 
-pub use laws::wider_laws;
+pub use laws::weakening_laws;

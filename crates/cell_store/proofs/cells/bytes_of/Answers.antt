@@ -5,20 +5,20 @@ use Rattle.meaning.specs.Store.{byte_in, bytes_in}
 use Rattle.cell_store.specs.declared.cells.Tree.{Tree}
 use Rattle.cell_store.specs.Views.{view_tree, view_parts}
 use Rattle.cell_store.specs.Finding.{Gets}
-use Rattle.cell_store.proofs.Texts.{after_front, bytes_from, bytes_first, bytes_more, bytes_stop}
+use Rattle.cell_store.proofs.Texts.{after_prefix, bytes_from, bytes_first, bytes_more, bytes_stop}
 use Rattle.cell_store.proofs.cells.bytes_of.Goals as goal
 
 pub cells-init : goal.cells-init
 cells-init c =
     bytes_first c.args.cells.now c.args.count
-    ∙ ap (λ (front : List ℕ). after_front front (bytes_from 0 c.args.count c.args.cells.now)) (sym c.new-bytes.ensures.items)
+    ∙ ap (λ (front : List ℕ). after_prefix front (bytes_from 0 c.args.count c.args.cells.now)) (sym c.new-bytes.ensures.items)
 
 pub cells-preserved : goal.cells-preserved
 cells-preserved c =
     let cell = c.index-cells-i in
     c.cells.invariant
     ∙ bytes_more c.cells.bytes.items c.in_ok-byte.byte c.cells.i c.args.cells.now c.args.count cell.result (omega arith) (omega arith) (ap (λ (x : Tree). byte_in (view_tree x)) (sym cell.is) ∙ c.in_ok-byte.ensures)
-    ∙ ap (λ (front : List ℕ). after_front front (bytes_from (c.cells.i + 1) c.args.count c.args.cells.now)) (sym c.in_ok-push.ensures.items)
+    ∙ ap (λ (front : List ℕ). after_prefix front (bytes_from (c.cells.i + 1) c.args.count c.args.cells.now)) (sym c.in_ok-push.ensures.items)
 
 pub returns-in_err-byte : goal.returns-in_err-byte
 returns-in_err-byte c =

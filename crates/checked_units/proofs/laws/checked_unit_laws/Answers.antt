@@ -4,10 +4,10 @@ use Rattle.checked_units.proofs.Predeclared.{first_begun}
 use Rattle.checked_units.proofs.laws.checked_unit_laws.Goals as goal
 
 pub returns-clause-sources : goal.returns-clause-sources
-returns-clause-sources c = source_formed c.wider_laws.ensures.statements c.part_keeping_law.ensures
+returns-clause-sources c = source_formed c.weakening_laws.ensures.statements c.part_keeping_law.ensures
 
 pub returns-clause-bare : goal.returns-clause-bare
-returns-clause-bare c = bare_formed c.wider_laws.ensures.statements c.part_keeping_law.ensures c.constant_value_law.ensures.kept
+returns-clause-bare c = bare_formed c.weakening_laws.ensures.statements c.part_keeping_law.ensures c.constant_value_law.ensures.kept
 
 pub returns-clause-used : goal.returns-clause-used
 returns-clause-used c = λ name. record {

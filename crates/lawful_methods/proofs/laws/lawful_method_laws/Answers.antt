@@ -9,7 +9,7 @@ pub returns-clause-own : goal.returns-clause-own
 returns-clause-own c = all_own_methods
 
 pub returns-clause-lawful : goal.returns-clause-lawful
-returns-clause-lawful c = all_lawful c.agreed_program_laws.ensures.agreed c.agreed_program_laws.ensures.declarers
+returns-clause-lawful c = all_lawful c.consistent_program_laws.ensures.agreed c.consistent_program_laws.ensures.declarers
 
 pub returns-clause-methods : goal.returns-clause-methods
-returns-clause-methods c = all_have_methods c.agreed_program_laws.ensures.agreed c.agreed_program_laws.ensures.declarers c.declared_method_laws.ensures
+returns-clause-methods c = all_have_methods c.consistent_program_laws.ensures.agreed c.consistent_program_laws.ensures.declarers c.declared_method_laws.ensures

@@ -1,7 +1,7 @@
 use Rattle.std.proofs.Common.{◌≡◌, ap, ◌∙◌}
 use Rattle.type_tree.specs.declared.initializer.Initializer.{Initializer}
 use Rattle.typed_constants.specs.Trees.{Initial, list, group, view_initializer, view_items, view_fields}
-use Rattle.typed_constants.specs.FirstValues.{judged}
+use Rattle.typed_constants.specs.Initializers.{judged}
 use Rattle.typed_constants.proofs.Views.{view_list, view_group}
 use Rattle.typed_constants.proofs.initial.+parts.Goals as goal
 

@@ -1,7 +1,7 @@
 use Rattle.std.proofs.Common.{◌≡◌, drop}
 use Rattle.std.specs.Option.{option_copied}
 use Rattle.typed_constants.specs.Trees.{view_items, view_fields}
-use Rattle.typed_constants.specs.FirstValues.{items_judged, fields_judged}
+use Rattle.typed_constants.specs.Initializers.{items_judged, fields_judged}
 use Rattle.typed_constants.proofs.initial.+parts.Given as goal
 
 abbrev pub invariant-items_judged-loop-one : goal.invariant-items_judged-loop-one

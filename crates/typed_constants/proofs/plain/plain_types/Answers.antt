@@ -2,7 +2,7 @@ use Rattle.std.proofs.Common.{◌≡◌, ℕ, ◌+◌, Bool, List, [], ◌∷◌
 use Rattle.std.proofs.lemmas.Option.{slice_get_within, get_or_from_slice_get}
 use Rattle.std.specs.List.{slice_get}
 use Rattle.type_layout.specs.declared.definitions.TypeDef.{TypeDef}
-use Rattle.typed_constants.specs.FirstValues.{plain_by, plain_behind}
+use Rattle.typed_constants.specs.Initializers.{plain_by, plain_behind}
 use Rattle.typed_constants.proofs.plain.plain_types.Goals as goal
 
 module _ (given : List Bool) (types : List TypeDef) (n : ℕ) (one : TypeDef) (e : slice_get types n ≡ Some one) where

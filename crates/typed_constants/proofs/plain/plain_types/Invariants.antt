@@ -1,5 +1,5 @@
 use Rattle.std.proofs.Common.{◌≡◌, [], drop}
-use Rattle.typed_constants.specs.FirstValues.{plain_behind}
+use Rattle.typed_constants.specs.Initializers.{plain_behind}
 use Rattle.typed_constants.proofs.plain.plain_types.Given as goal
 
 -- what is left is told behind what was told
