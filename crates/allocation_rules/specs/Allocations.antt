@@ -13,6 +13,7 @@ use Rattle.typed_tree.specs.declared.statements.Destructor.{Destructor}
 use Rattle.typed_tree.specs.declared.statements.Destructor.TheVariants as destructor
 use Rattle.typed_tree.specs.Expressions.{Expression, NoArguments, Std, Make}
 use Rattle.typed_tree.specs.Statements.{Statement, Unmake}
+use Rattle.typed_tree.specs.Standard as routine
 use Rattle.type_fits.specs.Fits.{definition}
 use Rattle.scopes.specs.Environment.{Environment}
 use Rattle.typing_rules.specs.declared.faults.Rule.TheVariants as rules
@@ -49,7 +50,7 @@ member_at test types (Some class) name = of_kind test (method_in types class nam
 
 -- New is also a function of a pointer type
 abbrev pub blank_by : Place → TypeId → Option TypeDef → Judgement Expression
-blank_by place ty (Some (type.PointerTo target)) = makes (Std (Some ty) 28 NoArguments)
+blank_by place ty (Some (type.PointerTo target)) = makes (Std (Some ty) routine.new NoArguments)
 blank_by place ty _ = refuses (broken place rules.Called)
 
 -- a new block for what a pointer type points to, without a constructor

@@ -2,6 +2,7 @@
 
 ghost use Rattle.std.specs.Prelude.{◌≡◌, Ok, Some, map, option_copied};
 ghost use Rattle.typed_tree.specs.Expressions.{NoArguments, Std, Make, view_expr};
+ghost use Rattle.typed_tree.specs.Standard as routine;
 ghost use Rattle.typing_rules.specs.Judgements.{Gives};
 ghost use Rattle.typing_rules.specs.Selectors.{target_in};
 ghost use Rattle.call_rules.specs.Given.{view_handed, arguments_of};
@@ -12,6 +13,7 @@ use method_rules::{method_in, routine_named};
 use scopes::Scope;
 use std::alloc::Global;
 use type_layout::{Header, Kind, Method, Name, Place, RoutineId, TypeDef, TypeId, Types};
+use typed_tree::standard::NEW;
 use typed_tree::{Arg, Expr};
 use typing_rules::{Refusal, Rule, broken, definition};
 
@@ -42,12 +44,12 @@ pub(crate) fn target_in(types: &Types, ty: Option<TypeId>) -> Option<TypeId>
 }
 
 fn blank_node(alloc: Global, ty: TypeId) -> Expr
-    ensures { view_expr result ≡ Std (Some ty) 28 NoArguments }
+    ensures { view_expr result ≡ Std (Some ty) routine.new NoArguments }
 {
     let args = Vec::new(alloc);
     Expr::Std {
         ty: Some(ty),
-        number: 28,
+        number: NEW,
         args,
     }
 }

@@ -9,6 +9,7 @@ use Rattle.pascal_grammar.specs.declared.lexeme.Position.{Position}
 use Rattle.expression_tree.specs.Trees.{Tree, name, call, Operand, Operands, plain, no_operands, and_operand}
 use Rattle.typed_tree.specs.declared.expressions.Value.TheVariants as value
 use Rattle.typed_tree.specs.Expressions.{Expression, Const}
+use Rattle.typed_tree.specs.Standard as routine
 use Rattle.typed_tree.specs.Statements.{Statement, Written, Run}
 use Rattle.type_fits.specs.Fits.{definition, stored_as, IsInteger}
 use Rattle.well_formed.specs.Scopes.{Scope}
@@ -190,15 +191,15 @@ module _ (g : Environment) (s : Scope) (a : AgreesWithin g s) where
 
   standard_well : (here : Position) (n : ℕ) (all : Operands) (one : Statement) → AreInOperands all → (standard_run g here n (standard_of n) all).holds one → IsStatement s one
   standard_well here n all one l =
-      either_run (λ k. standard_run g here n k all) one (IsStatement s one) (n == 22) _ _ (λ h. written_well false all one l h)
-      (either_run (λ k. standard_run g here n k all) one (IsStatement s one) (n == 23) _ _ (λ h. written_well true all one l h)
-      (either_run (λ k. standard_run g here n k all) one (IsStatement s one) (n == 24) _ _ (λ h. taken_well here false all one l h)
-      (either_run (λ k. standard_run g here n k all) one (IsStatement s one) (n == 25) _ _ (λ h. taken_well here true all one l h)
-      (either_run (λ k. standard_run g here n k all) one (IsStatement s one) (n == 30) _ _ (λ h. halting here all one h.part l h.holds h.made)
-      (either_run (λ k. standard_run g here n k all) one (IsStatement s one) (n == 31) _ _ (λ h. left_well here.place h.part one h.made)
-      (either_run (λ k. standard_run g here n k all) one (IsStatement s one) (n == 20) _ _ (λ h. telling_by here all one l (are_two all) h)
-      (either_run (λ k. standard_run g here n k all) one (IsStatement s one) (n == 28) _ _ (λ h. managed_well here n all one l (plain_pair all) refl h)
-      (either_run (λ k. standard_run g here n k all) one (IsStatement s one) (n == 29) _ _ (λ h. managed_well here n all one l (plain_pair all) refl h)
+      either_run (λ k. standard_run g here n k all) one (IsStatement s one) (n == routine.write) _ _ (λ h. written_well false all one l h)
+      (either_run (λ k. standard_run g here n k all) one (IsStatement s one) (n == routine.write_ln) _ _ (λ h. written_well true all one l h)
+      (either_run (λ k. standard_run g here n k all) one (IsStatement s one) (n == routine.read) _ _ (λ h. taken_well here false all one l h)
+      (either_run (λ k. standard_run g here n k all) one (IsStatement s one) (n == routine.read_ln) _ _ (λ h. taken_well here true all one l h)
+      (either_run (λ k. standard_run g here n k all) one (IsStatement s one) (n == routine.halt) _ _ (λ h. halting here all one h.part l h.holds h.made)
+      (either_run (λ k. standard_run g here n k all) one (IsStatement s one) (n == routine.exit) _ _ (λ h. left_well here.place h.part one h.made)
+      (either_run (λ k. standard_run g here n k all) one (IsStatement s one) (n == routine.str) _ _ (λ h. telling_by here all one l (are_two all) h)
+      (either_run (λ k. standard_run g here n k all) one (IsStatement s one) (n == routine.new) _ _ (λ h. managed_well here n all one l (plain_pair all) refl h)
+      (either_run (λ k. standard_run g here n k all) one (IsStatement s one) (n == routine.dispose) _ _ (λ h. managed_well here n all one l (plain_pair all) refl h)
       (λ h. proceeding_well here n all one l h)))))))))
 
   -- ---- calls

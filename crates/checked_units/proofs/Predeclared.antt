@@ -52,11 +52,11 @@ module _ (P : Entry → Type 0) where
   types_have symbols number (name ∷ names) each h =
       types_have (with_known symbols name (entry.Ty (type_id number))) (number + 1) names (λ k low. each k (omega (arith, low))) (known_has symbols name (entry.Ty (type_id number)) h (each number (omega arith)))
 
-  standard_have : (symbols : SymbolList) (number : ℕ) (names : List (List ℕ)) → ((k : ℕ) → P (entry.Std k)) → EachOf P symbols → EachOf P (with_standard symbols number names)
+  standard_have : (symbols : SymbolList) (rows : List (List ℕ × ℕ)) → ((k : ℕ) → P (entry.Std k)) → EachOf P symbols → EachOf P (with_standard symbols rows)
   unfolding with_standard
-  standard_have symbols number [] each h = h
-  standard_have symbols number (name ∷ names) each h =
-      standard_have (with_known symbols name (entry.Std number)) (number + 1) names each (known_has symbols name (entry.Std number) h (each number))
+  standard_have symbols [] each h = h
+  standard_have symbols (row ∷ rows) each h =
+      standard_have (with_known symbols row.0 (entry.Std row.1)) rows each (known_has symbols row.0 (entry.Std row.1) h (each row.1))
 
   constants_have : (symbols : SymbolList) → P (number_entry (type_id 2) (pos 32767)) → P (number_entry (type_id 4) (pos 2147483647)) → P (number_entry (type_id 6) (pos 0)) → P (number_entry (type_id 6) (pos 1))
       → EachOf P symbols → EachOf P (with_constants symbols)
@@ -74,7 +74,7 @@ module _ (P : Entry → Type 0) where
   predeclared_have : ((k : ℕ) → k < 11 → P (entry.Ty (type_id k))) → P (number_entry (type_id 2) (pos 32767)) → P (number_entry (type_id 4) (pos 2147483647)) → P (number_entry (type_id 6) (pos 0)) → P (number_entry (type_id 6) (pos 1))
       → ((k : ℕ) → P (entry.Std k)) → EachOf P predeclared
   unfolding predeclared
-  predeclared_have types a b c d routines = standard_have _ 0 standard routines (constants_have _ a b c d (types_have [] 0 type_names (λ k low. types k (let few = seven in omega (arith, low, few))) tt))
+  predeclared_have types a b c d routines = standard_have _ standard routines (constants_have _ a b c d (types_have [] 0 type_names (λ k low. types k (let few = seven in omega (arith, low, few))) tt))
 
 -- ---- the table
 

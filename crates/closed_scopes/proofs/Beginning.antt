@@ -37,11 +37,11 @@ types_known n symbols number [] low h = h
 types_known n symbols number (name ∷ names) low h =
     types_known n (with_known symbols name (Ty (type_id number))) (number + 1) names (omega arith) (known_below n symbols name (Ty (type_id number)) h (omega arith, tt))
 
-standard_known : (n : ℕ) (symbols : SymbolList) (number : ℕ) (names : List (List ℕ)) → AreBelow n (in_names symbols) → AreBelow n (in_names (with_standard symbols number names))
+standard_known : (n : ℕ) (symbols : SymbolList) (rows : List (List ℕ × ℕ)) → AreBelow n (in_names symbols) → AreBelow n (in_names (with_standard symbols rows))
 unfolding with_standard
-standard_known n symbols number [] h = h
-standard_known n symbols number (name ∷ names) h =
-    standard_known n (with_known symbols name (Std number)) (number + 1) names (known_below n symbols name (Std number) h tt)
+standard_known n symbols [] h = h
+standard_known n symbols (row ∷ rows) h =
+    standard_known n (with_known symbols row.0 (Std row.1)) rows (known_below n symbols row.0 (Std row.1) h tt)
 
 constants_known : (n : ℕ) (symbols : SymbolList) → 7 ≤ n → AreBelow n (in_names symbols) → AreBelow n (in_names (with_constants symbols))
 unfolding with_constants
@@ -58,7 +58,7 @@ seven = omega arith
 predeclared_below : AreBelow 11 (in_names predeclared)
 unfolding predeclared
 predeclared_below =
-    standard_known 11 _ 0 standard (constants_known 11 _ (omega arith) (types_known 11 [] 0 type_names (let few = seven in omega arith) tt))
+    standard_known 11 _ standard (constants_known 11 _ (omega arith) (types_known 11 [] 0 type_names (let few = seven in omega arith) tt))
 
 types_below : (by : ℕ) → AreBelow 11 (with_type by (slice_get type_table.types by))
 types_below zero = tt

@@ -10,6 +10,7 @@ use Rattle.tp_lexer.specs.declared.token.Feature.{Feature}
 use Rattle.left_out_names.specs.Names.{feature_of}
 use Rattle.typed_tree.specs.declared.expressions.Value.{Value}
 use Rattle.typed_tree.specs.declared.expressions.Value.TheVariants as value
+use Rattle.typed_tree.specs.Standard as routine
 use Rattle.scopes.specs.declared.entries.Entry.{Entry}
 use Rattle.scopes.specs.declared.entries.Entry.TheVariants as entry
 use Rattle.scopes.specs.Environment.{Environment, Meaning, named, member, find}
@@ -38,8 +39,9 @@ use Rattle.constant_expressions.specs.Values.{integer, truth, character, number_
 -- the functions that a constant may have, by their numbers among the standard routines
 unfoldable pub functions : List (ℕ × Function)
 functions =
-    (0, Abs) ∷ (2, Odd) ∷ (3, Ord) ∷ (4, Chr) ∷ (5, Succ) ∷ (6, Pred) ∷ (9, Hi) ∷ (10, Lo) ∷ (11, Swap) ∷ (13, UpCase) ∷
-    (14, Length) ∷ []
+    (routine.abs, Abs) ∷ (routine.odd, Odd) ∷ (routine.ord, Ord) ∷ (routine.chr, Chr) ∷ (routine.succ, Succ) ∷
+    (routine.pred, Pred) ∷ (routine.hi, Hi) ∷ (routine.lo, Lo) ∷ (routine.swap, Swap) ∷ (routine.up_case, UpCase) ∷
+    (routine.length, Length) ∷ []
 
 -- the function of the first row with a number
 abbrev pub function_in : List (ℕ × Function) → ℕ → Option Function

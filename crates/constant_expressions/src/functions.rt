@@ -15,6 +15,7 @@ use standard_rules::{accepts_one, signature_of};
 use syntax_tree::Designator;
 use type_layout::{Host, Name, Place, TypeId, Types};
 use typed_tree::Value;
+use typed_tree::standard::{ABS, CHR, HI, LENGTH, LO, ODD, ORD, PRED, SUCC, SWAP, UP_CASE};
 use typing_rules::{
     Refusal, Rule, Sort, broken, is_integer, sort_of_constant, sort_of_type, undeclared,
 };
@@ -46,17 +47,17 @@ pub(crate) struct StandardFunction {
 }
 
 const FUNCTIONS: [(u32, Function); 11] = [
-    (0, Function::Abs),
-    (2, Function::Odd),
-    (3, Function::Ord),
-    (4, Function::Chr),
-    (5, Function::Succ),
-    (6, Function::Pred),
-    (9, Function::Hi),
-    (10, Function::Lo),
-    (11, Function::Swap),
-    (13, Function::UpCase),
-    (14, Function::Length),
+    (ABS, Function::Abs),
+    (ODD, Function::Odd),
+    (ORD, Function::Ord),
+    (CHR, Function::Chr),
+    (SUCC, Function::Succ),
+    (PRED, Function::Pred),
+    (HI, Function::Hi),
+    (LO, Function::Lo),
+    (SWAP, Function::Swap),
+    (UP_CASE, Function::UpCase),
+    (LENGTH, Function::Length),
 ];
 
 // The function of the first row with a number.

@@ -18,6 +18,7 @@ use Rattle.tp_lexer.specs.declared.token.Feature.{Feature}
 use Rattle.left_out_names.specs.Names.{feature_of}
 use Rattle.typed_tree.specs.declared.expressions.Value.{Value}
 use Rattle.typed_tree.specs.declared.expressions.Value.TheVariants as value
+use Rattle.typed_tree.specs.Standard as routine
 use Rattle.values.specs.declared.ordinals.IntegerType.{IntegerType}
 use Rattle.values.specs.declared.ordinals.IntegerType.TheVariants.{LongInt, Byte}
 use Rattle.values.specs.Ordinals.{kept}
@@ -109,19 +110,19 @@ set_no_ordinal : (types : List TypeDef) (ty : TypeId) → IsWholeSet types ty �
 set_no_ordinal types ty w k = subst (λ (d : Option TypeDef). IsOrdinal (sort_by types ty d)) w.is k
 
 -- Succ and Pred are asked for an ordinal
-of_5 : (s : Sort) → IsTaken (signature_of 5) s → IsOrdinal s
+of_succ : (s : Sort) → IsTaken (signature_of routine.succ) s → IsOrdinal s
 unfolding signatures
-of_5 s h = h
+of_succ s h = h
 
-of_6 : (s : Sort) → IsTaken (signature_of 6) s → IsOrdinal s
+of_pred : (s : Sort) → IsTaken (signature_of routine.pred) s → IsOrdinal s
 unfolding signatures
-of_6 s h = h
+of_pred s h = h
 
-asked_5 : (number : ℕ) (s : Sort) → 5 ≡ number → IsTaken (signature_of number) s → IsOrdinal s
-asked_5 number s is h = of_5 s (subst (λ (n : ℕ). IsTaken (signature_of n) s) (sym is) h)
+asked_succ : (number : ℕ) (s : Sort) → routine.succ ≡ number → IsTaken (signature_of number) s → IsOrdinal s
+asked_succ number s is h = of_succ s (subst (λ (n : ℕ). IsTaken (signature_of n) s) (sym is) h)
 
-asked_6 : (number : ℕ) (s : Sort) → 6 ≡ number → IsTaken (signature_of number) s → IsOrdinal s
-asked_6 number s is h = of_6 s (subst (λ (n : ℕ). IsTaken (signature_of n) s) (sym is) h)
+asked_pred : (number : ℕ) (s : Sort) → routine.pred ≡ number → IsTaken (signature_of number) s → IsOrdinal s
+asked_pred number s is h = of_pred s (subst (λ (n : ℕ). IsTaken (signature_of n) s) (sym is) h)
 
 module _ (types : List TypeDef) (sound : IsSound types) where
   -- an ordinal is a number
@@ -182,9 +183,9 @@ module _ (types : List TypeDef) (sound : IsSound types) where
             (
               (λ is. made_each _ _ (λ at x c h asked e. made_character (lo (number_of x.value)) c (omega arith) e)),
               (
-                (λ is. made_each _ _ (λ at x c h asked e. stepping at x c (number_of x.value +ℤ pos 1) h (asked_5 number (sort_of_constant types x.ty x.value) is asked) e)),
+                (λ is. made_each _ _ (λ at x c h asked e. stepping at x c (number_of x.value +ℤ pos 1) h (asked_succ number (sort_of_constant types x.ty x.value) is asked) e)),
                 (
-                  (λ is. made_each _ _ (λ at x c h asked e. stepping at x c (number_of x.value -ℤ pos 1) h (asked_6 number (sort_of_constant types x.ty x.value) is asked) e)),
+                  (λ is. made_each _ _ (λ at x c h asked e. stepping at x c (number_of x.value -ℤ pos 1) h (asked_pred number (sort_of_constant types x.ty x.value) is asked) e)),
                   (
                     (λ is. made_each _ _ (λ at x c h asked e. made_number (pos (hi (number_of x.value))) c (small_long (hi (number_of x.value)) (omega arith)) e)),
                     (

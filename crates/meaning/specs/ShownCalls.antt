@@ -23,6 +23,7 @@ use Rattle.typed_tree.specs.declared.units.Routine.{Routine}
 use Rattle.typed_tree.specs.declared.units.Unit.{Unit as TypedUnit}
 use Rattle.typed_tree.specs.declared.units.Program.{Program}
 use Rattle.typed_tree.specs.Expressions.{Expression, Load, Call, CallVirtual, CallThrough, RoutineValue, Make, Std, Deref, FieldOf, Var, Own, NoReceiver, NoArguments, ByValue, ByPlace}
+use Rattle.typed_tree.specs.Standard.{size_of, new, dispose}
 use Rattle.typed_tree.specs.declared.statements.Destructor.TheVariants as destructor
 use Rattle.typed_tree.specs.Statements.{Statement, Assign, CopyAll, Run, Unmake}
 use Rattle.meaning.specs.Calls.{Do}
@@ -180,7 +181,7 @@ by_class n = CallVirtual (Some integer) (var n) 0 false NoArguments
 abbrev pub dispatching : Boxed → Seen
 dispatching b = shown b (id 14 ∷ []) (block (
     init 0
-    ∷ write (by_class 0 ∷ Load integer (FieldOf (var 0) 0) ∷ gives (id 4) 12 (ByPlace (var 0) NoArguments) ∷ [])
+    ∷ write (by_class 0 ∷ Load integer (FieldOf (var 0) 0) ∷ gives (id 4) size_of (ByPlace (var 0) NoArguments) ∷ [])
     ∷ [])) 2
 
 -- x without class
@@ -206,7 +207,7 @@ abbrev pub making : Boxed → Seen
 making b = shown b (id 15 ∷ []) (block (
     Assign (var 0) (Make (id 16) (routine_id 3) NoArguments)
     ∷ write (CallVirtual (Some integer) (Deref (load (id 15) 0)) 0 false NoArguments ∷ [])
-    ∷ Run (Std None 29 (ByValue (load (id 15) 0) NoArguments))
+    ∷ Run (Std None dispose (ByValue (load (id 15) 0) NoArguments))
     ∷ [])) 2
 
 -- Dispose(p, Done) frees the size of the class that the instance has, which New(P, Init) gave it, and not that of p's type
@@ -268,7 +269,7 @@ pub record CallExamples (b : Boxed) : Type 0 where
   pub assigning : assigning b ≡ ends (Ended 0) (codes "19") []
   pub making : making b ≡ ends (Undefined 5) (codes "2") []
   pub unmade : unmaking b (Assign (var 0) (Make (id 16) (routine_id 3) NoArguments)) ≡ ends (Undefined 2) (codes "d") []
-  pub unmaking : unmaking b (Run (Std None 28 (ByPlace (var 0) NoArguments))) ≡ ends (Undefined 1) [] []
+  pub unmaking : unmaking b (Run (Std None new (ByPlace (var 0) NoArguments))) ≡ ends (Undefined 1) [] []
   pub arguments : arguments b ≡ ends (Ended 200) [] (error_line (codes "200"))
   pub nested : nested b ≡ ends (Ended 0) (codes "6") []
   pub not_started : starting b (codes "A" ∷ []) ≡ ends (Ended 208) [] (error_line (codes "208"))

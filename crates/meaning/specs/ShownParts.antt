@@ -5,6 +5,7 @@ use Rattle.type_layout.specs.declared.definitions.TypeId.{TypeId}
 use Rattle.typed_tree.specs.declared.expressions.Value.TheVariants as constant
 use Rattle.typed_tree.specs.declared.expressions.BinaryOp.TheVariants as two
 use Rattle.typed_tree.specs.Expressions.{Expression, Const, Load, Binary, SetOf, Index, FieldOf, Deref, NoElements, One, Span, NoArguments, ByValue, ByPlace, Var}
+use Rattle.typed_tree.specs.Standard as routine
 use Rattle.typed_tree.specs.Statements.{Taken, Statement, Assign, CopyAll, Run, With, WriteItems, ReadItems}
 use Rattle.meaning.specs.Examples.{integer, boolean, id, shown, ends, error_line, var, load, int, number, on, chars, item, wide, write, block, call, gives, truth_of}
 
@@ -43,18 +44,18 @@ comparing = shown [] (write (
 abbrev pub editing : Seen
 editing = shown (id 3 ∷ []) (block (
     Assign (var 0) (chars (codes "abcd"))
-    ∷ Run (call 16 (ByPlace (var 0) (ByValue (number (pos 2)) (ByValue (number (pos 2)) NoArguments))))
-    ∷ Run (call 17 (ByValue (chars (codes "xy")) (ByPlace (var 0) (ByValue (number (pos 2)) NoArguments))))
+    ∷ Run (call routine.delete (ByPlace (var 0) (ByValue (number (pos 2)) (ByValue (number (pos 2)) NoArguments))))
+    ∷ Run (call routine.insert (ByValue (chars (codes "xy")) (ByPlace (var 0) (ByValue (number (pos 2)) NoArguments))))
     ∷ write (load (id 3) 0 ∷ chars (codes " ")
-    ∷ gives integer 19 (ByValue (chars (codes "yd")) (ByValue (load (id 3) 0) NoArguments)) ∷ chars (codes " ")
-    ∷ gives (id 3) 15 (ByValue (load (id 3) 0) (ByValue (number (pos 2)) (ByValue (number (pos 9)) NoArguments))) ∷ chars (codes " ")
-    ∷ gives integer 14 (ByValue (load (id 3) 0) NoArguments) ∷ [])
+    ∷ gives integer routine.pos (ByValue (chars (codes "yd")) (ByValue (load (id 3) 0) NoArguments)) ∷ chars (codes " ")
+    ∷ gives (id 3) routine.copy (ByValue (load (id 3) 0) (ByValue (number (pos 2)) (ByValue (number (pos 9)) NoArguments))) ∷ chars (codes " ")
+    ∷ gives integer routine.length (ByValue (load (id 3) 0) NoArguments) ∷ [])
     ∷ [])) [] 0
 
 -- Val('12x', i, c); Write(c, ' ', 'ab':4, '|', 'abc':2)
 abbrev pub valuing : Seen
 valuing = shown (integer ∷ integer ∷ []) (block (
-    Run (call 21 (ByValue (chars (codes "12x")) (ByPlace (var 0) (ByPlace (var 1) NoArguments))))
+    Run (call routine.val (ByValue (chars (codes "12x")) (ByPlace (var 0) (ByPlace (var 1) NoArguments))))
     ∷ WriteItems (item (int 1) ∷ item (chars (codes " ")) ∷ wide (chars (codes "ab")) (pos 4) ∷ item (chars (codes "|")) ∷ wide (chars (codes "abc")) (pos 2) ∷ []) true
     ∷ [])) [] 0
 
@@ -105,10 +106,10 @@ abbrev pub pointer : ℕ → Expression
 pointer n = load (id 11) n
 
 abbrev pub new : ℕ → Statement
-new n = Run (call 28 (ByPlace (var n) NoArguments))
+new n = Run (call routine.new (ByPlace (var n) NoArguments))
 
 abbrev pub dispose : ℕ → Statement
-dispose n = Run (call 29 (ByValue (pointer n) NoArguments))
+dispose n = Run (call routine.dispose (ByValue (pointer n) NoArguments))
 
 -- New(p); p^ := 3; q := p; Write(q^, p = q)
 abbrev pub pointing : Seen
@@ -171,9 +172,9 @@ reading input = shown (integer ∷ integer ∷ []) (block (
 -- Write(Eof); Read(c); Write(Ord(c)); Read(i); Write(i)
 abbrev pub at_eof : List ℕ → Seen
 at_eof input = shown (id 2 ∷ integer ∷ []) (block (
-    write (gives boolean 26 NoArguments ∷ [])
+    write (gives boolean routine.eof NoArguments ∷ [])
     ∷ ReadItems ((taken 0 (id 2)) ∷ []) false
-    ∷ write (gives integer 3 (ByValue (load (id 2) 0) NoArguments) ∷ [])
+    ∷ write (gives integer routine.ord (ByValue (load (id 2) 0) NoArguments) ∷ [])
     ∷ ReadItems ((taken 1 integer) ∷ []) false
     ∷ write (int 1 ∷ [])
     ∷ [])) input 0

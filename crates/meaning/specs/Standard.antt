@@ -49,7 +49,7 @@ pub data Standard : Type 0 where
   New : Standard
   Dispose : Standard
 
--- By their numbers, as the predeclared names have them. The four behind Val are Write, WriteLn, Read and ReadLn, which have
+-- In the order of their numbers (`Standard` of `typed_tree`). The four behind Val are Write, WriteLn, Read and ReadLn, which have
 -- statements of their own.
 abbrev pub standards : List (Option Standard)
 standards =

@@ -12,6 +12,7 @@ use tree_samples::PlaceSample::{Deref, Index};
 use tree_samples::StmtSample::{Assign, Block, Read, Run};
 use tree_samples::{StmtSample, UnitSample};
 use typed_tree::BinaryOp;
+use typed_tree::standard::{DISPOSE, NEW};
 
 // Write('a'), and then this.
 macro_rules! behind_a {
@@ -57,7 +58,7 @@ const SUM: Coded = behind_a!(
 );
 
 // Dispose of nil.
-const DISPOSED_NIL: Coded = behind_a!(&[], Run(Call(None, Standard(29), &[Value(NIL)])));
+const DISPOSED_NIL: Coded = behind_a!(&[], Run(Call(None, Standard(DISPOSE), &[Value(NIL)])));
 
 // A virtual call on an instance without a class.
 macro_rules! virtual_call {
@@ -81,11 +82,17 @@ const RECURSION: Coded = (
 );
 
 // A block of 8 bytes, in a heap of 24.
-const NEW: StmtSample = Run(Call(None, Standard(28), &[Place(FIRST)]));
+const NEW_FIRST: StmtSample = Run(Call(None, Standard(NEW), &[Place(FIRST)]));
 
-const THREE_BLOCKS: Coded = alone!(&[(POINTER, None)], Block(&[WRITE_A, NEW, NEW, NEW]));
+const THREE_BLOCKS: Coded = alone!(
+    &[(POINTER, None)],
+    Block(&[WRITE_A, NEW_FIRST, NEW_FIRST, NEW_FIRST])
+);
 
-const FOUR_BLOCKS: Coded = alone!(&[(POINTER, None)], Block(&[WRITE_A, NEW, NEW, NEW, NEW]));
+const FOUR_BLOCKS: Coded = alone!(
+    &[(POINTER, None)],
+    Block(&[WRITE_A, NEW_FIRST, NEW_FIRST, NEW_FIRST, NEW_FIRST])
+);
 
 // A numeral is read.
 const NUMERAL: Coded = behind_a!(
@@ -100,7 +107,7 @@ const NOWHERE: Coded = behind_a!(&[], written!(Load(INTEGER, &Deref(&NIL))));
 
 macro_rules! dispose {
     ($ty:expr) => {
-        Run(Call(None, Standard(29), &[Value(Load($ty, &FIRST))]))
+        Run(Call(None, Standard(DISPOSE), &[Value(Load($ty, &FIRST))]))
     };
 }
 
@@ -108,7 +115,7 @@ macro_rules! dispose {
 const DANGLING: Coded = behind_a!(
     &[(POINTER, None)],
     Block(&[
-        NEW,
+        NEW_FIRST,
         dispose!(POINTER),
         written!(Load(INTEGER, &Deref(&Load(POINTER, &FIRST)))),
     ])
@@ -118,7 +125,7 @@ const DANGLING: Coded = behind_a!(
 const WRONG_SIZE: Coded = behind_a!(
     &[(TO_BASE, None)],
     Block(&[
-        Assign(FIRST, Call(Some(TO_HEIR), Standard(28), &[])),
+        Assign(FIRST, Call(Some(TO_HEIR), Standard(NEW), &[])),
         dispose!(TO_BASE),
     ])
 );

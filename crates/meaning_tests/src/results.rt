@@ -11,6 +11,7 @@ use tree_samples::ElementSample::{One, Span};
 use tree_samples::ExprSample::{Binary, Call, Load, Number, SetOf, Text};
 use tree_samples::StmtSample::{Assign, Block, For, Read, Run, Write};
 use tree_samples::{ExprSample, ForSample, StmtSample};
+use typed_tree::standard::{COPY, EOF, LENGTH, ORD, VAL};
 use typed_tree::{BinaryOp, Variable};
 
 // Two numbers, and an operator in a type.
@@ -135,7 +136,7 @@ macro_rules! valued {
             Block(&[
                 Run(Call(
                     None,
-                    Standard(21),
+                    Standard(VAL),
                     &[Value(Text(TEXT, $text)), Place(FIRST), Place(SECOND)]
                 )),
                 written!(HELD),
@@ -237,21 +238,25 @@ const GROWN: StmtSample = Block(&[
     For(&LETTERS),
     longer!(Call(
         Some(TEXT),
-        Standard(15),
+        Standard(COPY),
         &[
             Value(Load(TEXT, &FIRST)),
             Value(ONE),
             Value(Number(INTEGER, 100))
         ]
     )),
-    written!(Call(Some(INTEGER), Standard(14), &[Value(Load(TEXT, &FIRST))])),
+    written!(Call(
+        Some(INTEGER),
+        Standard(LENGTH),
+        &[Value(Load(TEXT, &FIRST))]
+    )),
 ]);
 
 // Eof, a Char that is read, and an Integer.
 const ENDED: StmtSample = Block(&[
-    written!(Call(Some(BOOLEAN), Standard(26), &[])),
+    written!(Call(Some(BOOLEAN), Standard(EOF), &[])),
     Read(&[(FIRST, CHAR, false)], false),
-    written!(Call(Some(INTEGER), Standard(3), &[Value(Load(CHAR, &FIRST))])),
+    written!(Call(Some(INTEGER), Standard(ORD), &[Value(Load(CHAR, &FIRST))])),
     Read(&[(SECOND, INTEGER, false)], false),
     written!(Load(INTEGER, &SECOND)),
 ]);

@@ -7,6 +7,7 @@ use Rattle.typed_tree.specs.declared.expressions.Arg.{Arg}
 use Rattle.typed_tree.specs.declared.expressions.Expr.{Expr}
 use Rattle.typed_tree.specs.declared.expressions.Expr.TheVariants as expr
 use Rattle.typed_tree.specs.Expressions.{Expression, Std, view_expr}
+use Rattle.typed_tree.specs.Standard as routine
 use Rattle.call_rules.specs.Given.{Handed, view_handed, arguments_of}
 use Rattle.standard_rules.proofs.Nodes.{std_node}
 use Rattle.procedure_rules.specs.declared.rows.Slots.{Slots}
@@ -33,7 +34,7 @@ module _ (types : List TypeDef) (place : Place) (number : ℕ) (values : List Ex
 module _ (types : List TypeDef) (place : Place) where
   pub told_gives : (e : Expression) (width : Option Expression) (to : Expression) (before : Vec Arg Global) (s : Arg) (args : Vec Arg Global)
       → (told_number types place e width).run ≡ Ok (map view_handed before.items) → (variable types place Line to).run ≡ Ok (view_handed s) → args.items ≡ before.items ++ (s ∷ [])
-      → (told_into types place e width to).run ≡ Ok (view_expr (expr.Std None 20 args))
+      → (told_into types place e width to).run ≡ Ok (view_expr (expr.Std None routine.str args))
   told_gives e width to before s args f g h =
       let m : map view_handed args.items ≡ map view_handed before.items ++ (view_handed s ∷ []) = ap (map view_handed) h ∙ map-append view_handed before.items (s ∷ []) in
-      rw (f, g) (ap (λ (all : List Handed). Ok (Std None 20 (arguments_of all))) (sym m) ∙ ap (λ (n : Expression). Ok n) (sym (std_node None 20 args)))
+      rw (f, g) (ap (λ (all : List Handed). Ok (Std None routine.str (arguments_of all))) (sym m) ∙ ap (λ (n : Expression). Ok n) (sym (std_node None routine.str args)))

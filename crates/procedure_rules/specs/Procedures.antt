@@ -4,6 +4,7 @@ use Rattle.type_layout.specs.declared.definitions.TypeDef.{TypeDef}
 use Rattle.type_layout.specs.declared.texts.Place.{Place}
 use Rattle.typed_tree.specs.Expressions.{Expression, Load, Std}
 use Rattle.typed_tree.specs.Statements.{Written}
+use Rattle.typed_tree.specs.Standard as routine
 use Rattle.typing_rules.specs.declared.faults.Fault.{Fault}
 use Rattle.typing_rules.specs.declared.faults.Rule.TheVariants as rules
 use Rattle.typing_rules.specs.declared.sorts.Sort.{Sort}
@@ -90,7 +91,7 @@ told_number types place e None = part (whole types place e) (λ x. makes (x ∷ 
 told_number types place e (Some width) = parts (whole types place e) (whole types place width) (λ x w. makes (x ∷ w ∷ []))
 
 abbrev pub told_into : List TypeDef → Place → Expression → Option Expression → Expression → Judgement Expression
-told_into types place e width to = parts (told_number types place e width) (variable types place Line to) (λ xs s. makes (Std None 20 (arguments_of (xs ++ s ∷ []))))
+told_into types place e width to = parts (told_number types place e width) (variable types place Line to) (λ xs s. makes (Std None routine.str (arguments_of (xs ++ s ∷ []))))
 
 -- the variable has no width
 abbrev pub told_by : List TypeDef → Place → Written → Expression → Option Expression → Judgement Expression

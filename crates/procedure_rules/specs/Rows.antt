@@ -1,5 +1,6 @@
 -- What standard procedures ask of their arguments.
 use Rattle.std.specs.Prelude.{ℕ, ◌==◌, Bool, false, ◌&&◌, ◌||◌, cond, List, [], ◌∷◌, Option, Some, None}
+use Rattle.typed_tree.specs.Standard as routine
 use Rattle.standard_rules.specs.declared.signatures.Want.TheVariants.{Integer, Text}
 use Rattle.procedure_rules.specs.declared.rows.Slot.{Slot}
 use Rattle.procedure_rules.specs.declared.rows.Slot.TheVariants.{Value, Pointer, Ordinal, Whole, Line, Link}
@@ -11,12 +12,12 @@ use Rattle.procedure_rules.specs.declared.rows.Slots.TheVariants.{One, Pair, Tri
 -- or a destructor have rules of their own.
 unfoldable pub rows : List (ℕ × Slots)
 rows =
-    -- Inc, Dec
-    (7, One Ordinal) ∷ (7, Pair Ordinal (Value Integer)) ∷ (8, One Ordinal) ∷ (8, Pair Ordinal (Value Integer)) ∷
-    -- Delete, Insert, Val
-    (16, Triple Line (Value Integer) (Value Integer)) ∷ (17, Triple (Value Text) Line (Value Integer)) ∷ (21, Triple (Value Text) Whole Whole) ∷
-    -- New, Dispose
-    (28, One Link) ∷ (29, One Pointer) ∷
+    (routine.inc, One Ordinal) ∷ (routine.inc, Pair Ordinal (Value Integer)) ∷
+    (routine.dec, One Ordinal) ∷ (routine.dec, Pair Ordinal (Value Integer)) ∷
+    (routine.delete, Triple Line (Value Integer) (Value Integer)) ∷
+    (routine.insert, Triple (Value Text) Line (Value Integer)) ∷
+    (routine.val, Triple (Value Text) Whole Whole) ∷
+    (routine.new, One Link) ∷ (routine.dispose, One Pointer) ∷
     []
 
 -- in order
@@ -41,12 +42,9 @@ slots_of number count = slots_in rows number count
 -- all standard procedures by their numbers, also those that have no row
 unfoldable pub procedures : List ℕ
 procedures =
-    -- Inc, Dec, Delete, Insert, Str, Val
-    7 ∷ 8 ∷ 16 ∷ 17 ∷ 20 ∷ 21 ∷
-    -- Write, WriteLn, Read, ReadLn
-    22 ∷ 23 ∷ 24 ∷ 25 ∷
-    -- New, Dispose, Halt, Exit
-    28 ∷ 29 ∷ 30 ∷ 31 ∷
+    routine.inc ∷ routine.dec ∷ routine.delete ∷ routine.insert ∷ routine.str ∷ routine.val ∷
+    routine.write ∷ routine.write_ln ∷ routine.read ∷ routine.read_ln ∷
+    routine.new ∷ routine.dispose ∷ routine.halt ∷ routine.exit ∷
     []
 
 abbrev pub is_listed : List ℕ → ℕ → Bool

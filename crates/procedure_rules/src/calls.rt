@@ -14,13 +14,11 @@ use call_rules::is_ordinal;
 use standard_rules::{Want, fits, handed, is_for_text};
 use std::alloc::Global;
 use type_layout::{Place, TypeId, Types};
+use typed_tree::standard::STR;
 use typed_tree::{Arg, Expr, PlaceExpr, WriteItem};
 use typing_rules::{
     Fault, Refusal, Rule, Sort, broken, is_integer, is_string, sort_of, sort_of_type,
 };
-
-// The number of Str among the predeclared names.
-const STR: u32 = 20;
 
 fn is_pointer(sort: Sort) -> bool
     ensures { result ≡ is_pointer sort }

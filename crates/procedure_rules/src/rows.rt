@@ -4,6 +4,9 @@ ghost use Rattle.std.specs.Prelude.{◌≡◌};
 ghost use Rattle.procedure_rules.specs.Rows.{count_of, slots_in, slots_of, is_listed, is_procedure};
 
 use standard_rules::Want;
+use typed_tree::standard::{
+    DEC, DELETE, DISPOSE, EXIT, HALT, INC, INSERT, NEW, READ, READ_LN, STR, VAL, WRITE, WRITE_LN,
+};
 
 /// What is asked of an argument: a value, a pointer, or a variable of an ordinal type, of an integer type, that is a string, or
 /// that is a pointer.
@@ -29,21 +32,23 @@ const INTEGER: Slot = Slot::Value(Want::Integer);
 
 const TEXT: Slot = Slot::Value(Want::Text);
 
-// The procedures without widths by the numbers of the predeclared names, once for each count of arguments.
+// The procedures without widths by their numbers, once for each count of arguments.
 const ROWS: [(u32, Slots); 9] = [
-    (7, Slots::One(Slot::Ordinal)),
-    (7, Slots::Pair(Slot::Ordinal, INTEGER)),
-    (8, Slots::One(Slot::Ordinal)),
-    (8, Slots::Pair(Slot::Ordinal, INTEGER)),
-    (16, Slots::Triple(Slot::Line, INTEGER, INTEGER)),
-    (17, Slots::Triple(TEXT, Slot::Line, INTEGER)),
-    (21, Slots::Triple(TEXT, Slot::Whole, Slot::Whole)),
-    (28, Slots::One(Slot::Link)),
-    (29, Slots::One(Slot::Pointer)),
+    (INC, Slots::One(Slot::Ordinal)),
+    (INC, Slots::Pair(Slot::Ordinal, INTEGER)),
+    (DEC, Slots::One(Slot::Ordinal)),
+    (DEC, Slots::Pair(Slot::Ordinal, INTEGER)),
+    (DELETE, Slots::Triple(Slot::Line, INTEGER, INTEGER)),
+    (INSERT, Slots::Triple(TEXT, Slot::Line, INTEGER)),
+    (VAL, Slots::Triple(TEXT, Slot::Whole, Slot::Whole)),
+    (NEW, Slots::One(Slot::Link)),
+    (DISPOSE, Slots::One(Slot::Pointer)),
 ];
 
 // All procedures, also those that have no row.
-const PROCEDURES: [u32; 14] = [7, 8, 16, 17, 20, 21, 22, 23, 24, 25, 28, 29, 30, 31];
+const PROCEDURES: [u32; 14] = [
+    INC, DEC, DELETE, INSERT, STR, VAL, WRITE, WRITE_LN, READ, READ_LN, NEW, DISPOSE, HALT, EXIT,
+];
 
 fn count_of(slots: Slots) -> usize
     ensures { result ≡ count_of slots }

@@ -9,6 +9,7 @@ use Rattle.type_layout.specs.Storage.{least_of, greatest_of}
 use Rattle.type_layout.specs.Table.{Table}
 use Rattle.type_layout.specs.Words.{is_name}
 use Rattle.typed_tree.specs.declared.expressions.Value.TheVariants as value
+use Rattle.typed_tree.specs.Standard as routine
 use Rattle.scopes.specs.declared.entries.Entry.{Entry}
 use Rattle.scopes.specs.declared.entries.Entry.TheVariants.{Const, Ty, Std}
 use Rattle.scopes.specs.Symbols.{SymbolList, has}
@@ -51,9 +52,9 @@ unfoldable pub with_types : SymbolList → ℕ → List (List ℕ) → SymbolLis
 with_types symbols number [] = symbols
 with_types symbols number (name ∷ names) = with_types (with_known symbols name (Ty (type_id number))) (number + 1) names
 
-unfoldable pub with_standard : SymbolList → ℕ → List (List ℕ) → SymbolList
-with_standard symbols number [] = symbols
-with_standard symbols number (name ∷ names) = with_standard (with_known symbols name (Std number)) (number + 1) names
+unfoldable pub with_standard : SymbolList → List (List ℕ × ℕ) → SymbolList
+with_standard symbols [] = symbols
+with_standard symbols (row ∷ rows) = with_standard (with_known symbols row.0 (Std row.1)) rows
 
 abbrev pub number_entry : TypeId → ℤ → Entry
 number_entry ty amount = Const ty (value.Number amount)
@@ -71,17 +72,23 @@ unfoldable pub type_names : List (List ℕ)
 type_names =
     codes "SHORTINT" ∷ codes "BYTE" ∷ codes "INTEGER" ∷ codes "WORD" ∷ codes "LONGINT" ∷ codes "CHAR" ∷ codes "BOOLEAN" ∷ []
 
--- the standard routines, by their numbers
-unfoldable pub standard : List (List ℕ)
+-- the names of the standard routines, with their numbers
+unfoldable pub standard : List (List ℕ × ℕ)
 standard =
-    codes "ABS" ∷ codes "SQR" ∷ codes "ODD" ∷ codes "ORD" ∷ codes "CHR" ∷ codes "SUCC" ∷ codes "PRED" ∷ codes "INC" ∷
-    codes "DEC" ∷ codes "HI" ∷ codes "LO" ∷ codes "SWAP" ∷ codes "SIZEOF" ∷ codes "UPCASE" ∷ codes "LENGTH" ∷ codes "COPY" ∷
-    codes "DELETE" ∷ codes "INSERT" ∷ codes "CONCAT" ∷ codes "POS" ∷ codes "STR" ∷ codes "VAL" ∷ codes "WRITE" ∷
-    codes "WRITELN" ∷ codes "READ" ∷ codes "READLN" ∷ codes "EOF" ∷ codes "EOLN" ∷ codes "NEW" ∷ codes "DISPOSE" ∷
-    codes "HALT" ∷ codes "EXIT" ∷ []
+    (codes "ABS", routine.abs) ∷ (codes "SQR", routine.sqr) ∷ (codes "ODD", routine.odd) ∷ (codes "ORD", routine.ord) ∷
+    (codes "CHR", routine.chr) ∷ (codes "SUCC", routine.succ) ∷ (codes "PRED", routine.pred) ∷ (codes "INC", routine.inc) ∷
+    (codes "DEC", routine.dec) ∷ (codes "HI", routine.hi) ∷ (codes "LO", routine.lo) ∷ (codes "SWAP", routine.swap) ∷
+    (codes "SIZEOF", routine.size_of) ∷ (codes "UPCASE", routine.up_case) ∷ (codes "LENGTH", routine.length) ∷
+    (codes "COPY", routine.copy) ∷ (codes "DELETE", routine.delete) ∷ (codes "INSERT", routine.insert) ∷
+    (codes "CONCAT", routine.concat) ∷ (codes "POS", routine.pos) ∷ (codes "STR", routine.str) ∷ (codes "VAL", routine.val) ∷
+    (codes "WRITE", routine.write) ∷ (codes "WRITELN", routine.write_ln) ∷ (codes "READ", routine.read) ∷
+    (codes "READLN", routine.read_ln) ∷ (codes "EOF", routine.eof) ∷ (codes "EOLN", routine.eoln) ∷
+    (codes "NEW", routine.new) ∷ (codes "DISPOSE", routine.dispose) ∷ (codes "HALT", routine.halt) ∷
+    (codes "EXIT", routine.exit) ∷
+    []
 
 unfoldable pub predeclared : SymbolList
-predeclared = with_standard (with_constants (with_types [] 0 type_names)) 0 standard
+predeclared = with_standard (with_constants (with_types [] 0 type_names)) standard
 
 -- the scope of a source without used units, before its first block
 abbrev pub first : List ℕ → Environment

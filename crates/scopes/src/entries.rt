@@ -8,7 +8,7 @@ use typed_tree::Value;
 
 /// What a name means. The `unit` of a variable or a routine is a place among the units of the scope. `level` is the
 /// nesting depth of the declaration, 0 for a global. A routine that is `far` is called by far calls. The number of `Std`
-/// is that of a standard routine.
+/// is that of a standard routine, one of `typed_tree::standard`.
 #[derive(Debug, Drop)]
 pub enum Entry {
     Const {

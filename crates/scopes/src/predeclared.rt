@@ -8,6 +8,11 @@ use crate::{Entry, Symbols};
 use std::alloc::{AllocError, Global};
 use type_layout::{Host, Name, TypeDef, TypeId, Types};
 use typed_tree::Value;
+use typed_tree::standard::{
+    ABS, CHR, CONCAT, COPY, DEC, DELETE, DISPOSE, EOF, EOLN, EXIT, HALT, HI, INC, INSERT, LENGTH,
+    LO, NEW, ODD, ORD, POS, PRED, READ, READ_LN, SIZE_OF, SQR, STR, SUCC, SWAP, UP_CASE, VAL,
+    WRITE, WRITE_LN,
+};
 
 /// The predeclared types, by their ids in the table of each scope. Their origins are in the unit SYSTEM, with the same
 /// numbers.
@@ -47,12 +52,40 @@ const TYPE_NAMES: [&[u8]; 7] = [
     b"BOOLEAN",
 ];
 
-// The standard routines, by their numbers.
-const STANDARD: [&[u8]; 32] = [
-    b"ABS", b"SQR", b"ODD", b"ORD", b"CHR", b"SUCC", b"PRED", b"INC", b"DEC", b"HI", b"LO",
-    b"SWAP", b"SIZEOF", b"UPCASE", b"LENGTH", b"COPY", b"DELETE", b"INSERT", b"CONCAT", b"POS",
-    b"STR", b"VAL", b"WRITE", b"WRITELN", b"READ", b"READLN", b"EOF", b"EOLN", b"NEW", b"DISPOSE",
-    b"HALT", b"EXIT",
+// The names of the standard routines, with their numbers.
+const STANDARD: [(&[u8], u32); 32] = [
+    (b"ABS", ABS),
+    (b"SQR", SQR),
+    (b"ODD", ODD),
+    (b"ORD", ORD),
+    (b"CHR", CHR),
+    (b"SUCC", SUCC),
+    (b"PRED", PRED),
+    (b"INC", INC),
+    (b"DEC", DEC),
+    (b"HI", HI),
+    (b"LO", LO),
+    (b"SWAP", SWAP),
+    (b"SIZEOF", SIZE_OF),
+    (b"UPCASE", UP_CASE),
+    (b"LENGTH", LENGTH),
+    (b"COPY", COPY),
+    (b"DELETE", DELETE),
+    (b"INSERT", INSERT),
+    (b"CONCAT", CONCAT),
+    (b"POS", POS),
+    (b"STR", STR),
+    (b"VAL", VAL),
+    (b"WRITE", WRITE),
+    (b"WRITELN", WRITE_LN),
+    (b"READ", READ),
+    (b"READLN", READ_LN),
+    (b"EOF", EOF),
+    (b"EOLN", EOLN),
+    (b"NEW", NEW),
+    (b"DISPOSE", DISPOSE),
+    (b"HALT", HALT),
+    (b"EXIT", EXIT),
 ];
 
 fn system() -> Name
@@ -139,17 +172,16 @@ fn know_types(symbols: &mut Symbols, number: u32, names: &[&[u8]]) -> Result<(),
     }
 }
 
-// The names of standard routines, whose numbers begin with this one.
+// Standard routines, each by its name.
 #[tactic(auto, unfolding(crate::specs::Predeclared::with_standard))]
-fn know_standard(symbols: &mut Symbols, number: u32, names: &[&[u8]]) -> Result<(), AllocError>
-    requires { number + length names.now < 2 ^ 32 }
-    ensures { OnOk result (symbols.new ≡ with_standard symbols.old number (map (λ name. name.now) names.now)) }
+fn know_standard(symbols: &mut Symbols, routines: &[(&[u8], u32)]) -> Result<(), AllocError>
+    ensures { OnOk result (symbols.new ≡ with_standard symbols.old (map (λ row. (row.0.now, row.1)) routines.now)) }
 {
-    match names {
+    match routines {
         [] => Ok(()),
-        [name, names @ ..] => {
-            know(symbols, name, Entry::Std { number })?;
-            know_standard(symbols, number + 1, names)
+        [row, rest @ ..] => {
+            know(symbols, row.0, Entry::Std { number: row.1 })?;
+            know_standard(symbols, rest)
         }
     }
 }
@@ -181,6 +213,6 @@ pub(crate) fn predeclared_names(alloc: Global) -> Result<Symbols, AllocError>
     let mut symbols = Symbols::new(alloc);
     know_types(&mut symbols, 0, &TYPE_NAMES)?;
     know_constants(&mut symbols)?;
-    know_standard(&mut symbols, 0, &STANDARD)?;
+    know_standard(&mut symbols, &STANDARD)?;
     Ok(symbols)
 }

@@ -6,6 +6,7 @@ use Rattle.type_layout.specs.declared.definitions.Host.TheVariants as host
 use Rattle.type_layout.specs.declared.definitions.TypeDef.{TypeDef}
 use Rattle.type_layout.specs.declared.definitions.TypeDef.TheVariants as type
 use Rattle.values.specs.Blocks.{block_sum}
+use Rattle.typed_tree.specs.Standard as routine
 use Rattle.type_fits.specs.Fits.{stored_as, IsPointer}
 use Rattle.type_fits.specs.Standard.{Pointer, PointerVariable}
 use Rattle.meaning.specs.Trees.{Key, Value, Nil, Block}
@@ -107,7 +108,7 @@ module _ (w : World) (agreed : AreConsistent w.program) where
       by (Letter e ks stored) = pointer_stored (definition seen) host.Char p stored
       by (Whole e ks stored) = pointer_stored (definition seen) host.Integer p stored
 
-    pub new_call : (x : Operand) → IsOperand w PointerVariable x → IsSoundCall w store 28 None (x ∷ [])
+    pub new_call : (x : Operand) → IsOperand w PointerVariable x → IsSoundCall w store routine.new None (x ∷ [])
     new_call x is =
         let p = pointer_named w x is in
         record {
@@ -116,7 +117,7 @@ module _ (w : World) (agreed : AreConsistent w.program) where
           sound = (refl, subst (λ (y : Operand). Finds (IsTypedLater w) (known (Some y) >>= place_arg >>= λ at. made_for w.program at store)) (sym p.is) (made_keeps p.at p.seen p.place p.fits));
         }
 
-    pub new_block_call : (pointer : Sort) → IsSoundCall w store 28 (Some pointer) []
+    pub new_block_call : (pointer : Sort) → IsSoundCall w store routine.new (Some pointer) []
     new_block_call pointer = record { one = New; is = refl; sound = refl }
 
     -- ---- Dispose
@@ -131,6 +132,6 @@ module _ (w : World) (agreed : AreConsistent w.program) where
     freed_by sort (Some (type.PointerTo t)) v e p is = freed_keeps sort (declared sort.table t) t v e is
     freed_by sort o v e p is = absurd p
 
-    pub dispose_call : (x : Operand) → IsOperand w Pointer x → IsSoundCall w store 29 None (x ∷ [])
+    pub dispose_call : (x : Operand) → IsOperand w Pointer x → IsSoundCall w store routine.dispose None (x ∷ [])
     dispose_call (Given sort v) is = record { one = Dispose; is = refl; sound = (refl, later w agreed store typed (disposed_by sort v store) (freed_by sort (definition sort) v refl is.0 is.1)) }
     dispose_call (Named at) is = absurd is.2

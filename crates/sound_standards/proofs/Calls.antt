@@ -3,6 +3,7 @@ use Rattle.std.proofs.Common.{◌≡◌, List, [], ◌∷◌, Some, None, refl, 
 use Rattle.std.specs.Prelude.{Option}
 use Rattle.std.proofs.lemmas.List.Elements.{All-cons}
 use Rattle.type_layout.specs.declared.definitions.Host.{Host}
+use Rattle.typed_tree.specs.Standard as routine
 use Rattle.type_fits.specs.Fits.{stored_as, IsSome}
 use Rattle.type_fits.specs.Standard.{Slot, Integer, Ordinal as OrdinalSlot, Char, Text as TextSlot, Pointer, IntegerVariable, OrdinalVariable, TextVariable, PointerVariable, Variable, IsText as IsTextSlot, abs, sqr, odd, ord, chr, succ, pred, inc, inc_by, dec, dec_by, hi, lo, swap, size, up_case, length_of, copy, delete, insert, concat, position, text, text_in, number, end_of_file, end_of_line, new, new_block, dispose}
 use Rattle.meaning.specs.Store.{Store}
@@ -71,114 +72,114 @@ module _ (w : World) (agreed : AreConsistent w.program) (closed : HasClasses w.p
   standard_laws _ _ _ None xs abs are gives = absurd gives
   standard_laws _ _ _ (Some r) xs abs are gives =
       let a = one_given w Integer xs are in
-      subst (IsSoundCall w store 0 (Some r)) (sym a.is) (abs_call w store r a.x a.fits gives)
+      subst (IsSoundCall w store routine.abs (Some r)) (sym a.is) (abs_call w store r a.x a.fits gives)
   standard_laws _ _ _ None xs sqr are gives = absurd gives
   standard_laws _ _ _ (Some r) xs sqr are gives =
       let a = one_given w Integer xs are in
-      subst (IsSoundCall w store 1 (Some r)) (sym a.is) (sqr_call w store r a.x a.fits gives)
+      subst (IsSoundCall w store routine.sqr (Some r)) (sym a.is) (sqr_call w store r a.x a.fits gives)
   standard_laws _ _ _ None xs odd are gives = absurd gives
   standard_laws _ _ _ (Some r) xs odd are gives =
       let a = one_given w Integer xs are in
-      subst (IsSoundCall w store 2 (Some r)) (sym a.is) (odd_call w store r a.x a.fits gives)
+      subst (IsSoundCall w store routine.odd (Some r)) (sym a.is) (odd_call w store r a.x a.fits gives)
   standard_laws _ _ _ None xs ord are gives = absurd gives
   standard_laws _ _ _ (Some r) xs ord are gives =
       let a = one_given w OrdinalSlot xs are in
-      subst (IsSoundCall w store 3 (Some r)) (sym a.is) (ord_call w store r a.x a.fits gives.0 (subst (HoldsNumber (stored_as (definition r))) a.is gives.1))
+      subst (IsSoundCall w store routine.ord (Some r)) (sym a.is) (ord_call w store r a.x a.fits gives.0 (subst (HoldsNumber (stored_as (definition r))) a.is gives.1))
   standard_laws _ _ _ None xs chr are gives = absurd gives
   standard_laws _ _ _ (Some r) xs chr are gives =
       let a = one_given w Integer xs are in
-      subst (IsSoundCall w store 4 (Some r)) (sym a.is) (chr_call w store r a.x a.fits gives)
+      subst (IsSoundCall w store routine.chr (Some r)) (sym a.is) (chr_call w store r a.x a.fits gives)
   standard_laws _ _ _ None xs succ are gives = absurd gives
   standard_laws _ _ _ (Some r) xs succ are gives =
       let a = one_given w OrdinalSlot xs are in
       let h = like_host w r a.x a.fits (subst (IsLikeNumber r) a.is gives) in
-      subst (IsSoundCall w store 5 (Some r)) (sym a.is) (succ_call w store r a.x a.fits h.0 h.1)
+      subst (IsSoundCall w store routine.succ (Some r)) (sym a.is) (succ_call w store r a.x a.fits h.0 h.1)
   standard_laws _ _ _ None xs pred are gives = absurd gives
   standard_laws _ _ _ (Some r) xs pred are gives =
       let a = one_given w OrdinalSlot xs are in
       let h = like_host w r a.x a.fits (subst (IsLikeNumber r) a.is gives) in
-      subst (IsSoundCall w store 6 (Some r)) (sym a.is) (pred_call w store r a.x a.fits h.0 h.1)
+      subst (IsSoundCall w store routine.pred (Some r)) (sym a.is) (pred_call w store r a.x a.fits h.0 h.1)
   standard_laws _ _ _ None xs hi are gives = absurd gives
   standard_laws _ _ _ (Some r) xs hi are gives =
       let a = one_given w Integer xs are in
-      subst (IsSoundCall w store 9 (Some r)) (sym a.is) (hi_call w store r a.x a.fits gives)
+      subst (IsSoundCall w store routine.hi (Some r)) (sym a.is) (hi_call w store r a.x a.fits gives)
   standard_laws _ _ _ None xs lo are gives = absurd gives
   standard_laws _ _ _ (Some r) xs lo are gives =
       let a = one_given w Integer xs are in
-      subst (IsSoundCall w store 10 (Some r)) (sym a.is) (lo_call w store r a.x a.fits gives)
+      subst (IsSoundCall w store routine.lo (Some r)) (sym a.is) (lo_call w store r a.x a.fits gives)
   standard_laws _ _ _ None xs swap are gives = absurd gives
   standard_laws _ _ _ (Some r) xs swap are gives =
       let a = one_given w Integer xs are in
-      subst (IsSoundCall w store 11 (Some r)) (sym a.is) (swap_call w store r a.x a.fits gives)
+      subst (IsSoundCall w store routine.swap (Some r)) (sym a.is) (swap_call w store r a.x a.fits gives)
   standard_laws _ _ _ None xs size are gives = absurd gives
   standard_laws _ _ _ (Some r) xs size are gives =
       let a = one_given w Variable xs are in
-      subst (IsSoundCall w store 12 (Some r)) (sym a.is) (size_call w agreed closed store typed a.x r a.fits gives)
+      subst (IsSoundCall w store routine.size_of (Some r)) (sym a.is) (size_call w agreed closed store typed a.x r a.fits gives)
   standard_laws _ _ _ None xs up_case are gives = absurd gives
   standard_laws _ _ _ (Some r) xs up_case are gives =
       let a = one_given w Char xs are in
-      subst (IsSoundCall w store 13 (Some r)) (sym a.is) (up_case_call w store r a.x a.fits gives)
+      subst (IsSoundCall w store routine.up_case (Some r)) (sym a.is) (up_case_call w store r a.x a.fits gives)
   standard_laws _ _ _ None xs length_of are gives = absurd gives
   standard_laws _ _ _ (Some r) xs length_of are gives =
       let a = one_given w TextSlot xs are in
-      subst (IsSoundCall w store 14 (Some r)) (sym a.is) (length_call w store r a.x a.fits gives)
+      subst (IsSoundCall w store routine.length (Some r)) (sym a.is) (length_call w store r a.x a.fits gives)
   standard_laws _ _ _ None xs copy are gives = absurd gives
   standard_laws _ _ _ (Some r) xs copy are gives =
       let a = three_given w TextSlot Integer Integer xs are in
-      subst (IsSoundCall w store 15 (Some r)) (sym a.is) (copy_call w store r a.x a.y a.z a.first a.second a.third gives)
+      subst (IsSoundCall w store routine.copy (Some r)) (sym a.is) (copy_call w store r a.x a.y a.z a.first a.second a.third gives)
   standard_laws _ _ _ None xs (concat more each) are gives = absurd gives
   standard_laws _ _ _ (Some r) xs (concat more each) are gives = concat_call w store r (TextSlot ∷ more) xs (All-cons IsTextSlot TextSlot more refl each) are gives
   standard_laws _ _ _ None xs position are gives = absurd gives
   standard_laws _ _ _ (Some r) xs position are gives =
       let a = two_given w TextSlot TextSlot xs are in
-      subst (IsSoundCall w store 19 (Some r)) (sym a.is) (position_call w store r a.x a.y a.first a.second gives)
+      subst (IsSoundCall w store routine.pos (Some r)) (sym a.is) (position_call w store r a.x a.y a.first a.second gives)
   standard_laws _ _ _ None xs end_of_file are gives = absurd gives
-  standard_laws _ _ _ (Some r) xs end_of_file are gives = subst (IsSoundCall w store 26 (Some r)) (sym (none_given w xs are)) (eof_call w store r gives)
+  standard_laws _ _ _ (Some r) xs end_of_file are gives = subst (IsSoundCall w store routine.eof (Some r)) (sym (none_given w xs are)) (eof_call w store r gives)
   standard_laws _ _ _ None xs end_of_line are gives = absurd gives
-  standard_laws _ _ _ (Some r) xs end_of_line are gives = subst (IsSoundCall w store 27 (Some r)) (sym (none_given w xs are)) (eoln_call w store r gives)
+  standard_laws _ _ _ (Some r) xs end_of_line are gives = subst (IsSoundCall w store routine.eoln (Some r)) (sym (none_given w xs are)) (eoln_call w store r gives)
   standard_laws _ _ _ None xs new_block are gives = absurd gives
-  standard_laws _ _ _ (Some r) xs new_block are gives = subst (IsSoundCall w store 28 (Some r)) (sym (none_given w xs are)) (new_block_call w agreed store typed r)
+  standard_laws _ _ _ (Some r) xs new_block are gives = subst (IsSoundCall w store routine.new (Some r)) (sym (none_given w xs are)) (new_block_call w agreed store typed r)
   standard_laws _ _ _ (Some r) xs inc are gives = absurd gives
   standard_laws _ _ _ None xs inc are gives =
       let a = one_given w OrdinalVariable xs are in
-      subst (IsSoundCall w store 7 None) (sym a.is) (inc_call w agreed store typed a.x a.fits)
+      subst (IsSoundCall w store routine.inc None) (sym a.is) (inc_call w agreed store typed a.x a.fits)
   standard_laws _ _ _ (Some r) xs inc_by are gives = absurd gives
   standard_laws _ _ _ None xs inc_by are gives =
       let a = two_given w OrdinalVariable Integer xs are in
-      subst (IsSoundCall w store 7 None) (sym a.is) (inc_by_call w agreed store typed a.x a.y a.first a.second)
+      subst (IsSoundCall w store routine.inc None) (sym a.is) (inc_by_call w agreed store typed a.x a.y a.first a.second)
   standard_laws _ _ _ (Some r) xs dec are gives = absurd gives
   standard_laws _ _ _ None xs dec are gives =
       let a = one_given w OrdinalVariable xs are in
-      subst (IsSoundCall w store 8 None) (sym a.is) (dec_call w agreed store typed a.x a.fits)
+      subst (IsSoundCall w store routine.dec None) (sym a.is) (dec_call w agreed store typed a.x a.fits)
   standard_laws _ _ _ (Some r) xs dec_by are gives = absurd gives
   standard_laws _ _ _ None xs dec_by are gives =
       let a = two_given w OrdinalVariable Integer xs are in
-      subst (IsSoundCall w store 8 None) (sym a.is) (dec_by_call w agreed store typed a.x a.y a.first a.second)
+      subst (IsSoundCall w store routine.dec None) (sym a.is) (dec_by_call w agreed store typed a.x a.y a.first a.second)
   standard_laws _ _ _ (Some r) xs delete are gives = absurd gives
   standard_laws _ _ _ None xs delete are gives =
       let a = three_given w TextVariable Integer Integer xs are in
-      subst (IsSoundCall w store 16 None) (sym a.is) (delete_call w agreed store typed a.x a.y a.z a.first a.second a.third)
+      subst (IsSoundCall w store routine.delete None) (sym a.is) (delete_call w agreed store typed a.x a.y a.z a.first a.second a.third)
   standard_laws _ _ _ (Some r) xs insert are gives = absurd gives
   standard_laws _ _ _ None xs insert are gives =
       let a = three_given w TextSlot TextVariable Integer xs are in
-      subst (IsSoundCall w store 17 None) (sym a.is) (insert_call w agreed store typed a.x a.y a.z a.first a.second a.third)
+      subst (IsSoundCall w store routine.insert None) (sym a.is) (insert_call w agreed store typed a.x a.y a.z a.first a.second a.third)
   standard_laws _ _ _ (Some r) xs text are gives = absurd gives
   standard_laws _ _ _ None xs text are gives =
       let a = two_given w Integer TextVariable xs are in
-      subst (IsSoundCall w store 20 None) (sym a.is) (text_call w agreed store typed a.x a.y a.first a.second)
+      subst (IsSoundCall w store routine.str None) (sym a.is) (text_call w agreed store typed a.x a.y a.first a.second)
   standard_laws _ _ _ (Some r) xs text_in are gives = absurd gives
   standard_laws _ _ _ None xs text_in are gives =
       let a = three_given w Integer Integer TextVariable xs are in
-      subst (IsSoundCall w store 20 None) (sym a.is) (text_in_call w agreed store typed a.x a.y a.z a.first a.second a.third)
+      subst (IsSoundCall w store routine.str None) (sym a.is) (text_in_call w agreed store typed a.x a.y a.z a.first a.second a.third)
   standard_laws _ _ _ (Some r) xs number are gives = absurd gives
   standard_laws _ _ _ None xs number are gives =
       let a = three_given w TextSlot IntegerVariable IntegerVariable xs are in
-      subst (IsSoundCall w store 21 None) (sym a.is) (number_call w agreed store typed a.x a.y a.z a.first a.second a.third)
+      subst (IsSoundCall w store routine.val None) (sym a.is) (number_call w agreed store typed a.x a.y a.z a.first a.second a.third)
   standard_laws _ _ _ (Some r) xs new are gives = absurd gives
   standard_laws _ _ _ None xs new are gives =
       let a = one_given w PointerVariable xs are in
-      subst (IsSoundCall w store 28 None) (sym a.is) (new_call w agreed store typed a.x a.fits)
+      subst (IsSoundCall w store routine.new None) (sym a.is) (new_call w agreed store typed a.x a.fits)
   standard_laws _ _ _ (Some r) xs dispose are gives = absurd gives
   standard_laws _ _ _ None xs dispose are gives =
       let a = one_given w Pointer xs are in
-      subst (IsSoundCall w store 29 None) (sym a.is) (dispose_call w agreed store typed a.x a.fits)
+      subst (IsSoundCall w store routine.dispose None) (sym a.is) (dispose_call w agreed store typed a.x a.fits)

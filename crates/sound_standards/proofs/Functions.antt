@@ -14,6 +14,7 @@ use Rattle.type_layout.specs.declared.definitions.TypeDef.{TypeDef}
 use Rattle.type_layout.specs.Storage.{holds}
 use Rattle.values.specs.Strings.{longest, copied, joined, place_from, position_of, upper}
 use Rattle.values.specs.Input.{is_eof, is_eoln}
+use Rattle.typed_tree.specs.Standard as routine
 use Rattle.type_fits.specs.Fits.{stored_as, held_as, IsBoolean, IsChar, IsWide, IsString}
 use Rattle.type_fits.specs.Standard.{Slot, Integer, Ordinal as OrdinalSlot, Char, Text as TextSlot, IsText as IsTextSlot}
 use Rattle.meaning.specs.Trees.{Ordinal, Text}
@@ -87,21 +88,21 @@ module _ (w : World) (store : Store) (result : Sort) where
   plain_number : (f : ℤ → ℤ) (h : Host) (x : Operand) → stored_as (definition result) ≡ Some h → (n : NumberGiven w x) → IsHeld w (Number h) (Ordinal (f n.z)) → Finds (IsResult w (Some result)) (of_number f (x ∷ []))
   plain_number f h x e n held = subst (λ (y : Operand). Finds (IsValueOf w result) (of_number f (y ∷ []))) (sym n.is) (ordinal_value w result h (f n.z) e held)
 
-  pub abs_call : (x : Operand) → IsOperand w Integer x → IsWide (stored_as (definition result)) → IsSoundCall w store 0 (Some result) (x ∷ [])
+  pub abs_call : (x : Operand) → IsOperand w Integer x → IsWide (stored_as (definition result)) → IsSoundCall w store routine.abs (Some result) (x ∷ [])
   abs_call x is gives = let s = wide (definition result) gives in record { one = Abs; is = refl; sound = kept_number (λ z. pos (unsigned_abs z)) s.host x s.is (integer_given w x is) }
 
-  pub sqr_call : (x : Operand) → IsOperand w Integer x → IsWide (stored_as (definition result)) → IsSoundCall w store 1 (Some result) (x ∷ [])
+  pub sqr_call : (x : Operand) → IsOperand w Integer x → IsWide (stored_as (definition result)) → IsSoundCall w store routine.sqr (Some result) (x ∷ [])
   sqr_call x is gives = let s = wide (definition result) gives in record { one = Sqr; is = refl; sound = kept_number (λ z. z *ℤ z) s.host x s.is (integer_given w x is) }
 
-  pub swap_call : (x : Operand) → IsOperand w Integer x → IsWide (stored_as (definition result)) → IsSoundCall w store 11 (Some result) (x ∷ [])
+  pub swap_call : (x : Operand) → IsOperand w Integer x → IsWide (stored_as (definition result)) → IsSoundCall w store routine.swap (Some result) (x ∷ [])
   swap_call x is gives = let s = wide (definition result) gives in record { one = Swap; is = refl; sound = kept_number (λ z. pos (swapped (low_word z))) s.host x s.is (integer_given w x is) }
 
-  pub odd_call : (x : Operand) → IsOperand w Integer x → IsBoolean (definition result) → IsSoundCall w store 2 (Some result) (x ∷ [])
+  pub odd_call : (x : Operand) → IsOperand w Integer x → IsBoolean (definition result) → IsSoundCall w store routine.odd (Some result) (x ∷ [])
   odd_call x is gives =
       let n = integer_given w x is in
       record { one = Odd; is = refl; sound = plain_number (λ z. truth_number (word_of w8 z % 2 == 1)) host.Boolean x gives n (truth_held w (word_of w8 n.z % 2 == 1)) }
 
-  pub ord_call : (x : Operand) → IsOperand w OrdinalSlot x → IsWide (stored_as (definition result)) → HoldsNumber (stored_as (definition result)) (x ∷ []) → IsSoundCall w store 3 (Some result) (x ∷ [])
+  pub ord_call : (x : Operand) → IsOperand w OrdinalSlot x → IsWide (stored_as (definition result)) → HoldsNumber (stored_as (definition result)) (x ∷ []) → IsSoundCall w store routine.ord (Some result) (x ∷ [])
   ord_call x is gives holds_it =
       let s = wide (definition result) gives in
       let n = ordinal_given w x is in
@@ -109,24 +110,24 @@ module _ (w : World) (store : Store) (result : Sort) where
       subst (λ (y : Operand). HoldsNumber (Some s.host) (y ∷ [])) n.is (subst (λ (o : Option Host). HoldsNumber o (x ∷ [])) s.is holds_it) in
       record { one = Ord; is = refl; sound = plain_number (λ z. z) s.host x s.is n (s.itself n.z fits) }
 
-  pub chr_call : (x : Operand) → IsOperand w Integer x → IsChar (definition result) → IsSoundCall w store 4 (Some result) (x ∷ [])
+  pub chr_call : (x : Operand) → IsOperand w Integer x → IsChar (definition result) → IsSoundCall w store routine.chr (Some result) (x ∷ [])
   chr_call x is gives =
       let n = integer_given w x is in
       record { one = Chr; is = refl; sound = plain_number (λ z. pos (word_of w8 z)) host.Char x gives n (letter_held w (word_of w8 n.z) (word_of-word w8 n.z)) }
 
-  pub succ_call : (x : Operand) → IsOperand w OrdinalSlot x → (h : Host) → stored_as (definition result) ≡ Some h → IsSoundCall w store 5 (Some result) (x ∷ [])
+  pub succ_call : (x : Operand) → IsOperand w OrdinalSlot x → (h : Host) → stored_as (definition result) ≡ Some h → IsSoundCall w store routine.succ (Some result) (x ∷ [])
   succ_call x is h e = record { one = Succ; is = refl; sound = kept_number (λ z. z +ℤ pos 1) h x e (ordinal_given w x is) }
 
-  pub pred_call : (x : Operand) → IsOperand w OrdinalSlot x → (h : Host) → stored_as (definition result) ≡ Some h → IsSoundCall w store 6 (Some result) (x ∷ [])
+  pub pred_call : (x : Operand) → IsOperand w OrdinalSlot x → (h : Host) → stored_as (definition result) ≡ Some h → IsSoundCall w store routine.pred (Some result) (x ∷ [])
   pred_call x is h e = record { one = Pred; is = refl; sound = kept_number (λ z. z -ℤ pos 1) h x e (ordinal_given w x is) }
 
-  pub hi_call : (x : Operand) → IsOperand w Integer x → stored_as (definition result) ≡ Some host.Byte → IsSoundCall w store 9 (Some result) (x ∷ [])
+  pub hi_call : (x : Operand) → IsOperand w Integer x → stored_as (definition result) ≡ Some host.Byte → IsSoundCall w store routine.hi (Some result) (x ∷ [])
   hi_call x is gives =
       let n = integer_given w x is in
       let word : low_word n.z < 2 ^ 16 = word_of-word w16 n.z in
       record { one = Hi; is = refl; sound = plain_number (λ z. pos (high_byte (low_word z))) host.Byte x gives n (byte_held w (high_byte (low_word n.z)) (omega (arith, word))) }
 
-  pub lo_call : (x : Operand) → IsOperand w Integer x → stored_as (definition result) ≡ Some host.Byte → IsSoundCall w store 10 (Some result) (x ∷ [])
+  pub lo_call : (x : Operand) → IsOperand w Integer x → stored_as (definition result) ≡ Some host.Byte → IsSoundCall w store routine.lo (Some result) (x ∷ [])
   lo_call x is gives =
       let n = integer_given w x is in
       record { one = Lo; is = refl; sound = plain_number (λ z. pos (low_byte (low_word z))) host.Byte x gives n (byte_held w (low_byte (low_word n.z)) (omega arith)) }
@@ -134,19 +135,19 @@ module _ (w : World) (store : Store) (result : Sort) where
   upper_small : (n : ℕ) → n < 256 → upper n < 256
   upper_small n h = grind (arith, nat_tests)
 
-  pub up_case_call : (x : Operand) → IsOperand w Char x → IsChar (definition result) → IsSoundCall w store 13 (Some result) (x ∷ [])
+  pub up_case_call : (x : Operand) → IsOperand w Char x → IsChar (definition result) → IsSoundCall w store routine.up_case (Some result) (x ∷ [])
   up_case_call x is gives =
       let n = char_given w x is in
       record { one = UpCase; is = refl; sound = plain_number (λ z. pos (upper (word_of w8 z))) host.Char x gives n (letter_held w (upper (word_of w8 n.z)) (upper_small (word_of w8 n.z) (word_of-word w8 n.z))) }
 
   -- ---- functions of texts
 
-  pub length_call : (x : Operand) → IsOperand w TextSlot x → stored_as (definition result) ≡ Some host.Integer → IsSoundCall w store 14 (Some result) (x ∷ [])
+  pub length_call : (x : Operand) → IsOperand w TextSlot x → stored_as (definition result) ≡ Some host.Integer → IsSoundCall w store routine.length (Some result) (x ∷ [])
   length_call x is gives =
       let t = text_given w x is in
       record { one = Length; is = refl; sound = subst (λ (y : Operand). Finds (IsValueOf w result) (length_of (y ∷ []))) (sym t.is) (ordinal_value w result host.Integer (pos (length t.bytes)) gives (integer_held w (length t.bytes) (let s = t.text in omega (arith, s.short)))) }
 
-  pub copy_call : (x y z : Operand) → IsOperand w TextSlot x → IsOperand w Integer y → IsOperand w Integer z → IsString (definition result) → IsSoundCall w store 15 (Some result) (x ∷ y ∷ z ∷ [])
+  pub copy_call : (x y z : Operand) → IsOperand w TextSlot x → IsOperand w Integer y → IsOperand w Integer z → IsString (definition result) → IsSoundCall w store routine.copy (Some result) (x ∷ y ∷ z ∷ [])
   copy_call x y z is_x is_y is_z gives =
       let t = text_given w x is_x in
       let m = integer_given w y is_y in
@@ -160,7 +161,7 @@ module _ (w : World) (store : Store) (result : Sort) where
             (subst (λ (c : Operand). Finds (IsValueOf w result) (copy_of (Given t.sort (Text t.bytes) ∷ Given m.sort (Ordinal m.z) ∷ c ∷ []))) (sym n.is) done));
       }
 
-  pub position_call : (x y : Operand) → IsOperand w TextSlot x → IsOperand w TextSlot y → stored_as (definition result) ≡ Some host.Byte → IsSoundCall w store 19 (Some result) (x ∷ y ∷ [])
+  pub position_call : (x y : Operand) → IsOperand w TextSlot x → IsOperand w TextSlot y → stored_as (definition result) ≡ Some host.Byte → IsSoundCall w store routine.pos (Some result) (x ∷ y ∷ [])
   position_call x y is_x is_y gives =
       let s = text_given w x is_x in
       let t = text_given w y is_y in
@@ -194,7 +195,7 @@ module _ (w : World) (store : Store) (result : Sort) where
       subst (λ (y : Operand). Finds IsText (all_joined (y ∷ xs))) (sym t.is)
       (finds_bind IsText IsText (all_joined xs) (λ behind. Ok (joined t.bytes behind)) (all_texts slots xs (All-tail IsTextSlot slot slots each) are.1) (λ behind is. joined_text t.bytes behind t.text is))
 
-  pub concat_call : (slots : List Slot) (xs : List Operand) → All IsTextSlot slots → AreOperands w slots xs → IsString (definition result) → IsSoundCall w store 18 (Some result) xs
+  pub concat_call : (slots : List Slot) (xs : List Operand) → All IsTextSlot slots → AreOperands w slots xs → IsString (definition result) → IsSoundCall w store routine.concat (Some result) xs
   concat_call slots xs each are gives = record {
     one = Concat;
     is = refl;
@@ -203,8 +204,8 @@ module _ (w : World) (store : Store) (result : Sort) where
 
   -- ---- the input
 
-  pub eof_call : IsBoolean (definition result) → IsSoundCall w store 26 (Some result) []
+  pub eof_call : IsBoolean (definition result) → IsSoundCall w store routine.eof (Some result) []
   eof_call gives = record { one = Eof; is = refl; sound = λ input. truth_value w result (is_eof input) gives }
 
-  pub eoln_call : IsBoolean (definition result) → IsSoundCall w store 27 (Some result) []
+  pub eoln_call : IsBoolean (definition result) → IsSoundCall w store routine.eoln (Some result) []
   eoln_call gives = record { one = Eoln; is = refl; sound = λ input. truth_value w result (is_eoln input) gives }

@@ -10,6 +10,7 @@ use Rattle.type_layout.specs.declared.definitions.TypeDef.TheVariants as type
 use Rattle.values.specs.Strings.{longest, byte_count, bytes_before, deleted, inserted}
 use Rattle.values.specs.Numerals.{val_of}
 use Rattle.values.specs.Written.{blank, blanks_due, padded, integer_text}
+use Rattle.typed_tree.specs.Standard as routine
 use Rattle.type_fits.specs.Fits.{stored_as, IsSome, IsInteger, IsString}
 use Rattle.type_fits.specs.Standard.{Integer, Text as TextSlot, IntegerVariable, OrdinalVariable, TextVariable}
 use Rattle.meaning.specs.Trees.{Ordinal, Text}
@@ -121,21 +122,21 @@ module _ (w : World) (agreed : AreConsistent w.program) (store : Store) (typed :
       subst (λ (a : Operand). Keeps (moving f (a ∷ y ∷ []) store)) (sym p.is)
       (subst (λ (b : Operand). Keeps (moving f (Named p.at ∷ b ∷ []) store)) (sym n.is) (moved_keeps p.at p.seen (f n.z) p.place p.fits))
 
-  pub inc_call : (x : Operand) → IsOperand w OrdinalVariable x → IsSoundCall w store 7 None (x ∷ [])
+  pub inc_call : (x : Operand) → IsOperand w OrdinalVariable x → IsSoundCall w store routine.inc None (x ∷ [])
   inc_call x is = record { one = Inc; is = refl; sound = changes (moving (λ by. by) (x ∷ []) store) (moving_one (λ by. by) x is) }
 
-  pub inc_by_call : (x y : Operand) → IsOperand w OrdinalVariable x → IsOperand w Integer y → IsSoundCall w store 7 None (x ∷ y ∷ [])
+  pub inc_by_call : (x y : Operand) → IsOperand w OrdinalVariable x → IsOperand w Integer y → IsSoundCall w store routine.inc None (x ∷ y ∷ [])
   inc_by_call x y is_x is_y = record { one = Inc; is = refl; sound = changes (moving (λ by. by) (x ∷ y ∷ []) store) (moving_by (λ by. by) x y is_x is_y) }
 
-  pub dec_call : (x : Operand) → IsOperand w OrdinalVariable x → IsSoundCall w store 8 None (x ∷ [])
+  pub dec_call : (x : Operand) → IsOperand w OrdinalVariable x → IsSoundCall w store routine.dec None (x ∷ [])
   dec_call x is = record { one = Dec; is = refl; sound = changes (moving neg_ℤ (x ∷ []) store) (moving_one neg_ℤ x is) }
 
-  pub dec_by_call : (x y : Operand) → IsOperand w OrdinalVariable x → IsOperand w Integer y → IsSoundCall w store 8 None (x ∷ y ∷ [])
+  pub dec_by_call : (x y : Operand) → IsOperand w OrdinalVariable x → IsOperand w Integer y → IsSoundCall w store routine.dec None (x ∷ y ∷ [])
   dec_by_call x y is_x is_y = record { one = Dec; is = refl; sound = changes (moving neg_ℤ (x ∷ y ∷ []) store) (moving_by neg_ℤ x y is_x is_y) }
 
   -- ---- Delete and Insert
 
-  pub delete_call : (x y z : Operand) → IsOperand w TextVariable x → IsOperand w Integer y → IsOperand w Integer z → IsSoundCall w store 16 None (x ∷ y ∷ z ∷ [])
+  pub delete_call : (x y z : Operand) → IsOperand w TextVariable x → IsOperand w Integer y → IsOperand w Integer z → IsSoundCall w store routine.delete None (x ∷ y ∷ z ∷ [])
   delete_call x y z is_x is_y is_z =
       let p = text_named w x is_x in
       let m = integer_given w y is_y in
@@ -151,7 +152,7 @@ module _ (w : World) (agreed : AreConsistent w.program) (store : Store) (typed :
             (subst (λ (c : Operand). Keeps (deleting (Named p.at ∷ Given m.sort (Ordinal m.z) ∷ c ∷ []) store)) (sym n.is) done)));
       }
 
-  pub insert_call : (x y z : Operand) → IsOperand w TextSlot x → IsOperand w TextVariable y → IsOperand w Integer z → IsSoundCall w store 17 None (x ∷ y ∷ z ∷ [])
+  pub insert_call : (x y z : Operand) → IsOperand w TextSlot x → IsOperand w TextVariable y → IsOperand w Integer z → IsSoundCall w store routine.insert None (x ∷ y ∷ z ∷ [])
   insert_call x y z is_x is_y is_z =
       let t = text_given w x is_x in
       let p = text_named w y is_y in
@@ -174,7 +175,7 @@ module _ (w : World) (agreed : AreConsistent w.program) (store : Store) (typed :
       finds_bind (All IsByte) (IsTypedStore w) (text_of (definition sort) (Ordinal z)) (λ text. assigned at (Text (field_text width text)) store) (told_integer (definition sort) z integer)
       (λ text each. text_put w agreed store typed at seen (field_text width text) is s (padded_small (kept_as host.Integer width) text each))
 
-  pub text_call : (x y : Operand) → IsOperand w Integer x → IsOperand w TextVariable y → IsSoundCall w store 20 None (x ∷ y ∷ [])
+  pub text_call : (x y : Operand) → IsOperand w Integer x → IsOperand w TextVariable y → IsSoundCall w store routine.str None (x ∷ y ∷ [])
   text_call x y is_x is_y =
       let n = integer_given w x is_x in
       let p = text_named w y is_y in
@@ -186,7 +187,7 @@ module _ (w : World) (agreed : AreConsistent w.program) (store : Store) (typed :
             (subst (λ (a : Operand). Keeps (telling (a ∷ y ∷ []) store)) (sym n.is) (subst (λ (b : Operand). Keeps (telling (Given n.sort (Ordinal n.z) ∷ b ∷ []) store)) (sym p.is) done));
       }
 
-  pub text_in_call : (x y z : Operand) → IsOperand w Integer x → IsOperand w Integer y → IsOperand w TextVariable z → IsSoundCall w store 20 None (x ∷ y ∷ z ∷ [])
+  pub text_in_call : (x y z : Operand) → IsOperand w Integer x → IsOperand w Integer y → IsOperand w TextVariable z → IsSoundCall w store routine.str None (x ∷ y ∷ z ∷ [])
   text_in_call x y z is_x is_y is_z =
       let n = integer_given w x is_x in
       let m = integer_given w y is_y in
@@ -208,7 +209,7 @@ module _ (w : World) (agreed : AreConsistent w.program) (store : Store) (typed :
       finds_bind (IsTypedStore w) (IsTypedStore w) (number_assigned at result.0 store) (number_assigned code (pos result.1)) (number_put w agreed store typed at seen h.0 result.0 is h.1)
       (λ after t. number_put w agreed after t code other h'.0 (pos result.1) is' h'.1)
 
-  pub number_call : (x y z : Operand) → IsOperand w TextSlot x → IsOperand w IntegerVariable y → IsOperand w IntegerVariable z → IsSoundCall w store 21 None (x ∷ y ∷ z ∷ [])
+  pub number_call : (x y z : Operand) → IsOperand w TextSlot x → IsOperand w IntegerVariable y → IsOperand w IntegerVariable z → IsSoundCall w store routine.val None (x ∷ y ∷ z ∷ [])
   number_call x y z is_x is_y is_z =
       let t = text_given w x is_x in
       let p = integer_named w y is_y in

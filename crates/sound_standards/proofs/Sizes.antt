@@ -13,6 +13,7 @@ use Rattle.type_layout.specs.declared.definitions.TypeDef.TheVariants as type
 use Rattle.type_layout.specs.declared.layout.Layout.{Layout}
 use Rattle.type_layout.specs.Layouts.{plain, layouts_of}
 use Rattle.type_layout.specs.Table.{IsObject}
+use Rattle.typed_tree.specs.Standard as routine
 use Rattle.type_fits.specs.Fits.{stored_as, ancestor}
 use Rattle.type_fits.specs.Standard.{Variable}
 use Rattle.meaning.specs.Trees.{Key, Ordinal}
@@ -121,7 +122,7 @@ module _ (w : World) (agreed : AreConsistent w.program) (closed : HasClasses w.p
           let one : Reached → Found ℕ = λ at. size_by w.program at (class_place (parts_at at.sort.table.types at.sort.ty)) store in
           subst (λ (s : Sort). Finds IsSize (one (record { spot = at.spot; sort = s }))) (sym e) (omega arith)
 
-    pub size_call : (x : Operand) (result : Sort) → IsOperand w Variable x → stored_as (definition result) ≡ Some host.Word → IsSoundCall w store 12 (Some result) (x ∷ [])
+    pub size_call : (x : Operand) (result : Sort) → IsOperand w Variable x → stored_as (definition result) ≡ Some host.Word → IsSoundCall w store routine.size_of (Some result) (x ∷ [])
     size_call x result is gives =
         let p = variable_named w x is in
         record {

@@ -35,7 +35,7 @@ pub enum Standard {
     New,
 }
 
-// By their numbers, as the predeclared names have them.
+// In the order of their numbers (`typed_tree::standard`).
 const STANDARDS: [Option<Standard>; 30] = [
     Some(Standard::OfKept(Kept::Abs)),
     Some(Standard::OfKept(Kept::Sqr)),

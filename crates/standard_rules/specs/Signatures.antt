@@ -1,5 +1,6 @@
 -- What standard functions ask of their arguments, and the types of their results.
 use Rattle.std.specs.Prelude.{ℕ, ◌==◌, cond, List, [], ◌∷◌, Option, Some, None}
+use Rattle.typed_tree.specs.Standard as routine
 use Rattle.scopes.specs.Predeclared.{type_id}
 use Rattle.typing_rules.specs.Sorts.{integer, char, boolean, string}
 use Rattle.standard_rules.specs.declared.signatures.Want.TheVariants.{Integer, Short, Ordinal, Char, Text}
@@ -12,20 +13,16 @@ use Rattle.standard_rules.specs.declared.signatures.Signature.{Signature}
 -- the standard functions by their numbers; SizeOf has a judgement of its own, New as a function is not built yet
 unfoldable pub signatures : List (ℕ × Shape × Outcome)
 signatures =
-    -- Abs, Sqr
-    (0, One Integer, Held) ∷ (1, One Integer, Held) ∷
-    -- Odd, Ord, Chr
-    (2, One Integer, Is boolean) ∷ (3, One Ordinal, Held) ∷ (4, One Integer, Is char) ∷
-    -- Succ, Pred
-    (5, One Ordinal, Stored) ∷ (6, One Ordinal, Stored) ∷
-    -- Hi, Lo, Swap
-    (9, One Integer, Is (type_id 1)) ∷ (10, One Integer, Is (type_id 1)) ∷ (11, One Short, Held) ∷
-    -- UpCase, Length
-    (13, One Char, Is char) ∷ (14, One Text, Is integer) ∷
-    -- Copy, Concat, Pos
-    (15, Triple Text Integer Integer, Is string) ∷ (18, Texts, Is string) ∷ (19, Pair Text Text, Is (type_id 1)) ∷
-    -- Eof, Eoln
-    (26, Nothing, Is boolean) ∷ (27, Nothing, Is boolean) ∷
+    (routine.abs, One Integer, Held) ∷ (routine.sqr, One Integer, Held) ∷
+    (routine.odd, One Integer, Is boolean) ∷ (routine.ord, One Ordinal, Held) ∷
+    (routine.chr, One Integer, Is char) ∷
+    (routine.succ, One Ordinal, Stored) ∷ (routine.pred, One Ordinal, Stored) ∷
+    (routine.hi, One Integer, Is (type_id 1)) ∷ (routine.lo, One Integer, Is (type_id 1)) ∷
+    (routine.swap, One Short, Held) ∷
+    (routine.up_case, One Char, Is char) ∷ (routine.length, One Text, Is integer) ∷
+    (routine.copy, Triple Text Integer Integer, Is string) ∷ (routine.concat, Texts, Is string) ∷
+    (routine.pos, Pair Text Text, Is (type_id 1)) ∷
+    (routine.eof, Nothing, Is boolean) ∷ (routine.eoln, Nothing, Is boolean) ∷
     []
 
 -- what stands in the first row with a number

@@ -7,15 +7,16 @@ use Rattle.type_layout.specs.Layouts.{layout_at, size_of}
 use Rattle.typed_tree.specs.declared.expressions.Value.TheVariants.{Number}
 use Rattle.typed_tree.specs.Expressions.{Expression, Const, Load, Convert, Std}
 use Rattle.typed_tree.specs.Expressions as tree
+use Rattle.typed_tree.specs.Standard as routine
 use Rattle.typing_rules.specs.declared.faults.Rule.TheVariants as rules
 use Rattle.typing_rules.specs.Faults.{broken}
 use Rattle.typing_rules.specs.Judgements.{Judgement, makes, refuses}
 use Rattle.typing_rules.specs.Sorts.{word, number_type}
 use Rattle.call_rules.specs.Given.{place_of, arguments_of}
 
--- the number of SizeOf among the standard routines
+-- whether a standard routine is SizeOf
 abbrev pub is_size : ℕ → Bool
-is_size number = number == 12
+is_size number = number == routine.size_of
 
 abbrev pub is_there : Option ℕ → Bool
 is_there None = false
@@ -33,7 +34,7 @@ sized types ty = Convert word (Const (number_type (pos (size_of types ty))) (Num
 -- What a variable's size is asked by: that of its type, whatever is in it; but an instance that says its class has the size of
 -- that, which is found as the program runs.
 abbrev pub size_node : List TypeDef → TypeId → tree.Place → Expression
-size_node types ty at = cond (has_class types ty) (Std (Some word) 12 (arguments_of (place_of at ∷ []))) (sized types ty)
+size_node types ty at = cond (has_class types ty) (Std (Some word) routine.size_of (arguments_of (place_of at ∷ []))) (sized types ty)
 
 -- SizeOf of an expression, in a call at a place; it is a variable
 unfoldable pub variable_sized : List TypeDef → Place → Expression → Judgement Expression

@@ -5,6 +5,7 @@ use Rattle.type_layout.specs.declared.definitions.TypeDef.{TypeDef}
 use Rattle.type_layout.specs.declared.definitions.Host.{Host}
 use Rattle.type_layout.specs.declared.texts.Place.{Place}
 use Rattle.typed_tree.specs.Expressions.{Expression, Std, type_of}
+use Rattle.typed_tree.specs.Standard as routine
 use Rattle.typing_rules.specs.declared.faults.Rule.TheVariants as rules
 use Rattle.typing_rules.specs.declared.sorts.Sort.{Sort}
 use Rattle.typing_rules.specs.declared.sorts.Sort.TheVariants as sort
@@ -127,7 +128,7 @@ of_signature types place number one es =
 
 -- SizeOf and New, whose arguments are no values of a row of the table
 abbrev pub is_special : ℕ → Bool
-is_special number = (number == 12) || (number == 28)
+is_special number = (number == routine.size_of) || (number == routine.new)
 
 -- a procedure stands in no expression
 abbrev pub by_signature : List TypeDef → Place → ℕ → Option Signature → List Expression → Judgement Expression

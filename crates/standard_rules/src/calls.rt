@@ -12,6 +12,7 @@ use call_rules::is_ordinal;
 use scopes::{INTEGER, LONG_INT};
 use std::alloc::Global;
 use type_layout::{Host, Place, TypeId, Types};
+use typed_tree::standard::{NEW, SIZE_OF};
 use typed_tree::{Arg, Expr};
 use typing_rules::{
     Refusal, Rule, Sort, as_text, broken, holding_type, is_integer, is_text, predefined, sort_of,
@@ -167,7 +168,7 @@ fn result_type(types: &Types, outcome: Outcome, values: &[Expr]) -> TypeId
 pub fn is_special(number: u32) -> bool
     ensures { result ≡ is_special number }
 {
-    number == 12 || number == 28
+    number == SIZE_OF || number == NEW
 }
 
 /// The node of the call of a standard function at a place.

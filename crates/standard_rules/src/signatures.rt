@@ -5,6 +5,10 @@ ghost use Rattle.standard_rules.specs.Signatures.{signature_in, signature_of};
 
 use scopes::{BOOLEAN, BYTE, CHAR, INTEGER, STRING};
 use type_layout::TypeId;
+use typed_tree::standard::{
+    ABS, CHR, CONCAT, COPY, EOF, EOLN, HI, LENGTH, LO, ODD, ORD, POS, PRED, SQR, SUCC, SWAP,
+    UP_CASE,
+};
 
 /// What is asked of an argument. `Short` is an integer that Integer or Word holds, and a Char is a text too.
 #[derive(Clone, Copy, Debug, PartialEq, Eq)]
@@ -42,29 +46,29 @@ pub struct Signature {
     pub outcome: Outcome,
 }
 
-// The functions by the numbers of the predeclared names. SizeOf has a judgement of its own, New as a function is not built yet.
+// The functions by their numbers. SizeOf has a judgement of its own, New as a function is not built yet.
 const SIGNATURES: [(u32, Shape, Outcome); 17] = [
-    (0, Shape::One(Want::Integer), Outcome::Held),
-    (1, Shape::One(Want::Integer), Outcome::Held),
-    (2, Shape::One(Want::Integer), Outcome::Is(BOOLEAN)),
-    (3, Shape::One(Want::Ordinal), Outcome::Held),
-    (4, Shape::One(Want::Integer), Outcome::Is(CHAR)),
-    (5, Shape::One(Want::Ordinal), Outcome::Stored),
-    (6, Shape::One(Want::Ordinal), Outcome::Stored),
-    (9, Shape::One(Want::Integer), Outcome::Is(BYTE)),
-    (10, Shape::One(Want::Integer), Outcome::Is(BYTE)),
-    (11, Shape::One(Want::Short), Outcome::Held),
-    (13, Shape::One(Want::Char), Outcome::Is(CHAR)),
-    (14, Shape::One(Want::Text), Outcome::Is(INTEGER)),
+    (ABS, Shape::One(Want::Integer), Outcome::Held),
+    (SQR, Shape::One(Want::Integer), Outcome::Held),
+    (ODD, Shape::One(Want::Integer), Outcome::Is(BOOLEAN)),
+    (ORD, Shape::One(Want::Ordinal), Outcome::Held),
+    (CHR, Shape::One(Want::Integer), Outcome::Is(CHAR)),
+    (SUCC, Shape::One(Want::Ordinal), Outcome::Stored),
+    (PRED, Shape::One(Want::Ordinal), Outcome::Stored),
+    (HI, Shape::One(Want::Integer), Outcome::Is(BYTE)),
+    (LO, Shape::One(Want::Integer), Outcome::Is(BYTE)),
+    (SWAP, Shape::One(Want::Short), Outcome::Held),
+    (UP_CASE, Shape::One(Want::Char), Outcome::Is(CHAR)),
+    (LENGTH, Shape::One(Want::Text), Outcome::Is(INTEGER)),
     (
-        15,
+        COPY,
         Shape::Triple(Want::Text, Want::Integer, Want::Integer),
         Outcome::Is(STRING),
     ),
-    (18, Shape::Texts, Outcome::Is(STRING)),
-    (19, Shape::Pair(Want::Text, Want::Text), Outcome::Is(BYTE)),
-    (26, Shape::Nothing, Outcome::Is(BOOLEAN)),
-    (27, Shape::Nothing, Outcome::Is(BOOLEAN)),
+    (CONCAT, Shape::Texts, Outcome::Is(STRING)),
+    (POS, Shape::Pair(Want::Text, Want::Text), Outcome::Is(BYTE)),
+    (EOF, Shape::Nothing, Outcome::Is(BOOLEAN)),
+    (EOLN, Shape::Nothing, Outcome::Is(BOOLEAN)),
 ];
 
 // What stands in the first row with a number.

@@ -3,6 +3,7 @@
 ghost use Rattle.std.specs.Prelude.{◌≡◌, Ok, Some, [], ◌∷◌};
 ghost use Rattle.type_layout.specs.Layouts.{size_of};
 ghost use Rattle.typed_tree.specs.Expressions.{Std, view_expr, view_place};
+ghost use Rattle.typed_tree.specs.Standard as routine;
 ghost use Rattle.typing_rules.specs.Judgements.{Gives};
 ghost use Rattle.typing_rules.specs.Sorts.{word};
 ghost use Rattle.call_rules.specs.Given.{arguments_of, place_of};
@@ -11,10 +12,9 @@ ghost use Rattle.standard_rules.specs.Sizes.{has_class, is_size, size_node, size
 use scopes::WORD;
 use std::alloc::Global;
 use type_layout::{Place, TypeId, Types, class_field_of, size_of};
+use typed_tree::standard::SIZE_OF;
 use typed_tree::{Arg, Expr, PlaceExpr, Value};
 use typing_rules::{Refusal, Rule, broken, number_type};
-
-const SIZE_OF: u32 = 12;
 
 /// Whether a standard routine is SizeOf, whose argument may be a type.
 pub fn is_size(number: u32) -> bool
@@ -62,7 +62,7 @@ pub fn sized(alloc: Global, types: &Types, ty: TypeId) -> Result<Expr, Refusal>
 
 // SizeOf of an instance that says its class.
 fn size_asked(alloc: Global, at: PlaceExpr) -> Result<Expr, Refusal>
-    ensures { Gives view_expr result (Ok (Std (Some word) 12 (arguments_of (place_of (view_place at) ∷ [])))) }
+    ensures { Gives view_expr result (Ok (Std (Some word) routine.size_of (arguments_of (place_of (view_place at) ∷ [])))) }
 {
     let mut args = Vec::new(alloc);
     args.push(Arg::Place(at))?;

@@ -8,6 +8,7 @@ use Rattle.statement_tree.specs.Places.{place_of}
 use Rattle.typed_tree.specs.declared.expressions.Value.TheVariants as value
 use Rattle.typed_tree.specs.Expressions.{Expression, Const}
 use Rattle.typed_tree.specs.Statements.{Statement, Written, Taken, Run, WriteItems, ReadItems, Halt, Exit}
+use Rattle.typed_tree.specs.Standard as routine
 use Rattle.scopes.specs.Environment.{Environment}
 use Rattle.typing_rules.specs.declared.faults.Rule.TheVariants as rules
 use Rattle.typing_rules.specs.Faults.{broken}
@@ -124,9 +125,9 @@ ended_by g here e (Some one) = part (destructor_of g here.place e one.word) (end
 abbrev pub ending : Environment → Position → Tree → Tree → Judgement Statement
 ending g here one two = part (judged g one) (λ e. ended_by g here e (named_call two))
 
--- the number of New among the standard routines
+-- whether a standard routine is New
 abbrev pub is_creating : ℕ → Bool
-is_creating number = number == 28
+is_creating number = number == routine.new
 
 -- two arguments without widths
 pub record Pair : Type 0 where
@@ -152,13 +153,13 @@ managing g here number all = managed g here number all (plain_pair all)
 
 -- ---- standard routines
 
--- which statement a standard routine is, by its number among the predeclared names
+-- which statement a standard routine is, by its number
 abbrev pub standard_of : ℕ → StandardStatement
 standard_of n =
-    cond (n == 22) (standard.Write false) (cond (n == 23) (standard.Write true)
-    (cond (n == 24) (standard.Read false) (cond (n == 25) (standard.Read true)
-    (cond (n == 30) standard.Halt (cond (n == 31) standard.Exit (cond (n == 20) standard.Str
-    (cond (n == 28) standard.Heap (cond (n == 29) standard.Heap standard.Other))))))))
+    cond (n == routine.write) (standard.Write false) (cond (n == routine.write_ln) (standard.Write true)
+    (cond (n == routine.read) (standard.Read false) (cond (n == routine.read_ln) (standard.Read true)
+    (cond (n == routine.halt) standard.Halt (cond (n == routine.exit) standard.Exit (cond (n == routine.str) standard.Str
+    (cond (n == routine.new) standard.Heap (cond (n == routine.dispose) standard.Heap standard.Other))))))))
 
 -- a function is no statement
 abbrev pub standard_run : Environment → Position → ℕ → StandardStatement → Operands → Judgement Statement

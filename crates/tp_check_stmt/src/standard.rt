@@ -25,6 +25,7 @@ use std::alloc::Global;
 use syntax_tree::{Argument, Expression};
 use tp_check_expr::{judged_expression, made_by, operands};
 use type_layout::{Place, Types};
+use typed_tree::standard::{DISPOSE, EXIT, HALT, NEW, READ, READ_LN, STR, WRITE, WRITE_LN};
 use typed_tree::{Expr, ReadItem, Stmt, Value, WriteItem};
 use typing_rules::{Refusal, Rule, broken, is_integer, sort_of, sort_of_type};
 
@@ -350,7 +351,7 @@ fn ending(
 fn is_creating(number: u32) -> bool
     ensures { result ≡ is_creating number }
 {
-    number == 28
+    number == NEW
 }
 
 // Two arguments without widths.
@@ -419,14 +420,14 @@ fn standard_of(number: u32) -> StandardStatement
     ensures { result ≡ standard_of number }
 {
     match number {
-        22 => StandardStatement::Write(false),
-        23 => StandardStatement::Write(true),
-        24 => StandardStatement::Read(false),
-        25 => StandardStatement::Read(true),
-        30 => StandardStatement::Halt,
-        31 => StandardStatement::Exit,
-        20 => StandardStatement::Str,
-        28 | 29 => StandardStatement::Heap,
+        WRITE => StandardStatement::Write(false),
+        WRITE_LN => StandardStatement::Write(true),
+        READ => StandardStatement::Read(false),
+        READ_LN => StandardStatement::Read(true),
+        HALT => StandardStatement::Halt,
+        EXIT => StandardStatement::Exit,
+        STR => StandardStatement::Str,
+        NEW | DISPOSE => StandardStatement::Heap,
         _ => StandardStatement::Other,
     }
 }

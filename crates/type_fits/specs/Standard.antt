@@ -8,6 +8,7 @@ use Rattle.type_layout.specs.declared.definitions.TypeDef.{TypeDef}
 use Rattle.type_layout.specs.Storage.{least_of, greatest_of, holds}
 use Rattle.typed_tree.specs.declared.expressions.Value.TheVariants as constant
 use Rattle.typed_tree.specs.Expressions.{type_of, Expression, Arguments, Const, ByValue}
+use Rattle.typed_tree.specs.Standard as routine
 use Rattle.type_fits.specs.Fits.{definition, stored_as, held_as, IsSome, IsInteger, IsBoolean, IsChar, AreStoredAlike, IsWide, IsString, IsPointer}
 
 -- what the type of an expression is, which a call of a procedure does not have
@@ -102,33 +103,33 @@ IsText slot = slot ≡ Text
 -- The standard routine with a number takes these arguments and gives that. A routine that may be called with more or fewer has a
 -- line for each count.
 pub data IsStandard : ℕ → List Slot → Outcome → Type 0 where
-  abs : IsStandard 0 (Integer ∷ []) Wide
-  sqr : IsStandard 1 (Integer ∷ []) Wide
-  odd : IsStandard 2 (Integer ∷ []) Truth
-  ord : IsStandard 3 (Ordinal ∷ []) Holding
-  chr : IsStandard 4 (Integer ∷ []) Letter
-  succ : IsStandard 5 (Ordinal ∷ []) Alike
-  pred : IsStandard 6 (Ordinal ∷ []) Alike
-  inc : IsStandard 7 (OrdinalVariable ∷ []) Nothing
-  inc_by : IsStandard 7 (OrdinalVariable ∷ Integer ∷ []) Nothing
-  dec : IsStandard 8 (OrdinalVariable ∷ []) Nothing
-  dec_by : IsStandard 8 (OrdinalVariable ∷ Integer ∷ []) Nothing
-  hi : IsStandard 9 (Integer ∷ []) Byte
-  lo : IsStandard 10 (Integer ∷ []) Byte
-  swap : IsStandard 11 (Integer ∷ []) Wide
-  size : IsStandard 12 (Variable ∷ []) Size
-  up_case : IsStandard 13 (Char ∷ []) Letter
-  length_of : IsStandard 14 (Text ∷ []) Small
-  copy : IsStandard 15 (Text ∷ Integer ∷ Integer ∷ []) Line
-  delete : IsStandard 16 (TextVariable ∷ Integer ∷ Integer ∷ []) Nothing
-  insert : IsStandard 17 (Text ∷ TextVariable ∷ Integer ∷ []) Nothing
-  concat : (more : List Slot) → All IsText more → IsStandard 18 (Text ∷ more) Line
-  position : IsStandard 19 (Text ∷ Text ∷ []) Byte
-  text : IsStandard 20 (Integer ∷ TextVariable ∷ []) Nothing
-  text_in : IsStandard 20 (Integer ∷ Integer ∷ TextVariable ∷ []) Nothing
-  number : IsStandard 21 (Text ∷ IntegerVariable ∷ IntegerVariable ∷ []) Nothing
-  end_of_file : IsStandard 26 [] Truth
-  end_of_line : IsStandard 27 [] Truth
-  new : IsStandard 28 (PointerVariable ∷ []) Nothing
-  new_block : IsStandard 28 [] Link
-  dispose : IsStandard 29 (Pointer ∷ []) Nothing
+  abs : IsStandard routine.abs (Integer ∷ []) Wide
+  sqr : IsStandard routine.sqr (Integer ∷ []) Wide
+  odd : IsStandard routine.odd (Integer ∷ []) Truth
+  ord : IsStandard routine.ord (Ordinal ∷ []) Holding
+  chr : IsStandard routine.chr (Integer ∷ []) Letter
+  succ : IsStandard routine.succ (Ordinal ∷ []) Alike
+  pred : IsStandard routine.pred (Ordinal ∷ []) Alike
+  inc : IsStandard routine.inc (OrdinalVariable ∷ []) Nothing
+  inc_by : IsStandard routine.inc (OrdinalVariable ∷ Integer ∷ []) Nothing
+  dec : IsStandard routine.dec (OrdinalVariable ∷ []) Nothing
+  dec_by : IsStandard routine.dec (OrdinalVariable ∷ Integer ∷ []) Nothing
+  hi : IsStandard routine.hi (Integer ∷ []) Byte
+  lo : IsStandard routine.lo (Integer ∷ []) Byte
+  swap : IsStandard routine.swap (Integer ∷ []) Wide
+  size : IsStandard routine.size_of (Variable ∷ []) Size
+  up_case : IsStandard routine.up_case (Char ∷ []) Letter
+  length_of : IsStandard routine.length (Text ∷ []) Small
+  copy : IsStandard routine.copy (Text ∷ Integer ∷ Integer ∷ []) Line
+  delete : IsStandard routine.delete (TextVariable ∷ Integer ∷ Integer ∷ []) Nothing
+  insert : IsStandard routine.insert (Text ∷ TextVariable ∷ Integer ∷ []) Nothing
+  concat : (more : List Slot) → All IsText more → IsStandard routine.concat (Text ∷ more) Line
+  position : IsStandard routine.pos (Text ∷ Text ∷ []) Byte
+  text : IsStandard routine.str (Integer ∷ TextVariable ∷ []) Nothing
+  text_in : IsStandard routine.str (Integer ∷ Integer ∷ TextVariable ∷ []) Nothing
+  number : IsStandard routine.val (Text ∷ IntegerVariable ∷ IntegerVariable ∷ []) Nothing
+  end_of_file : IsStandard routine.eof [] Truth
+  end_of_line : IsStandard routine.eoln [] Truth
+  new : IsStandard routine.new (PointerVariable ∷ []) Nothing
+  new_block : IsStandard routine.new [] Link
+  dispose : IsStandard routine.dispose (Pointer ∷ []) Nothing

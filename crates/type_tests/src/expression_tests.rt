@@ -12,6 +12,7 @@ use tree_samples::ExprSample::{
 };
 use tree_samples::StmtSample::Halt;
 use tree_samples::{ArgSample, Callee, PlaceSample, StmtSample};
+use typed_tree::standard::SQR;
 use typed_tree::{BinaryOp, UnaryOp, Variable};
 
 /// A `Halt`, the slot of its operand, what it needs, and what the operand weighs.
@@ -171,7 +172,7 @@ const OTHER_CALLS: &[Row] = &[
     (
         Halt(&Call(
             Some(INTEGER),
-            Callee::Standard(1),
+            Callee::Standard(SQR),
             &[ArgSample::Place(PLACE)],
         )),
         (2, 6, 152),

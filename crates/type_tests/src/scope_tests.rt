@@ -5,6 +5,7 @@ use scopes::{BlockKind, Entry, Found, INTEGER, Scope, Symbols};
 use std::alloc::{AllocError, Global};
 use tree_samples::{HeaderSample, TypeSample, definition, named};
 use type_layout::{Kind, Name, RoutineId, TypeDef, TypeId};
+use typed_tree::standard::{EXIT, WRITE, WRITE_LN};
 
 /// What is done to a scope, or asked of it.
 enum Step {
@@ -222,8 +223,8 @@ const HIDING_UNITS: &[Step] = &[
         ("E", (0, b'-', 0)),
         ("ABS", (3, b'v', 20)),
         ("WRITE", (1, b'v', 2)),
-        ("WRITELN", (0, b's', 23)),
-        ("EXIT", (0, b's', 31)),
+        ("WRITELN", (0, b's', WRITE_LN)),
+        ("EXIT", (0, b's', EXIT)),
         ("BOOLEAN", (0, b't', 6)),
         ("MAXINT", (0, b'c', 0)),
     ]),
@@ -234,7 +235,7 @@ const HIDING_UNITS: &[Step] = &[
         ("D", (3, b'v', 20)),
     ]),
     Step::See(0),
-    Step::Find(&[("B", (0, b'-', 0)), ("WRITE", (0, b's', 22))]),
+    Step::Find(&[("B", (0, b'-', 0)), ("WRITE", (0, b's', WRITE))]),
     Step::See(2),
     Step::Find(&[("B", (2, b'v', 1))]),
 ];

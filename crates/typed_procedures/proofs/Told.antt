@@ -3,6 +3,7 @@ use Rattle.std.proofs.Common.{◌≡◌, ℕ, List, [], ◌∷◌, ◌++◌, Opt
 use Rattle.type_layout.specs.declared.texts.Place.{Place}
 use Rattle.typed_tree.specs.Expressions.{Expression, Std}
 use Rattle.typed_tree.specs.Statements.{Written}
+use Rattle.typed_tree.specs.Standard as routine
 use Rattle.well_formed.specs.Scopes.{Scope}
 use Rattle.well_formed.specs.Typed.{IsTyped}
 use Rattle.type_fits.specs.Standard.{Integer, TextVariable, Nothing, text, text_in}
@@ -17,7 +18,7 @@ use Rattle.typed_procedures.proofs.Slots.{IsFilled, fill_onto, variable_filled, 
 
 module _ (s : Scope) (sound : IsSound s.types) (place : Place) where
   abbrev IsStr : List Handed → Handed → Type 0
-  IsStr xs to = IsTyped s (Std None 20 (arguments_of (xs ++ to ∷ [])))
+  IsStr xs to = IsTyped s (Std None routine.str (arguments_of (xs ++ to ∷ [])))
 
   alone : (x to : Handed) → IsFilled s Integer x → IsFilled s TextVariable to → IsStr (x ∷ []) to
   alone x to h k =

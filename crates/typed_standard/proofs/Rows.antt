@@ -9,6 +9,7 @@ use Rattle.type_layout.specs.declared.definitions.Host.TheVariants as host
 use Rattle.type_layout.specs.declared.definitions.TypeDef.{TypeDef}
 use Rattle.type_layout.specs.declared.texts.Place.{Place}
 use Rattle.typed_tree.specs.Expressions.{Expression, Arguments, NoArguments, ByValue, Std, type_of}
+use Rattle.typed_tree.specs.Standard as routine
 use Rattle.type_fits.specs.Fits.{definition, stored_as, IsSome, IsString, IsWide, AreStoredAlike}
 use Rattle.well_formed.specs.Scopes.{Scope}
 use Rattle.well_formed.specs.Typed.{IsTyped, FillEach}
@@ -68,8 +69,8 @@ module _ (s : Scope) (sound : IsSound s.types) where
       (w.0, (Integer ∷ [], Wide, rule, (t.0, t.1, tt), w.1)))
       es oes k
 
-  of_short : IsRight (11, shape.One want.Short, result.Held)
-  of_short es oes k = one_argument want.Short (λ es. IsTyped s (Std (Some (result_type s.types result.Held es)) 11 (arguments_of (map (handed s.types false) es))))
+  of_short : IsRight (routine.swap, shape.One want.Short, result.Held)
+  of_short es oes k = one_argument want.Short (λ es. IsTyped s (Std (Some (result_type s.types result.Held es)) routine.swap (arguments_of (map (handed s.types false) es))))
       (λ e oe f.
       let t = short_given s e oe f in
       let w = wide_in (held_type (sorts.sort_of s.types e)) (held_wide s sound (sorts.sort_of s.types e)) in
@@ -85,8 +86,8 @@ module _ (s : Scope) (sound : IsSound s.types) where
       (there, (Integer ∷ [], outcome, rule, (t.0, t.1, tt), gives (ByValue e NoArguments))))
       es oes k
 
-  of_ordinal : IsRight (3, shape.One want.Ordinal, result.Held)
-  of_ordinal es oes k = one_argument want.Ordinal (λ es. IsTyped s (Std (Some (result_type s.types result.Held es)) 3 (arguments_of (map (handed s.types false) es))))
+  of_ordinal : IsRight (routine.ord, shape.One want.Ordinal, result.Held)
+  of_ordinal es oes k = one_argument want.Ordinal (λ es. IsTyped s (Std (Some (result_type s.types result.Held es)) routine.ord (arguments_of (map (handed s.types false) es))))
       (λ e oe f.
       let t = ordinal_given s e oe f in
       let w = wide_in (held_type (sorts.sort_of s.types e)) (held_wide s sound (sorts.sort_of s.types e)) in
@@ -115,15 +116,15 @@ module _ (s : Scope) (sound : IsSound s.types) where
       (n.0, (Ordinal ∷ [], Alike, rule, (t.0, t.1, tt), n.1)))
       es oes k
 
-  of_char : IsRight (13, shape.One want.Char, result.Is char)
-  of_char es oes k = one_argument want.Char (λ es. IsTyped s (Std (Some char) 13 (arguments_of (map (handed s.types false) es))))
+  of_char : IsRight (routine.up_case, shape.One want.Char, result.Is char)
+  of_char es oes k = one_argument want.Char (λ es. IsTyped s (Std (Some char) routine.up_case (arguments_of (map (handed s.types false) es))))
       (λ e oe f.
       let t = char_given s e oe f in
       (stored_in char host.Char (stored_char s.types sound), (Char ∷ [], Letter, up_case, (t.0, t.1, tt), stored_char s.types sound)))
       es oes k
 
-  of_text : IsRight (14, shape.One want.Text, result.Is integer)
-  of_text es oes k = one_argument want.Text (λ es. IsTyped s (Std (Some integer) 14 (arguments_of (map (handed s.types true) es))))
+  of_text : IsRight (routine.length, shape.One want.Text, result.Is integer)
+  of_text es oes k = one_argument want.Text (λ es. IsTyped s (Std (Some integer) routine.length (arguments_of (map (handed s.types true) es))))
       (λ e oe f.
       let t = text_taken s sound e oe f in
       (stored_in integer host.Integer (stored_integer s.types sound), (Text ∷ [], Small, length_of, (t.0, t.1, tt), stored_integer s.types sound)))
@@ -134,7 +135,7 @@ module _ (s : Scope) (sound : IsSound s.types) where
   text_in : IsInTable s.types string
   text_in = string_in (definition s.types string) (string_type s sound)
 
-  of_copy : IsRight (15, shape.Triple want.Text want.Integer want.Integer, result.Is string)
+  of_copy : IsRight (routine.copy, shape.Triple want.Text want.Integer want.Integer, result.Is string)
   of_copy [] oes k = absurd k
   of_copy (a ∷ []) oes k = absurd k
   of_copy (a ∷ (b ∷ [])) oes k = absurd k
@@ -145,7 +146,7 @@ module _ (s : Scope) (sound : IsSound s.types) where
       (text_in, (Text ∷ (Integer ∷ (Integer ∷ [])), Line, copy, (t.0, t.1, (i.0, i.1, (j.0, j.1, tt))), string_type s sound))
   of_copy (a ∷ (b ∷ (c ∷ (d ∷ es)))) oes k = absurd k
 
-  of_position : IsRight (19, shape.Pair want.Text want.Text, result.Is (type_id 1))
+  of_position : IsRight (routine.pos, shape.Pair want.Text want.Text, result.Is (type_id 1))
   of_position [] oes k = absurd k
   of_position (a ∷ []) oes k = absurd k
   of_position (a ∷ (b ∷ [])) oes k =
@@ -170,7 +171,7 @@ module _ (s : Scope) (sound : IsSound s.types) where
       let t = text_taken s sound e oes.0 k.0 in
       (t.0, t.1, texts_filled es oes.1 k.1)
 
-  of_texts : IsRight (18, shape.Texts, result.Is string)
+  of_texts : IsRight (routine.concat, shape.Texts, result.Is string)
   unfolding texts
   of_texts [] oes k = absurd k
   of_texts (e ∷ es) oes k = (text_in, (Text ∷ texts es, Line, concat (texts es) (all_texts es), texts_filled (e ∷ es) oes k, string_type s sound))
@@ -190,24 +191,24 @@ module _ (s : Scope) (sound : IsSound s.types) where
   all_right : AreRight signatures
   unfolding signatures
   all_right = (
-    of_integer 0 abs,
+    of_integer routine.abs abs,
     (
-      of_integer 1 sqr,
+      of_integer routine.sqr sqr,
       (
-        integer_to 2 boolean Truth odd (stored_in boolean host.Boolean (stored_boolean s.types sound)) (λ args. stored_boolean s.types sound),
+        integer_to routine.odd boolean Truth odd (stored_in boolean host.Boolean (stored_boolean s.types sound)) (λ args. stored_boolean s.types sound),
         (
           of_ordinal,
           (
-            integer_to 4 char Letter chr (stored_in char host.Char (stored_char s.types sound)) (λ args. stored_char s.types sound),
+            integer_to routine.chr char Letter chr (stored_in char host.Char (stored_char s.types sound)) (λ args. stored_char s.types sound),
             (
-              of_neighbour 5 succ,
+              of_neighbour routine.succ succ,
               (
-                of_neighbour 6 pred,
+                of_neighbour routine.pred pred,
                 (
-                  integer_to 9 (type_id 1) Byte hi (stored_in (type_id 1) host.Byte (stored_byte s.types sound)) (λ args. stored_byte s.types sound),
+                  integer_to routine.hi (type_id 1) Byte hi (stored_in (type_id 1) host.Byte (stored_byte s.types sound)) (λ args. stored_byte s.types sound),
                   (
-                    integer_to 10 (type_id 1) Byte lo (stored_in (type_id 1) host.Byte (stored_byte s.types sound)) (λ args. stored_byte s.types sound),
-                    (of_short, (of_char, (of_text, (of_copy, (of_texts, (of_position, (of_nothing 26 end_of_file, (of_nothing 27 end_of_line, tt)))))))),
+                    integer_to routine.lo (type_id 1) Byte lo (stored_in (type_id 1) host.Byte (stored_byte s.types sound)) (λ args. stored_byte s.types sound),
+                    (of_short, (of_char, (of_text, (of_copy, (of_texts, (of_position, (of_nothing routine.eof end_of_file, (of_nothing routine.eoln end_of_line, tt)))))))),
                   ),
                 ),
               ),

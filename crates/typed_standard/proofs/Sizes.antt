@@ -11,6 +11,7 @@ use Rattle.type_layout.specs.Layouts.{plain, layouts_of, size_of}
 use Rattle.type_layout.specs.Storage.{holds}
 use Rattle.typed_tree.specs.Expressions as tree
 use Rattle.typed_tree.specs.Expressions.{Expression, Load, Std, NoArguments, ByPlace}
+use Rattle.typed_tree.specs.Standard as routine
 use Rattle.type_fits.specs.Fits.{definition, stored_as}
 use Rattle.well_formed.specs.Scopes.{Scope, HasType}
 use Rattle.well_formed.specs.Typed.{IsTyped, HasPlace}
@@ -47,7 +48,7 @@ module _ (s : Scope) (sound : IsSound s.types) where
         inl (some_of to host.Word (stored_word s.types sound), some_of from wide.0 wide.1),
       )
 
-  node_by : (ty : TypeId) (at : tree.Place) → HasType s ty → HasPlace s at ty → (b : Bool) → IsTyped s (cond b (Std (Some word) 12 (ByPlace at NoArguments)) (sized s.types ty))
+  node_by : (ty : TypeId) (at : tree.Place) → HasType s ty → HasPlace s at ty → (b : Bool) → IsTyped s (cond b (Std (Some word) routine.size_of (ByPlace at NoArguments)) (sized s.types ty))
   node_by ty at there has true =
       let stored = stored_word s.types sound in
       (type_some (definition s.types word) host.Word stored, (Variable ∷ [], Size, size, ((ty, has, there), tt), stored))

@@ -1,3 +1,4 @@
+pub mod Standard
 pub mod Expressions
 pub mod Statements
 pub mod Slots

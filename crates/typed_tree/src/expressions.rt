@@ -120,7 +120,7 @@ pub enum Expr {
         place: Box<PlaceExpr>,
         args: Vec<Arg>,
     },
-    /// A call of a standard routine.
+    /// A call of a standard routine, which has one of the numbers in `standard`.
     Std {
         ty: Option<TypeId>,
         number: u32,

@@ -5,6 +5,7 @@ mod expressions;
 mod frames;
 mod needs;
 mod slots;
+pub mod standard;
 mod statement_needs;
 mod statement_weights;
 mod statements;

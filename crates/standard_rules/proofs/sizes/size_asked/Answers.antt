@@ -2,6 +2,7 @@ use Rattle.std.proofs.Common.{◌≡◌, List, [], ◌∷◌, Some, Ok, map, ref
 use Rattle.typed_tree.specs.declared.expressions.Arg.{Arg}
 use Rattle.typed_tree.specs.declared.expressions.Arg.TheVariants as arg
 use Rattle.typed_tree.specs.Expressions.{Std}
+use Rattle.typed_tree.specs.Standard as routine
 use Rattle.typing_rules.specs.Sorts.{word}
 use Rattle.call_rules.specs.Given.{view_handed, arguments_of}
 use Rattle.standard_rules.proofs.Nodes.{std_node}
@@ -12,4 +13,4 @@ returns c =
     let more = c.in_ok-push.ensures.items in
     let none = c.new-args.ensures.items in
     let items : c.push.new.self.items ≡ arg.Place c.args.at ∷ [] = cc (more, none) in
-    sym (ap Ok (std_node (Some word) 12 c.push.new.self ∙ ap (λ (l : List Arg). Std (Some word) 12 (arguments_of (map view_handed l))) items))
+    sym (ap Ok (std_node (Some word) routine.size_of c.push.new.self ∙ ap (λ (l : List Arg). Std (Some word) routine.size_of (arguments_of (map view_handed l))) items))
