@@ -12,7 +12,7 @@ use Rattle.type_layout.specs.Storage.{storage_of}
 use Rattle.tp_lexer.specs.declared.token.Feature.TheVariants as feature
 use Rattle.typed_tree.specs.Expressions as tree
 use Rattle.typed_tree.specs.Expressions.{Expression, Const, RoutineValue, Load, Unary, Binary, Convert, Range, SetOf, Call, CallVirtual, CallThrough, Std, Make, type_of}
-use Rattle.type_fits.specs.Fits.{definition}
+use Rattle.typed_tree.specs.type_fits.Fits.{definition}
 use Rattle.typing_rules.specs.declared.faults.Rule.TheVariants as rules
 use Rattle.typing_rules.specs.declared.sorts.Sort.{Sort}
 use Rattle.typing_rules.specs.declared.sorts.Sort.TheVariants as sort

@@ -6,7 +6,7 @@ use Rattle.type_layout.specs.declared.definitions.TypeDef.{TypeDef}
 use Rattle.type_layout.specs.declared.texts.Place.{Place}
 use Rattle.typed_tree.specs.declared.expressions.Expr.{Expr}
 use Rattle.typed_tree.specs.Expressions.{view_expr}
-use Rattle.type_fits.specs.Fits.{definition}
+use Rattle.typed_tree.specs.type_fits.Fits.{definition}
 use Rattle.typing_rules.specs.Sorts.{sort_of}
 use Rattle.call_rules.specs.Casts.{cast_one, cast}
 

@@ -11,7 +11,7 @@ use Rattle.typed_tree.specs.declared.expressions.Arg.{Arg}
 use Rattle.typed_tree.specs.declared.expressions.Arg.TheVariants as arg
 use Rattle.typed_tree.specs.Expressions as tree
 use Rattle.typed_tree.specs.Expressions.{Expression, Arguments, NoArguments, ByValue, ByPlace, Load, Call, NoReceiver, type_of, view_expr, view_place}
-use Rattle.type_fits.specs.Fits.{definition}
+use Rattle.typed_tree.specs.type_fits.Fits.{definition}
 use Rattle.typing_rules.specs.declared.faults.Rule.TheVariants as rules
 use Rattle.typing_rules.specs.Faults.{broken}
 use Rattle.typing_rules.specs.Judgements.{Judgement, makes, refuses, rule, part, parts}

@@ -2,7 +2,7 @@
 
 ghost use Rattle.std.specs.Prelude.{◌≡◌, map};
 ghost use Rattle.typed_tree.specs.Expressions.{view_expr};
-ghost use Rattle.type_fits.specs.Fits.{definition};
+ghost use Rattle.typed_tree.specs.type_fits.Fits.{definition};
 ghost use Rattle.typing_rules.specs.Judgements.{Gives};
 ghost use Rattle.typing_rules.specs.Sorts.{sort_of};
 ghost use Rattle.call_rules.specs.Casts.{is_ordinal, is_pointer, cast_one, cast};

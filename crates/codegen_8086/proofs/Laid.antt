@@ -2,15 +2,15 @@
 use Rattle.std.proofs.Common.{arith, ◌≡◌, ℕ, ◌+◌, ◌<◌, ◌≤◌, List, [], ◌∷◌, ◌++◌, length, get_or, take, sym, ap, subst, ◌∙◌, append_assoc, length-append}
 use Rattle.std.proofs.lemmas.List.{take_more, append-nil}
 use Rattle.type_layout.specs.declared.definitions.RoutineId.{RoutineId}
-use Rattle.object_unit.specs.declared.object.Code8086.{Code8086}
+use Rattle.object_file.specs.declared.object_unit.object.Code8086.{Code8086}
 use Rattle.x86_table.specs.declared.line.Line.{Line}
 use Rattle.x86_table.specs.Lines.{code_size}
 use Rattle.flat_code.specs.declared.unit.FlatRoutine.{FlatRoutine}
-use Rattle.code_references.specs.declared.marks.MarkedLine.{MarkedLine}
+use Rattle.code_templates.specs.declared.code_references.marks.MarkedLine.{MarkedLine}
 use Rattle.flat_code.specs.Plain.{view_routine}
 use Rattle.flat_code.specs.Program.{Name, UnitCode}
-use Rattle.code_references.specs.Marked.{marked_routine, stored}
-use Rattle.object_code.specs.Objects.{IsLaidOut, code_of, AreLaidOut, sizes, codes_of, all_stored}
+use Rattle.code_templates.specs.code_references.Marked.{marked_routine, stored}
+use Rattle.codegen_8086.specs.object_code.Objects.{IsLaidOut, code_of, AreLaidOut, sizes, codes_of, all_stored}
 
 laid-append : (unit : UnitCode) (p : ℕ) (rs : List FlatRoutine) (ls : List (List Line)) (r : FlatRoutine) (l : List Line) → AreLaidOut unit p rs ls → IsLaidOut (marked_routine unit (p + length (all_stored rs)) (view_routine r)) l → AreLaidOut unit p (rs ++ r ∷ []) (ls ++ l ∷ [])
 laid-append unit p [] [] r l h g =

@@ -2,14 +2,14 @@
 use Rattle.std.proofs.Common.{ℕ, Bool, [], map, sym, subst}
 use Rattle.x86_table.specs.Lines.{ShortJumpsReach}
 use Rattle.flat_code.specs.Program.{UnitCode, Routine}
-use Rattle.code_lines.specs.Addresses.{Plain, Context}
-use Rattle.code_lines.specs.Lines.{within}
-use Rattle.code_reach.proofs.Pieces.{routine_reaches}
-use Rattle.code_references.specs.Marks.{placed_line, lines_of}
-use Rattle.code_references.specs.Marked.{marked_routine}
-use Rattle.code_references.specs.Unplaced.{unplaced}
-use Rattle.code_references.proofs.Filled.{lines_filled, jumps_reached}
-use Rattle.code_references.proofs.Placed.{routine-makes}
+use Rattle.code_templates.specs.code_lines.Addresses.{Plain, Context}
+use Rattle.code_templates.specs.code_lines.Lines.{within}
+use Rattle.code_templates.proofs.code_reach.Pieces.{routine_reaches}
+use Rattle.code_templates.specs.code_references.Marks.{placed_line, lines_of}
+use Rattle.code_templates.specs.code_references.Marked.{marked_routine}
+use Rattle.code_templates.specs.code_references.Unplaced.{unplaced}
+use Rattle.code_templates.proofs.code_references.Filled.{lines_filled, jumps_reached}
+use Rattle.code_templates.proofs.code_references.Placed.{routine-makes}
 
 abbrev without_addresses : UnitCode → Bool → Context
 without_addresses unit far = record { style = Plain; addresses = unplaced; own = []; unit = unit; far = far }

@@ -2,15 +2,15 @@
 use Rattle.std.proofs.Common.{arith, ◌≡◌, ℕ, suc, ◌+◌, ◌<◌, List, [], ◌∷◌, ◌++◌, length, get_or, drop, Some, None, refl, sym, ap, ◌∙◌, append_assoc}
 use Rattle.std.proofs.lemmas.List.{length-map}
 use Rattle.std.proofs.Math.Seq.{drop-cons}
-use Rattle.object_unit.specs.declared.object.Ref.{Ref}
+use Rattle.object_file.specs.declared.object_unit.object.Ref.{Ref}
 use Rattle.x86_table.specs.declared.line.Line.{Line}
 use Rattle.x86_table.specs.Lines.{line_size, places_from, Shortens}
 use Rattle.flat_code.specs.Program.{Name}
-use Rattle.code_references.specs.declared.marks.MarkedLine.{MarkedLine}
-use Rattle.code_references.specs.declared.marks.Target.{Target}
-use Rattle.code_references.specs.Marks.{line_of, lines_of}
-use Rattle.object_code.specs.Objects.{IsLaidOut}
-use Rattle.object_code.specs.References.{ref_of, refs_of, refs_at}
+use Rattle.code_templates.specs.declared.code_references.marks.MarkedLine.{MarkedLine}
+use Rattle.code_templates.specs.declared.code_references.marks.Target.{Target}
+use Rattle.code_templates.specs.code_references.Marks.{line_of, lines_of}
+use Rattle.codegen_8086.specs.object_code.Objects.{IsLaidOut}
+use Rattle.codegen_8086.specs.object_code.References.{ref_of, refs_of, refs_at}
 
 cut : {X : Type 0} (xs : List X) (i : ℕ) (d : X) → i < length xs → drop i xs ≡ get_or xs i d ∷ drop (i + 1) xs
 cut xs i d h =

@@ -2,7 +2,7 @@
 use Rattle.flat_code.specs.declared.unit.FlatUnit.{FlatUnit}
 use Rattle.codegen_8086.specs.declared.error.GenError.{GenError}
 use Rattle.codegen_8086.specs.declared.error.GenError.TheVariants.{CodeTooLarge, NoMemory}
-use Rattle.object_code.specs.Objects.{IsTooLarge}
+use Rattle.codegen_8086.specs.object_code.Objects.{IsTooLarge}
 
 abbrev pub IsCause : FlatUnit → GenError → Type 0
 IsCause unit (CodeTooLarge bytes) = IsTooLarge unit bytes

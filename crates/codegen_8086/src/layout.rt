@@ -3,18 +3,18 @@
 ghost use Rattle.std.specs.Prelude.{◌≡◌, ◌+◌, ◌++◌, ◌<◌, ◌≤◌, length, IfOk, IfErr, OnOk};
 ghost use Rattle.x86_table.specs.Lines.{line_size, code_size};
 ghost use Rattle.flat_code.specs.Plain.{view_routine, view_unit};
-ghost use Rattle.code_references.specs.Marks.{lines_of};
-ghost use Rattle.code_references.specs.Marked.{marked_routine, stored};
+ghost use Rattle.code_templates.specs.code_references.Marks.{lines_of};
+ghost use Rattle.code_templates.specs.code_references.Marked.{marked_routine, stored};
 ghost use Rattle.codegen_8086.specs.declared.error.GenError.TheVariants.{NoMemory};
-ghost use Rattle.object_code.specs.Objects.{IsLaidOut, code_of};
+ghost use Rattle.codegen_8086.specs.object_code.Objects.{IsLaidOut, code_of};
 
 use crate::error::GenError;
+use crate::generate_code::Numbers;
+use crate::generate_routines::push_routine;
 use crate::references::refs_at;
-use code_references::{MarkedLine, MarkedLines};
+use code_templates::code_references::{MarkedLine, MarkedLines};
 use flat_code::{FlatRoutine, FlatUnit};
-use generate_code::Numbers;
-use generate_routines::push_routine;
-use object_unit::Code8086;
+use object_file::object_unit::Code8086;
 use std::alloc::{AllocError, Global};
 use type_layout::{Bytes, Name};
 use x86_table::{Line, LineList, assemble, encode, is_small, relax};

@@ -2,8 +2,14 @@
 #![tactic(auto)]
 
 mod error;
+pub mod generate_code;
+pub mod generate_expressions;
+pub mod generate_routines;
+pub mod generate_steps;
 mod layout;
+pub mod object_code;
 mod object_data;
+pub mod object_sizes;
 mod references;
 mod units;
 

@@ -1,11 +1,11 @@
 //! Data, far pointers that are stored, and virtual method tables.
 
 ghost use Rattle.std.specs.Prelude.{◌≡◌, ◌+◌, ◌*◌, ◌-◌, ◌++◌, ◌<◌, length, map, IfOk};
-ghost use Rattle.object_code.specs.Objects.{far_ref, filled_up, global_of, pointer_of, two_bytes, slot_refs, vmt_of};
+ghost use Rattle.codegen_8086.specs.object_code.Objects.{far_ref, filled_up, global_of, pointer_of, two_bytes, slot_refs, vmt_of};
 
 use crate::references::name_in;
 use flat_code::{FlatDatum, FlatUnit, FlatVmt};
-use object_unit::{Datum, ObjectData, Ref, RefKind, Refs};
+use object_file::object_unit::{Datum, ObjectData, Ref, RefKind, Refs};
 use std::alloc::{AllocError, Global};
 use type_layout::{Bytes, Name, RoutineId};
 

@@ -1,10 +1,10 @@
 //! What lines refer to, as references in the bytes of their code.
 
 ghost use Rattle.std.specs.Prelude.{◌≡◌, ◌<◌, length, IfOk};
-ghost use Rattle.object_code.specs.References.{bytes_before, kind_of, name_in, place_of, number_of, ref_of, refs_at};
+ghost use Rattle.codegen_8086.specs.object_code.References.{bytes_before, kind_of, name_in, place_of, number_of, ref_of, refs_at};
 
-use code_references::{MarkedLine, Target};
-use object_unit::{Ref, RefKind, Refs};
+use code_templates::code_references::{MarkedLine, Target};
+use object_file::object_unit::{Ref, RefKind, Refs};
 use std::alloc::{AllocError, Global};
 use type_layout::Name;
 

@@ -3,15 +3,15 @@
 ghost use Rattle.std.specs.Prelude.{◌≡◌, ◌<◌, ◌≤◌, ◌++◌, ◌∷◌, [], length, IsTrue, IfOk, IfErr, OnOk};
 ghost use Rattle.x86_table.specs.Lines.{code_size};
 ghost use Rattle.codegen_8086.specs.declared.error.GenError.TheVariants.{NoMemory};
-ghost use Rattle.object_code.specs.Objects.{has_short_arguments, IsLaidOut, ObjectFor, code_of};
+ghost use Rattle.codegen_8086.specs.object_code.Objects.{has_short_arguments, IsLaidOut, ObjectFor, code_of};
 ghost use Rattle.codegen_8086.specs.Causes.{IsCause};
 
 use crate::error::GenError;
+use crate::generate_code::Numbers;
 use crate::layout::{Layout, assembled, lay_out, size_with};
 use crate::object_data::{globals_of, vmts_of};
 use flat_code::{FlatRoutine, FlatUnit};
-use generate_code::Numbers;
-use object_unit::{Codes, ObjectUnit};
+use object_file::object_unit::{Codes, ObjectUnit};
 use std::alloc::Global;
 use type_layout::Name;
 

@@ -6,7 +6,7 @@ use codegen_8086::{GenError, generate, has_short_arguments};
 use cpu_8086::{Event, Machine, Reg};
 use flat_code::FlatUnit;
 use flat_run::{MeanEnd, fits, flat_mean};
-use object_unit::{Code8086, Datum, ObjectUnit, Ref, RefKind};
+use object_file::object_unit::{Code8086, Datum, ObjectUnit, Ref, RefKind};
 use std::alloc::Global;
 use std::process::Abort;
 use std::test::Fail;

@@ -4,7 +4,7 @@ use crate::builders::{exit, far, number, set, unit};
 use crate::linked::generated;
 use codegen_8086::GenError;
 use flat_code::FlatStmt;
-use object_unit::RefKind;
+use object_file::object_unit::RefKind;
 use std::test::Fail;
 
 #[test]

@@ -1,33 +1,33 @@
 -- From what `mean` does, and the last line, to what the top call promises.
 use Rattle.std.proofs.Common.{◌≡◌, ◌⊎◌, inl, inr, ℕ, ◌≤◌, List, Option, Some, None, IfSome, refl, sym, ap, ◌∙◌, subst}
 use Rattle.std.specs.Io.KnownBytes.{append_known}
-use Rattle.tp_outside.specs.Faults.{HasRisen}
-use Rattle.tp_outside.specs.Folder.{Folder}
+use Rattle.dos_runner.specs.tp_outside.Faults.{HasRisen}
+use Rattle.dos_runner.specs.tp_outside.Folder.{Folder}
 use Rattle.dos_runner.specs.Outside.{Outside}
-use Rattle.behaviour.specs.Seen.{Seen, Standing, Ended, Going, Undefined, Stopped}
-use Rattle.typed_tree.specs.declared.units.Program.{Program}
-use Rattle.meaning.specs.Meaning.{mean}
-use Rattle.whole_input.specs.Input.{HasMore}
-use Rattle.source_gathering.specs.declared.error.GatherError.TheVariants as gather
-use Rattle.outcomes.specs.declared.refusal.Refusal.{Refusal}
-use Rattle.outcomes.specs.declared.refusal.Refusal.TheVariants as refusal
-use Rattle.outcomes.specs.declared.refusal.What.TheVariants as what
-use Rattle.outcomes.specs.declared.outcome.Outcome.{Outcome}
-use Rattle.outcomes.specs.declared.outcome.Outcome.TheVariants as outcome
-use Rattle.outcomes.specs.Line.{line_of}
-use Rattle.mean_program.specs.Shown.{Stands, IsUnread, Writes, Shows}
-use Rattle.front_end.specs.Typed.{IsProgramIn}
-use Rattle.front_end.specs.Untyped.{IsDeclining}
-use Rattle.one_program.specs.Folder.{IsExempt, FoundNone}
-use Rattle.formed_sources.specs.Formed.{AreFormed}
+use Rattle.interpreter.specs.common_values.behaviour.Seen.{Seen, Standing, Ended, Going, Undefined, Stopped}
+use Rattle.interpreter.specs.typed_tree.declared.units.Program.{Program}
+use Rattle.interpreter.specs.tp_meaning.Meaning.{mean}
+use Rattle.dos_runner.specs.tp_outside.whole_input.Input.{HasMore}
+use Rattle.literal_form_laws.specs.source_graph.declared.error.GatherError.TheVariants as gather
+use Rattle.checked_front_end.specs.front_end.declared.outcomes.refusal.Refusal.{Refusal}
+use Rattle.checked_front_end.specs.front_end.declared.outcomes.refusal.Refusal.TheVariants as refusal
+use Rattle.checked_front_end.specs.front_end.declared.outcomes.refusal.What.TheVariants as what
+use Rattle.checked_front_end.specs.front_end.declared.outcomes.outcome.Outcome.{Outcome}
+use Rattle.checked_front_end.specs.front_end.declared.outcomes.outcome.Outcome.TheVariants as outcome
+use Rattle.checked_front_end.specs.front_end.outcomes.Line.{line_of}
+use Rattle.commands.specs.mean_program.Shown.{Stands, IsUnread, Writes, Shows}
+use Rattle.checked_front_end.specs.front_end.Typed.{IsProgramIn}
+use Rattle.checked_front_end.specs.front_end.Untyped.{IsDeclining}
+use Rattle.checked_front_end.specs.interfaces_consistent.determinism.Folder.{IsExempt, FoundNone}
+use Rattle.checked_front_end.specs.Formed.{AreFormed}
 use Rattle.command_line.specs.Words.{IsMean}
 use Rattle.commands.specs.Mean.{turns_of, sinks_of, ShowedMeaning, MeanDid}
 use Rattle.commands.specs.Performs.{DidMean}
 use Rattle.commands.specs.Texts.{IsTextOf}
 use Rattle.commands.specs.Turbo.{IsFaultOrNoMemory, Faults, HasNoMeaning, StandsSo, IsMeanEnd, MeanComplete, MeanRefused, Unchanged, WroteItsLine, AfterLine, MeansFiles, MeantFiles}
 use Rattle.commands.specs.World.{World}
-use Rattle.one_program.proofs.Programs.{one_folder}
-use Rattle.same_meaning.proofs.Runs.{means_alike}
+use Rattle.checked_front_end.proofs.interfaces_consistent_proofs.determinism.Programs.{one_folder}
+use Rattle.literal_form_laws.proofs.address_independence_proofs.congruence.Runs.{means_alike}
 use Rattle.commands.proofs.HeldLaws.{shows_too}
 use Rattle.commands.proofs.GoLaws.{still_risen, still_rising}
 use Rattle.commands.proofs.RanLaws.{told}

@@ -1,9 +1,9 @@
 -- What `go` did with the files, with the last line.
 use Rattle.std.proofs.Common.{◌≡◌, inl, inr, ℕ, List, Option, Some, None, IfSome, sym, subst}
-use Rattle.tp_outside.specs.Folder.{Folder}
+use Rattle.dos_runner.specs.tp_outside.Folder.{Folder}
 use Rattle.dos_runner.specs.declared.runner.RunEnd.{RunEnd}
-use Rattle.outcomes.specs.declared.outcome.Outcome.{Outcome}
-use Rattle.outcomes.specs.declared.outcome.Outcome.TheVariants as outcome
+use Rattle.checked_front_end.specs.front_end.declared.outcomes.outcome.Outcome.{Outcome}
+use Rattle.checked_front_end.specs.front_end.declared.outcomes.outcome.Outcome.TheVariants as outcome
 use Rattle.command_line.specs.declared.command.RunOptions.{RunOptions}
 use Rattle.commands.specs.Ending.{outcome_of}
 use Rattle.commands.specs.Go.{HasNoRun, IsNotGone, RanBuilt, GoDid}

@@ -1,38 +1,38 @@
 -- What `go` does before its last line.
 use Rattle.std.specs.Prelude.{◌≡◌, ◌⊎◌, ◌<◌, ◌≤◌, ℕ, List, [], ◌∷◌, Option, Some, IfSome}
-use Rattle.tp_outside.specs.Faults.{HasRisen}
-use Rattle.tp_outside.specs.Folder.{Folder, with_known_file}
-use Rattle.type_layout.specs.declared.texts.Place.{Place}
-use Rattle.tp_lexer.specs.declared.token.Text.{Text}
-use Rattle.tp_lexer.specs.declared.token.Feature.TheVariants.{NotYet}
-use Rattle.source_gathering.specs.declared.sources.Source.{Source}
-use Rattle.source_gathering.specs.Texts.{at}
-use Rattle.source_gathering.specs.Walk.{Gathers}
-use Rattle.typed_tree.specs.declared.units.Program.{Program}
-use Rattle.meaning.specs.Meaning.{mean}
-use Rattle.front_end.specs.declared.program.TypedSources.{TypedSources}
-use Rattle.front_end.specs.Typed.{IsProgram, IsProgramIn}
-use Rattle.front_end.specs.Untyped.{IsRefusing}
-use Rattle.formed_sources.specs.Formed.{AreFormed}
-use Rattle.one_program.specs.Folder.{FoundNone}
-use Rattle.literal_programs.specs.Literals.{IsLiteral}
-use Rattle.literal_programs.specs.Agrees.{Agrees}
-use Rattle.literal_programs.specs.Memory.{HasMemoryOf}
-use Rattle.literal_code.specs.Ends.{EndsWithin}
-use Rattle.literal_places.specs.Places.{place_outside}
-use Rattle.cpu_8086.specs.State.{State}
-use Rattle.mz_file.specs.Format.{exe_of}
-use Rattle.mz_file.specs.Load.{loaded}
+use Rattle.dos_runner.specs.tp_outside.Faults.{HasRisen}
+use Rattle.dos_runner.specs.tp_outside.Folder.{Folder, with_known_file}
+use Rattle.interpreter.specs.type_layout.declared.texts.Place.{Place}
+use Rattle.checked_front_end.specs.tp_lexer.declared.token.Text.{Text}
+use Rattle.checked_front_end.specs.tp_lexer.declared.token.Feature.TheVariants.{NotYet}
+use Rattle.literal_form_laws.specs.source_graph.declared.sources.Source.{Source}
+use Rattle.literal_form_laws.specs.source_graph.Texts.{at}
+use Rattle.literal_form_laws.specs.source_graph.Walk.{Gathers}
+use Rattle.interpreter.specs.typed_tree.declared.units.Program.{Program}
+use Rattle.interpreter.specs.tp_meaning.Meaning.{mean}
+use Rattle.checked_front_end.specs.front_end.declared.program.TypedSources.{TypedSources}
+use Rattle.checked_front_end.specs.front_end.Typed.{IsProgram, IsProgramIn}
+use Rattle.checked_front_end.specs.front_end.Untyped.{IsRefusing}
+use Rattle.checked_front_end.specs.Formed.{AreFormed}
+use Rattle.checked_front_end.specs.interfaces_consistent.determinism.Folder.{FoundNone}
+use Rattle.literal_form_laws.specs.literal_programs.Literals.{IsLiteral}
+use Rattle.literal_form_laws.specs.literal_programs.Agrees.{Agrees}
+use Rattle.literal_form_laws.specs.literal_programs.Memory.{HasMemoryOf}
+use Rattle.literal_form_laws.specs.literal_programs.literal_code.Ends.{EndsWithin}
+use Rattle.literal_form_laws.specs.literal_places.Places.{place_outside}
+use Rattle.dos_runner.specs.cpu_8086.State.{State}
+use Rattle.dos_runner.specs.mz_file.Format.{exe_of}
+use Rattle.dos_runner.specs.mz_file.Load.{loaded}
 use Rattle.dos_runner.specs.declared.runner.RunEnd.{RunEnd}
 use Rattle.dos_runner.specs.declared.runner.RunEnd.TheVariants as ends
 use Rattle.dos_runner.specs.Outside.{Outside, RunsTo}
-use Rattle.plain_opening.specs.Laws.{needed}
-use Rattle.overlay_runner.specs.Event.{Rises}
+use Rattle.dos_runner.specs.plain_opening.Laws.{needed}
+use Rattle.dos_runner.specs.overlay_runner.Event.{Rises}
 use Rattle.command_line.specs.declared.command.RunOptions.{RunOptions}
-use Rattle.outcomes.specs.declared.refusal.Refusal.{Refusal}
-use Rattle.outcomes.specs.declared.refusal.Refusal.TheVariants as refusal
-use Rattle.outcomes.specs.declared.outcome.Outcome.{Outcome}
-use Rattle.outcomes.specs.declared.outcome.Outcome.TheVariants as outcome
+use Rattle.checked_front_end.specs.front_end.declared.outcomes.refusal.Refusal.{Refusal}
+use Rattle.checked_front_end.specs.front_end.declared.outcomes.refusal.Refusal.TheVariants as refusal
+use Rattle.checked_front_end.specs.front_end.declared.outcomes.outcome.Outcome.{Outcome}
+use Rattle.checked_front_end.specs.front_end.declared.outcomes.outcome.Outcome.TheVariants as outcome
 use Rattle.commands.specs.declared.names.FileKind.TheVariants.{Executable}
 use Rattle.commands.specs.Files.{file_of}
 use Rattle.commands.specs.Ending.{outcome_of}

@@ -8,3 +8,4 @@ pub mod Run
 pub mod Texts
 pub mod Turbo
 pub mod World
+pub mod mean_program

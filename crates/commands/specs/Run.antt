@@ -1,20 +1,20 @@
 -- What `run` does before its last line.
 use Rattle.std.specs.Prelude.{◌≡◌, ◌⊎◌, ℕ, List, Option, Some, None, unwrap_or, IfSome}
-use Rattle.tp_outside.specs.Faults.{HasRisen}
-use Rattle.tp_outside.specs.Folder.{Folder, bytes_of}
+use Rattle.dos_runner.specs.tp_outside.Faults.{HasRisen}
+use Rattle.dos_runner.specs.tp_outside.Folder.{Folder, bytes_of}
 use Rattle.dos_runner.specs.declared.runner.RunEnd.{RunEnd}
 use Rattle.dos_runner.specs.Outside.{Outside}
-use Rattle.opened_program.specs.declared.error.OpenError.{OpenError}
-use Rattle.opened_program.specs.declared.error.OpenError.TheVariants as errors
-use Rattle.opened_program.specs.Opening.{IsRefused}
-use Rattle.overlay_runner.specs.declared.runner.Runner.{Runner}
-use Rattle.overlay_runner.specs.Event.{Rises}
-use Rattle.overlay_runner.specs.Runner.{Begins, with_retry, RunsOn}
+use Rattle.dos_runner.specs.declared.opened_program.error.OpenError.{OpenError}
+use Rattle.dos_runner.specs.declared.opened_program.error.OpenError.TheVariants as errors
+use Rattle.dos_runner.specs.opened_program.Opening.{IsRefused}
+use Rattle.dos_runner.specs.declared.overlay_runner.runner.Runner.{Runner}
+use Rattle.dos_runner.specs.overlay_runner.Event.{Rises}
+use Rattle.dos_runner.specs.overlay_runner.Runner.{Begins, with_retry, RunsOn}
 use Rattle.commands.specs.declared.names.FileKind.TheVariants.{Executable, Overlays}
-use Rattle.outcomes.specs.declared.outcome.Outcome.{Outcome}
-use Rattle.outcomes.specs.declared.outcome.Outcome.TheVariants as outcome
-use Rattle.outcomes.specs.declared.refusal.Refusal.{Refusal}
-use Rattle.outcomes.specs.declared.refusal.Refusal.TheVariants as refusal
+use Rattle.checked_front_end.specs.front_end.declared.outcomes.outcome.Outcome.{Outcome}
+use Rattle.checked_front_end.specs.front_end.declared.outcomes.outcome.Outcome.TheVariants as outcome
+use Rattle.checked_front_end.specs.front_end.declared.outcomes.refusal.Refusal.{Refusal}
+use Rattle.checked_front_end.specs.front_end.declared.outcomes.refusal.Refusal.TheVariants as refusal
 use Rattle.command_line.specs.declared.command.RunOptions.{RunOptions}
 use Rattle.commands.specs.Files.{file_of}
 use Rattle.commands.specs.Ending.{outcome_of}

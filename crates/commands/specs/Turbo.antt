@@ -1,33 +1,33 @@
 -- What the top call promises. Its clauses cite these.
 use Rattle.std.specs.Prelude.{◌≡◌, ◌⊎◌, ◌<◌, ℕ, List, Option, Some, None, IfSome}
 use Rattle.std.specs.Io.KnownBytes.{append_known}
-use Rattle.tp_outside.specs.Faults.{HasRisen}
-use Rattle.tp_outside.specs.Folder.{Folder, with_known_file}
-use Rattle.tp_outside.specs.Streams.{TakesPrefix}
-use Rattle.behaviour.specs.Seen.{Seen, Ended}
-use Rattle.typed_tree.specs.declared.units.Program.{Program}
-use Rattle.meaning.specs.Meaning.{mean}
-use Rattle.whole_input.specs.Input.{IsWhole, HasMore}
-use Rattle.front_end.specs.Typed.{IsProgramIn}
-use Rattle.one_program.specs.Folder.{FoundNone}
-use Rattle.formed_sources.specs.Formed.{AreFormed}
-use Rattle.mean_program.specs.Shown.{WritesAll, Shows, Stands}
-use Rattle.literal_programs.specs.Literals.{IsLiteral}
-use Rattle.literal_programs.specs.Agrees.{Agrees}
+use Rattle.dos_runner.specs.tp_outside.Faults.{HasRisen}
+use Rattle.dos_runner.specs.tp_outside.Folder.{Folder, with_known_file}
+use Rattle.dos_runner.specs.tp_outside.Streams.{TakesPrefix}
+use Rattle.interpreter.specs.common_values.behaviour.Seen.{Seen, Ended}
+use Rattle.interpreter.specs.typed_tree.declared.units.Program.{Program}
+use Rattle.interpreter.specs.tp_meaning.Meaning.{mean}
+use Rattle.dos_runner.specs.tp_outside.whole_input.Input.{IsWhole, HasMore}
+use Rattle.checked_front_end.specs.front_end.Typed.{IsProgramIn}
+use Rattle.checked_front_end.specs.interfaces_consistent.determinism.Folder.{FoundNone}
+use Rattle.checked_front_end.specs.Formed.{AreFormed}
+use Rattle.commands.specs.mean_program.Shown.{WritesAll, Shows, Stands}
+use Rattle.literal_form_laws.specs.literal_programs.Literals.{IsLiteral}
+use Rattle.literal_form_laws.specs.literal_programs.Agrees.{Agrees}
 use Rattle.dos_runner.specs.declared.runner.RunEnd.{RunEnd}
 use Rattle.dos_runner.specs.Outside.{Outside}
-use Rattle.opened_program.specs.declared.error.OpenError.{OpenError}
-use Rattle.overlay_runner.specs.declared.runner.Runner.{Runner}
-use Rattle.opened_program.specs.Opening.{HasReason}
+use Rattle.dos_runner.specs.declared.opened_program.error.OpenError.{OpenError}
+use Rattle.dos_runner.specs.declared.overlay_runner.runner.Runner.{Runner}
+use Rattle.dos_runner.specs.opened_program.Opening.{HasReason}
 use Rattle.commands.specs.declared.names.FileKind.TheVariants.{Source, Executable}
 use Rattle.command_line.specs.declared.command.RunOptions.{RunOptions}
-use Rattle.outcomes.specs.declared.refusal.Refusal.{Refusal}
-use Rattle.outcomes.specs.declared.refusal.Refusal.TheVariants as refusal
-use Rattle.outcomes.specs.declared.refusal.What.TheVariants as what
-use Rattle.outcomes.specs.declared.outcome.Outcome.{Outcome}
-use Rattle.outcomes.specs.declared.outcome.Outcome.TheVariants as outcome
+use Rattle.checked_front_end.specs.front_end.declared.outcomes.refusal.Refusal.{Refusal}
+use Rattle.checked_front_end.specs.front_end.declared.outcomes.refusal.Refusal.TheVariants as refusal
+use Rattle.checked_front_end.specs.front_end.declared.outcomes.refusal.What.TheVariants as what
+use Rattle.checked_front_end.specs.front_end.declared.outcomes.outcome.Outcome.{Outcome}
+use Rattle.checked_front_end.specs.front_end.declared.outcomes.outcome.Outcome.TheVariants as outcome
 use Rattle.commands.specs.Files.{file_of}
-use Rattle.outcomes.specs.Line.{line_of}
+use Rattle.checked_front_end.specs.front_end.outcomes.Line.{line_of}
 use Rattle.command_line.specs.Words.{IsGo, IsRun, IsMean}
 use Rattle.commands.specs.World.{World, Holds, Lacks}
 use Rattle.commands.specs.Go.{IsOfOtherForm, IsBuiltFrom, IsNotBuilt, HasNoRun, RanBuilt}

@@ -5,9 +5,9 @@ ghost use Rattle.commands.specs.Turbo.{Headline, Written, Complete, Prefixes, Fi
 ghost use Rattle.commands.specs.World.{world};
 
 use crate::perform::perform;
-use outcomes::{Outcome, write_line};
+use checked_front_end::front_end::outcomes::{Outcome, write_line};
+use dos_runner::tp_outside::{Files, Sink, Source};
 use std::alloc::Global;
-use tp_outside::{Files, Sink, Source};
 
 /// Does what the words say, after the program's own name: `go NAME` reads the program's sources, writes its
 /// executable, and runs that; `run NAME` runs the program that stands in its executable and its overlay file; `mean NAME` shows what the

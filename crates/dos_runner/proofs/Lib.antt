@@ -1,3 +1,4 @@
+pub use Rattle.tp_outside.proofs as tp_outside_proofs
 pub mod Answered
 pub mod BytesAt
 pub mod Composition

@@ -9,9 +9,9 @@ use Rattle.pascal_grammar.specs.Productions.{Production}
 use Rattle.pascal_grammar.specs.Rules.{grammar}
 use Rattle.pascal_grammar.proofs.Tables.{Follow}
 use Rattle.pascal_grammar.proofs.Reading.{Reads, front_is}
-use Rattle.predictive_grammar.specs.Grammar.{part, Fit, head, Belongs}
-use Rattle.predictive_grammar.specs.Readers.{Fault, Syntax, LeftOut, TooDeep}
-use Rattle.predictive_grammar.proofs.Meeting.{one, Stopped, deep_in_most}
+use Rattle.ll1_grammar.specs.Grammar.{part, Fit, head, Belongs}
+use Rattle.ll1_grammar.specs.Readers.{Fault, Syntax, LeftOut, TooDeep}
+use Rattle.ll1_grammar.proofs.Meeting.{one, Stopped, deep_in_most}
 use Rattle.syntax_tree.specs.Expressions.{Parsed}
 use Rattle.expression_parser.specs.declared.error.ReadError.{ReadError}
 use Rattle.expression_parser.specs.declared.error.ReadError.TheVariants as errors

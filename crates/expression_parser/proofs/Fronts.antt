@@ -2,8 +2,8 @@
 use Rattle.std.proofs.Common.{◌≡◌, List, [], ◌∷◌, Result, Ok, Err, refl, ap}
 use Rattle.pascal_grammar.specs.declared.lexeme.Lexeme.{Lexeme}
 use Rattle.pascal_grammar.specs.Productions.{Production}
-use Rattle.predictive_grammar.specs.Grammar.{pair, node, nil}
-use Rattle.predictive_grammar.specs.Readers.{Fault, ◌>>=◌}
+use Rattle.ll1_grammar.specs.Grammar.{pair, node, nil}
+use Rattle.ll1_grammar.specs.Readers.{Fault, ◌>>=◌}
 use Rattle.syntax_tree.specs.Expressions.{Parsed, of}
 use Rattle.expression_parser.specs.declared.error.ReadError.{ReadError}
 use Rattle.expression_parser.specs.declared.error.ReadError.TheVariants as errors

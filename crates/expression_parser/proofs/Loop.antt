@@ -3,7 +3,7 @@ use Rattle.std.proofs.Common.{◌≡◌, ℕ, zero, suc, ◌≤◌, ◌<◌, Boo
 use Rattle.pascal_grammar.specs.declared.kind.Kind.{Kind}
 use Rattle.pascal_grammar.specs.declared.lexeme.Lexeme.{Lexeme}
 use Rattle.pascal_grammar.specs.Productions.{Production}
-use Rattle.predictive_grammar.specs.Readers.{Fault, ◌>>=◌}
+use Rattle.ll1_grammar.specs.Readers.{Fault, ◌>>=◌}
 use Rattle.syntax_tree.specs.Expressions.{Parsed, of, word}
 use Rattle.expression_parser.specs.declared.error.ReadError.{ReadError}
 use Rattle.expression_parser.specs.declared.error.ReadError.TheVariants as errors

@@ -17,8 +17,8 @@ use Rattle.pascal_grammar.specs.Lexemes.{Kept, kept_or, kind_of}
 use Rattle.pascal_grammar.specs.Lexemes as v
 use Rattle.pascal_grammar.specs.Parts.{Part}
 use Rattle.pascal_grammar.specs.Productions.{Production}
-use Rattle.predictive_grammar.specs.Grammar.{leaf, node, pair, nil}
-use Rattle.predictive_grammar.specs.Readers.{Fault, Reader, ◌>>=◌, made, opened, enter, through, kept_by}
+use Rattle.ll1_grammar.specs.Grammar.{leaf, node, pair, nil}
+use Rattle.ll1_grammar.specs.Readers.{Fault, Reader, ◌>>=◌, made, opened, enter, through, kept_by}
 use Rattle.syntax_tree.specs.declared.expression.PlacedSign.{PlacedSign}
 use Rattle.syntax_tree.specs.Expressions.{Parsed, of, word}
 use Rattle.expression_parser.specs.Gives.{Reads, Inside, ask}

@@ -10,7 +10,7 @@ use Rattle.pascal_grammar.specs.Parts as n
 use Rattle.pascal_grammar.specs.Productions.{Production}
 use Rattle.pascal_grammar.specs.Productions as p
 use Rattle.pascal_grammar.proofs.Reading as g
-use Rattle.predictive_grammar.specs.Readers.{Fault, ◌>>=◌, through, made, kept_by}
+use Rattle.ll1_grammar.specs.Readers.{Fault, ◌>>=◌, through, made, kept_by}
 use Rattle.syntax_tree.specs.Expressions.{Parsed}
 use Rattle.expression_parser.specs.declared.error.ReadError.{ReadError}
 use Rattle.expression_parser.specs.Gives.{Gives, Reads, ask, name_at}

@@ -19,8 +19,8 @@ use Rattle.pascal_grammar.specs.Productions as p
 use Rattle.pascal_grammar.specs.Choices.{choose, choose_at_end, choose_by}
 use Rattle.pascal_grammar.proofs.Somes.{joins}
 use Rattle.pascal_grammar.proofs.Reading.{Reads, AreRead, asked, plain, begun, empty, none, left, opens, list_step}
-use Rattle.predictive_grammar.specs.Grammar.{Symbol, token, part, leaf}
-use Rattle.predictive_grammar.specs.Readers.{LeftOut, made, opened, ◌>>=◌}
+use Rattle.ll1_grammar.specs.Grammar.{Symbol, token, part, leaf}
+use Rattle.ll1_grammar.specs.Readers.{LeftOut, made, opened, ◌>>=◌}
 use Rattle.syntax_tree.specs.declared.expression.PlacedSign.{PlacedSign}
 use Rattle.syntax_tree.specs.Expressions.{of, word}
 use Rattle.expression_parser.specs.Gives.{Inside, ask, name_at}

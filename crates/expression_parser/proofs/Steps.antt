@@ -6,7 +6,7 @@ use Rattle.pascal_grammar.specs.declared.lexeme.Lexeme.{Lexeme}
 use Rattle.pascal_grammar.specs.Asked as q
 use Rattle.pascal_grammar.specs.Productions.{Production}
 use Rattle.pascal_grammar.specs.Productions as p
-use Rattle.predictive_grammar.specs.Readers.{Fault}
+use Rattle.ll1_grammar.specs.Readers.{Fault}
 use Rattle.syntax_tree.specs.declared.expression.PlacedSign.{PlacedSign}
 use Rattle.syntax_tree.specs.Expressions.{Parsed, of, word, mark_at, selector}
 use Rattle.expression_parser.specs.Gives.{ask, name_at}

@@ -8,12 +8,12 @@ use Rattle.pascal_grammar.specs.Asked as q
 use Rattle.pascal_grammar.specs.Lexemes.{Kept}
 use Rattle.pascal_grammar.specs.Lexemes as v
 use Rattle.pascal_grammar.specs.declared.lexeme.Position.{Position}
-use Rattle.predictive_grammar.specs.Grammar.{leaf}
+use Rattle.ll1_grammar.specs.Grammar.{leaf}
 use Rattle.syntax_tree.specs.Expressions.{Parsed}
 use Rattle.pascal_grammar.specs.Omissions.{omitted}
 use Rattle.pascal_grammar.specs.Productions.{Production}
 use Rattle.pascal_grammar.specs.Rules.{grammar}
-use Rattle.predictive_grammar.specs.Readers.{Fault, Syntax, LeftOut, TooDeep, Reader, Below, token_at}
+use Rattle.ll1_grammar.specs.Readers.{Fault, Syntax, LeftOut, TooDeep, Reader, Below, token_at}
 use Rattle.expression_parser.specs.declared.error.ReadError.{ReadError}
 use Rattle.expression_parser.specs.declared.error.ReadError.TheVariants as r
 

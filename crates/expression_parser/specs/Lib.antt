@@ -3,3 +3,4 @@ pub mod Starting
 pub mod Reading
 pub mod Views
 pub mod Spelled
+pub mod statement_parser

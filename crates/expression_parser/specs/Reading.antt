@@ -17,8 +17,8 @@ use Rattle.pascal_grammar.specs.Parts.{Part}
 use Rattle.pascal_grammar.specs.Parts as n
 use Rattle.pascal_grammar.specs.Productions.{Production}
 use Rattle.pascal_grammar.specs.Productions as p
-use Rattle.predictive_grammar.specs.Grammar.{leaf}
-use Rattle.predictive_grammar.specs.Readers.{Fault, Syntax, LeftOut, TooDeep, ◌>>=◌, made, opened, enter}
+use Rattle.ll1_grammar.specs.Grammar.{leaf}
+use Rattle.ll1_grammar.specs.Readers.{Fault, Syntax, LeftOut, TooDeep, ◌>>=◌, made, opened, enter}
 use Rattle.syntax_tree.specs.declared.expression.PlacedSign.{PlacedSign}
 use Rattle.syntax_tree.specs.Expressions.{Parsed, of, word, signs}
 use Rattle.expression_parser.specs.declared.lookahead.SelectorStart.{SelectorStart}

@@ -4,7 +4,7 @@ use Rattle.pascal_grammar.specs.declared.lexeme.Lexeme.{Lexeme}
 use Rattle.pascal_grammar.specs.Lexemes.{front_kind}
 use Rattle.pascal_grammar.specs.Parts.{Part}
 use Rattle.pascal_grammar.specs.Rules.{grammar}
-use Rattle.predictive_grammar.specs.Grammar.{part, Fit, Has, Belongs, deep}
+use Rattle.ll1_grammar.specs.Grammar.{part, Fit, Has, Belongs, deep}
 use Rattle.syntax_tree.specs.Expressions.{Parsed}
 
 -- Those before the rest spell a tree of the part, of the language and with nothing that is left out, in which at most limit

@@ -8,8 +8,8 @@ use Rattle.pascal_grammar.specs.declared.operator.Multiplier.{Multiplier}
 use Rattle.pascal_grammar.specs.Lexemes as v
 use Rattle.pascal_grammar.specs.Productions.{Production}
 use Rattle.pascal_grammar.specs.Productions as p
-use Rattle.predictive_grammar.specs.Grammar.{nil, leaf}
-use Rattle.predictive_grammar.specs.Readers.{Fault, ◌>>=◌}
+use Rattle.ll1_grammar.specs.Grammar.{nil, leaf}
+use Rattle.ll1_grammar.specs.Readers.{Fault, ◌>>=◌}
 use Rattle.syntax_tree.specs.declared.expression.PlacedSign.{PlacedSign}
 use Rattle.syntax_tree.specs.declared.expression.IndexMark.{IndexMark}
 use Rattle.syntax_tree.specs.declared.expression.IndexMark.TheVariants as mark

@@ -2,7 +2,7 @@
 
 ghost use Rattle.std.specs.Prelude.{◌≡◌, ◌<◌, IfErr, IfOk, List, [], ◌∷◌};
 ghost use Rattle.pascal_grammar.specs.Productions.{bare_factor, no_terms, no_factors, no_selectors, no_more_elements, no_more_arguments};
-ghost use Rattle.predictive_grammar.specs.Readers.{made};
+ghost use Rattle.ll1_grammar.specs.Readers.{made};
 ghost use Rattle.syntax_tree.specs.Expressions.{of, of_expression, of_simple, of_term, of_factor, of_element, of_argument, head_of, selectors};
 ghost use Rattle.expression_parser.specs.Gives.{Gives, Fails};
 ghost use Rattle.expression_parser.specs.Reading.{inside, expression_at, simple_at, term_at, factor_at, wrapped, closed_factor_at, set_at, named_factor_at, named_at, index_at, selector_by, selectors_at, arguments_at, argument_list_at, argument_at, elements_at, element_at};
@@ -10,12 +10,12 @@ ghost use Rattle.expression_parser.specs.Views.{elements_of, arguments_of, argum
 
 use crate::error::ReadError;
 use crate::factor::{call_end, control_factor, plain_factor};
+use crate::lexemes::{identifier, mark, skip};
+use crate::list::{Arguments, Elements};
 use crate::lookahead::{
     ClosedStart, FactorStart, SelectorStart, adder, begins, closed_start, deeper, factor_start,
     multiplier, optional_sign, relator, selector_start, tail,
 };
-use crate::lexemes::{identifier, mark, skip};
-use crate::list::{Arguments, Elements};
 use crate::node::{compared, element_of, group, leading, lone, negation, product, single, sum};
 use crate::selector::{field_behind, target_behind};
 use pascal_grammar::{Kind, Lexeme, Omission};

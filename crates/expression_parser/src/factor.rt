@@ -3,14 +3,14 @@
 ghost use Rattle.std.specs.Prelude.{◌≡◌, List, [], ◌∷◌};
 ghost use Rattle.pascal_grammar.specs.Lexemes.{front_kind};
 ghost use Rattle.pascal_grammar.specs.Productions.{bare_factor, argument_end};
-ghost use Rattle.predictive_grammar.specs.Readers.{made};
+ghost use Rattle.ll1_grammar.specs.Readers.{made};
 ghost use Rattle.syntax_tree.specs.Expressions.{of, of_factor};
 ghost use Rattle.expression_parser.specs.Gives.{Gives};
 ghost use Rattle.expression_parser.specs.Reading.{wrapped, plain_at, control_at, argument_end_at};
 
 use crate::error::ReadError;
-use crate::lookahead::{PlainStart, SelectorStart, plain_start, selector_start};
 use crate::lexemes::{letter, mark, number, text};
+use crate::lookahead::{PlainStart, SelectorStart, plain_start, selector_start};
 use pascal_grammar::{Kind, Lexeme, Omission};
 use std::alloc::Global;
 use syntax_tree::Factor;

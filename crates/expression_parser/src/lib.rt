@@ -4,14 +4,15 @@
 mod error;
 mod expressions;
 mod factor;
-mod lookahead;
 mod lexemes;
 mod list;
+mod lookahead;
 mod node;
 mod read;
 mod selector;
+pub mod statement_parser;
 
 pub use error::ReadError;
-pub use lookahead::{begins, tail};
 pub use lexemes::{identifier, letter, mark, number, skip, text};
+pub use lookahead::{begins, tail};
 pub use read::{read_arguments, read_designator, read_expression, read_simple};

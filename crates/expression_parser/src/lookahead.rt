@@ -6,7 +6,7 @@ ghost use Rattle.expression_parser.specs.Gives.{Gives};
 ghost use Rattle.expression_parser.specs.Reading.{begins, tail_of, relator_at, adder_at, multiplier_at, sign_found, behind_sign, sign_at, expression_parts, inside};
 ghost use Rattle.expression_parser.specs.Starting.{selector_start, factor_start, closed_start, plain_start};
 ghost use Rattle.pascal_grammar.specs.Lexemes.{front_kind};
-ghost use Rattle.predictive_grammar.specs.Readers.{enter};
+ghost use Rattle.ll1_grammar.specs.Readers.{enter};
 
 use crate::error::ReadError;
 use pascal_grammar::{Adder, Kind, Lexeme, Multiplier, Position, Relator, Sign, front_kind};

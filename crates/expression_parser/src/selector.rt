@@ -6,8 +6,8 @@ ghost use Rattle.expression_parser.specs.Reading.{inside, field_at, dereference_
 ghost use Rattle.expression_parser.specs.Views.{with_front, named_with};
 
 use crate::error::ReadError;
-use crate::lookahead::deeper;
 use crate::lexemes::{identifier, mark};
+use crate::lookahead::deeper;
 use crate::node::{field_of, target_of};
 use pascal_grammar::{Kind, Lexeme};
 use std::alloc::Global;

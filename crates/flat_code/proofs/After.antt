@@ -1,8 +1,8 @@
 -- What each part of a run keeps: a relation between the states before and after, proved once for all such relations.
 use Rattle.std.proofs.Common.{◌≡◌, ℕ, zero, suc, ◌+◌, ◌*◌, Bool, true, false, List, [], ◌∷◌, ◌++◌, length, Option, Some, None, refl}
 use Rattle.std.specs.Prelude.{if◌then◌else◌, ◌%◌, ◌==◌, ◌&&◌, not, nat_lt, slice_get}
-use Rattle.integers.specs.Words.{low_byte}
-use Rattle.behaviour.specs.Seen.{Ended, Undefined}
+use Rattle.common_values.specs.integers.Words.{low_byte}
+use Rattle.common_values.specs.behaviour.Seen.{Ended, Undefined}
 use Rattle.flat_code.specs.declared.tree.Address.{Address}
 use Rattle.flat_code.specs.declared.tree.FlatResult.{FlatResult}
 use Rattle.flat_code.specs.Tree.{Step, StoreByte, StoreWord, Copy, Leave, Call, CallThrough, Runtime, StoreRoutine, Return, Error, step_size, expr_size, Code, End, Do, If, Loop}

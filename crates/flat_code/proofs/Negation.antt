@@ -2,7 +2,7 @@
 use Rattle.std.proofs.Common.{◌≡◌, ℕ, ◌+◌, ◌-◌, ◌*◌, ◌/◌, ◌%◌, ◌≤◌, ◌<◌, ◌⊎◌, inl, inr, List, [], ◌∷◌, Option, Ok, pos, negsuc, refl, sym, ap, subst, ◌∙◌, arith}
 use Rattle.std.specs.Prelude.{nat_lt}
 use Rattle.std.proofs.lemmas.Bool.Decides.{nat_tests}
-use Rattle.integers.specs.Words.{w16, w32, wrapping_sub, low_byte, high_byte}
+use Rattle.common_values.specs.integers.Words.{w16, w32, wrapping_sub, low_byte, high_byte}
 use Rattle.flat_code.specs.declared.tree.Address.TheVariants.{Local}
 use Rattle.flat_code.specs.declared.tree.FlatOp.TheVariants as op
 use Rattle.flat_code.specs.declared.tree.FlatResult.{FlatResult}

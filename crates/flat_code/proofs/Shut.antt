@@ -4,14 +4,14 @@ use Rattle.std.proofs.lemmas.Bool.{cases_lt, cases_eq}
 use borrow.Author.Tests.{ltb-false, eqb-true}
 use Rattle.std.proofs.lemmas.Bool.Decides.{nat_tests}
 use Rattle.std.specs.Prelude.{if◌then◌else◌, ◌%◌, ◌==◌, ◌&&◌, not, nat_lt, slice_get, Ok, Err}
-use Rattle.integers.specs.Words.{low_byte, high_byte}
+use Rattle.common_values.specs.integers.Words.{low_byte, high_byte}
 use Rattle.flat_code.specs.declared.tree.Address.{Address}
 use Rattle.flat_code.specs.declared.tree.FlatResult.{FlatResult}
 use Rattle.flat_code.specs.declared.memory.Cell.{Cell}
 use Rattle.flat_code.specs.declared.memory.Cell.TheVariants.{Known, Unset, Outside}
 use Rattle.flat_code.specs.declared.memory.Place.{Place}
 use Rattle.flat_code.specs.declared.memory.Trap.TheVariants.{ByZero, Bad}
-use Rattle.behaviour.specs.Seen.{Ended, Undefined}
+use Rattle.common_values.specs.behaviour.Seen.{Ended, Undefined}
 use Rattle.flat_code.specs.Tree.{Step, StoreByte, StoreWord, Copy, Leave, Call, CallThrough, Runtime, StoreRoutine, Return, Error, step_size, expr_size, Code, End, Do, If, Loop}
 use Rattle.flat_code.specs.Program.{Name, Key, Routine, UnitCode, FlatProgram, Choice, runtime_key}
 use Rattle.flat_code.specs.Meaning.{routine_pointer, Frame, State, Outcome, Next, Left, Returned, Over, and_then, spent, spend, error_text, raised, with_found, begun, with_cells, set_cells, stored_at, copied_at, pointer_at, activation_bytes, is_too_deep, tested, admitted, entered_at, result_bytes, give, frame_of, opened, closed, ended, finished, Does, activated, entered, with_some, called, written, write_act, read_act, end_act, clear_act, flag_act, runtime_of, stored, left, step_of, looped, chosen, runs, run_by, run, place_of, value_of, values_of, key_of}

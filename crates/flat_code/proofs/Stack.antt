@@ -1,7 +1,7 @@
 -- Words on the stack: the arguments and locals of an activation, as its statements read and write them.
 use Rattle.std.proofs.Common.{◌≡◌, ℕ, ◌+◌, ◌-◌, ◌*◌, ◌%◌, ◌≤◌, ◌<◌, ◌⊎◌, inl, inr, List, [], ◌∷◌, length, Ok, ℤ, pos, negsuc, refl, sym, ap, ◌∙◌, arith}
 use Rattle.std.proofs.lemmas.Bool.Decides.{nat_tests}
-use Rattle.integers.specs.Words.{w16, word_of, wrapping_add, low_byte, high_byte, word_from_bytes}
+use Rattle.common_values.specs.integers.Words.{w16, word_of, wrapping_add, low_byte, high_byte, word_from_bytes}
 use Rattle.flat_code.specs.declared.tree.Address.{Address}
 use Rattle.flat_code.specs.declared.tree.Address.TheVariants.{Local}
 use Rattle.flat_code.specs.declared.tree.FlatOp.{FlatOp}

@@ -1,6 +1,6 @@
 -- A turn that is due where there is none.
 use Rattle.std.proofs.Common.{◌≡◌, ℕ, zero, suc, refl, arith}
-use Rattle.behaviour.specs.Seen.{Going}
+use Rattle.common_values.specs.behaviour.Seen.{Going}
 use Rattle.flat_code.specs.Meaning.{State, Outcome, Over, spent, spend}
 
 spent-none : (turns : ℕ) (s : State) (go : State → Outcome) → turns ≡ 0 → spent turns s go ≡ Over Going s

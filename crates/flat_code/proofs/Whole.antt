@@ -1,7 +1,7 @@
 -- Whole runs under growing numbers of turns.
 use Rattle.std.proofs.Common.{◌≡◌, ℕ, suc, ◌+◌, ◌-◌, ◌<◌, ◌≤◌, List, [], ◌∷◌, Option, Some, None, refl, sym, ap, subst, arith}
 use Rattle.std.proofs.lemmas.List.{append-nil}
-use Rattle.behaviour.specs.Seen.{Ended, Going, Undefined, Stopped, Seen, Begins, IsOver, IsRun}
+use Rattle.common_values.specs.behaviour.Seen.{Ended, Going, Undefined, Stopped, Seen, Begins, IsOver, IsRun}
 use Rattle.flat_code.specs.Program.{Name, FlatProgram, Choice}
 use Rattle.flat_code.specs.Meaning.{State, Outcome, Next, Left, Returned, Over, Does, run, start_frame, start_state, started, initial_of, all_started, seen_so, seen_of, flat_run}
 use Rattle.flat_code.proofs.After.{After, Steps, Keeps, after_and_then, after_called, after_run}

@@ -2,7 +2,7 @@
 -- A run has a number of turns. One is due at each call, at each use of the runtime, at each error and before each run of a loop's body; where none is left the run goes on.
 use Rattle.std.specs.Prelude.{ℕ, zero, suc, ◌+◌, ◌-◌, ◌*◌, ◌%◌, ◌==◌, ◌&&◌, Bool, true, not, nat_lt, if◌then◌else◌, List, [], ◌∷◌, ◌++◌, length, Option, Some, None, slice_get, codes}
 use Rattle.std.specs.Fmt.{decimal}
-use Rattle.behaviour.specs.Seen.{Standing, Ended, Going, Undefined}
+use Rattle.common_values.specs.behaviour.Seen.{Standing, Ended, Going, Undefined}
 use Rattle.flat_code.specs.declared.tree.Address.{Address}
 use Rattle.flat_code.specs.declared.tree.FlatResult.{FlatResult}
 use Rattle.flat_code.specs.Tree.{Code}

@@ -1,6 +1,6 @@
 -- What a routine of the runtime promises to those that call it.
 use Rattle.std.specs.Prelude.{◌≡◌, ℕ, zero, suc, ◌+◌, ◌*◌, ◌≤◌, ◌<◌, ◌⊎◌, List, [], ◌∷◌, Option, Result, Ok, Err}
-use Rattle.behaviour.specs.Seen.{Going}
+use Rattle.common_values.specs.behaviour.Seen.{Going}
 use Rattle.flat_code.specs.declared.tree.FlatResult.{FlatResult}
 use Rattle.flat_code.specs.Tree.{Expr, exprs_size}
 use Rattle.flat_code.specs.Program.{Key, FlatProgram, Choice}

@@ -11,3 +11,5 @@ pub mod Plain
 pub mod Gives
 pub mod Runtime
 pub mod Weights
+pub mod costs
+pub mod leaf_routines

@@ -1,8 +1,8 @@
 -- What flat code does: to the bytes that it can reach, the installed flag, input and output; its statements, and whole programs.
 use Rattle.std.specs.Prelude.{ℕ, zero, suc, ◌+◌, ◌-◌, ◌/◌, false, List, [], ◌∷◌, ◌++◌, length, Option, Some, None, replicate}
 use Rattle.std.specs.Option.{option_and_then}
-use Rattle.behaviour.specs.Seen.{Standing, Ended, Going, Seen}
-use Rattle.integers.specs.Words.{w16, wrapping_sub, low_byte}
+use Rattle.common_values.specs.behaviour.Seen.{Standing, Ended, Going, Seen}
+use Rattle.common_values.specs.integers.Words.{w16, wrapping_sub, low_byte}
 use Rattle.flat_code.specs.declared.tree.Address.{Address}
 use Rattle.flat_code.specs.Tree.{expr_size, Step, StoreByte, StoreWord, Copy, Leave, Call, CallThrough, Runtime, StoreRoutine, Return, Error, step_size, End, Do, If, Loop}
 use Rattle.flat_code.specs.Memory.{Cells, word_bytes, far_bytes, region, laid}

@@ -5,7 +5,7 @@ use Rattle.flat_code.specs.declared.memory.Cell.TheVariants.{Known, Unset, Outsi
 use Rattle.flat_code.specs.declared.memory.Place.{Place}
 use Rattle.flat_code.specs.declared.memory.Trap.{Trap}
 use Rattle.flat_code.specs.declared.memory.Trap.TheVariants.{Bad}
-use Rattle.integers.specs.Words.{w16, wrap, wrapping_add, low_byte, high_byte, word_from_bytes}
+use Rattle.common_values.specs.integers.Words.{w16, wrap, wrapping_add, low_byte, high_byte, word_from_bytes}
 
 -- what each address holds; src/memory.rt says what a cell is
 abbrev pub Cells : Type 0

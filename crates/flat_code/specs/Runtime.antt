@@ -1,6 +1,6 @@
 -- What the lowering may rely on in the runtime: a promise for each routine.
 use Rattle.std.specs.Prelude.{◌≡◌, ℕ, ◌+◌, ◌*◌, ◌==◌, if◌then◌else◌, List, [], ◌∷◌, Result, Ok, Err, pos, negsuc, Some, true, false, slice_get}
-use Rattle.integers.specs.Words.{w32, wrapping_sub, wrapping_mul, signed_quotient, signed_remainder, is_signed_less}
+use Rattle.common_values.specs.integers.Words.{w32, wrapping_sub, wrapping_mul, signed_quotient, signed_remainder, is_signed_less}
 use Rattle.flat_code.specs.declared.tree.Address.TheVariants.{Local}
 use Rattle.flat_code.specs.declared.tree.FlatOp.TheVariants as op
 use Rattle.flat_code.specs.Tree.{Number, Word, Op, StoreWord, End, Do}

@@ -1,6 +1,6 @@
 -- Where things lie in an activation of flat code, and what expressions come to.
 use Rattle.std.specs.Prelude.{ℕ, zero, suc, ◌/◌, ◌%◌, ◌==◌, Bool, nat_lt, if◌then◌else◌, List, [], ◌∷◌, Option, Some, None, bit_and, bit_or, bit_xor, ℤ}
-use Rattle.integers.specs.Words.{w16, word_of, wrapping_add, wrapping_sub, wrapping_mul, high_product, signed_quotient, signed_remainder, is_signed_less, shifted_left, shifted_right, low_byte}
+use Rattle.common_values.specs.integers.Words.{w16, word_of, wrapping_add, wrapping_sub, wrapping_mul, high_product, signed_quotient, signed_remainder, is_signed_less, shifted_left, shifted_right, low_byte}
 use Rattle.flat_code.specs.declared.tree.Address.{Address}
 use Rattle.flat_code.specs.declared.tree.Address.TheVariants.{Global, Local, Outer, Through}
 use Rattle.flat_code.specs.declared.tree.FlatOp.{FlatOp}

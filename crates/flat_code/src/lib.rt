@@ -1,8 +1,12 @@
 //! Flat code: structured code over bytes, and what it means.
 #![tactic(auto)]
 
+pub mod costs;
+pub mod flat_builders;
+pub mod leaf_routines;
+
 ghost use Rattle.std.specs.Prelude.{◌≡◌, ℕ, ◌+◌, ◌≤◌, List};
-ghost use Rattle.behaviour.specs.Seen.{IsRun};
+ghost use Rattle.common_values.specs.behaviour.Seen.{IsRun};
 ghost use Rattle.flat_code.specs.Tree.{Code, ◌then◌};
 ghost use Rattle.flat_code.specs.Program.{FlatProgram, Choice, Name, UnitCode, runtime_key};
 ghost use Rattle.flat_code.specs.Meaning.{Frame, State, run, flat_run};

@@ -1,6 +1,6 @@
 -- What the interpreter's answers say of turns and of a loop's rounds.
 use Rattle.std.proofs.Common.{◌≡◌, ℕ, ◌≤◌, sym, ap, subst, ◌∙◌}
-use Rattle.behaviour.specs.Seen.{Going}
+use Rattle.common_values.specs.behaviour.Seen.{Going}
 use Rattle.flat_run.specs.declared.state.Flow.{Flow}
 use Rattle.flat_run.specs.declared.state.Flow.TheVariants as flow
 use Rattle.flat_run.specs.declared.state.Stop.{Stop}

@@ -1,7 +1,7 @@
 -- A run that stopped passes by what would have come after it.
 use Rattle.std.proofs.Common.{◌≡◌, ℕ, zero, suc, ◌++◌, refl, sym, ap, subst, ◌∙◌}
 use Rattle.std.specs.Prelude.{◌%◌, Err}
-use Rattle.behaviour.specs.Seen.{Standing, Ended, Going, Undefined}
+use Rattle.common_values.specs.behaviour.Seen.{Standing, Ended, Going, Undefined}
 use Rattle.flat_code.specs.declared.memory.Cell.TheVariants.{Outside}
 use Rattle.flat_code.specs.declared.memory.Trap.{Trap}
 use Rattle.flat_code.specs.declared.memory.Trap.TheVariants.{ByZero, Bad}

@@ -1,6 +1,6 @@
 -- The interpreter's states and answers as values.
 use Rattle.std.specs.Prelude.{◌≡◌, ℕ, List, Option, Some, None, map, Result, Ok, Err}
-use Rattle.behaviour.specs.Seen.{Standing, Ended, Going, Undefined, Seen}
+use Rattle.common_values.specs.behaviour.Seen.{Standing, Ended, Going, Undefined, Seen}
 use Rattle.flat_run.specs.declared.context.Interpreter.{Interpreter}
 use Rattle.flat_run.specs.declared.start.Meaning.{Meaning}
 use Rattle.flat_run.specs.declared.state.Run.{Run}

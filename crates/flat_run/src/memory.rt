@@ -20,8 +20,8 @@ ghost use Rattle.flat_code.specs.Memory.{
   Finds,
 };
 
+use common_values::integers::{high_byte, low_byte, word_from_bytes};
 use flat_code::{ADDRESSES, Cell, Place, Trap};
-use integers::{high_byte, low_byte, word_from_bytes};
 use std::alloc::{AllocError, Global};
 
 /// The cells of all addresses.

@@ -11,8 +11,8 @@ ghost use Rattle.flat_run.specs.Running.{view_program, view_choice, view_run, ou
 use crate::context::Interpreter;
 use crate::state::{Flow, Run, Stop};
 use crate::value::{Activation, place_of, routine_pointer, value_of};
+use common_values::integers::{high_byte, low_byte};
 use flat_code::{Address, FlatExpr, Place};
-use integers::{high_byte, low_byte};
 use type_layout::RoutineId;
 
 /// The bytes of a word, the lower one first.

@@ -1,7 +1,7 @@
 //! Places and values in an activation.
 
 ghost use Rattle.std.specs.Prelude.{◌≡◌, ℕ, ◌/◌, ◌%◌, ◌≤◌, List, map, length};
-ghost use Rattle.integers.specs.Words.{w16, word_of, signed_quotient, signed_remainder, wrapping_add};
+ghost use Rattle.common_values.specs.integers.Words.{w16, word_of, signed_quotient, signed_remainder, wrapping_add};
 ghost use Rattle.std.specs.Option.{option_copied};
 ghost use Rattle.flat_code.specs.Memory.{cells_of};
 ghost use Rattle.flat_code.specs.Program.{named};
@@ -12,10 +12,10 @@ ghost use Rattle.flat_run.specs.Views.{view_frame};
 
 use crate::memory::Memory;
 use crate::program::{datum_of, far_of, vmt_of};
-use flat_code::{Address, FlatExpr, FlatOp, FlatUnit, Place, Trap};
-use integers::{
+use common_values::integers::{
     high_product, is_signed_less, shifted_left, shifted_right, signed_quotient, signed_remainder,
 };
+use flat_code::{Address, FlatExpr, FlatOp, FlatUnit, Place, Trap};
 use type_layout::Name;
 
 /// The segments that the interpreter takes for data, stack and heap.

@@ -6,22 +6,22 @@ use Rattle.std.proofs.lemmas.Option.{slice_get_within, get_or_from_slice_get}
 use Rattle.tp_lexer.specs.declared.token.Text.{Text}
 use Rattle.typed_tree.specs.declared.units.Unit.{Unit}
 use Rattle.typed_tree.specs.declared.units.Program.{Program}
-use Rattle.source_tree.specs.Sources.{used}
-use Rattle.source_gathering.specs.declared.sources.Source.{Source}
+use Rattle.syntax_tree.specs.source_tree.Sources.{used}
+use Rattle.source_graph.specs.declared.sources.Source.{Source}
 use Rattle.scopes.specs.Environment.{Environment}
 use Rattle.unit_interface.specs.declared.interfaces.Interface.{Interface}
 use Rattle.unit_interface.specs.Order.{start_order}
-use Rattle.source_order.specs.Orders.{all_uses}
+use Rattle.source_graph.specs.source_order.Orders.{all_uses}
 use Rattle.tp_check_decl.specs.Units.{view_unit}
 use Rattle.tp_check_decl.specs.Checked.{IsTypedAs}
-use Rattle.outcomes.specs.declared.outcome.Outcome.{Outcome}
-use Rattle.outcomes.specs.declared.outcome.Outcome.TheVariants as outcome
-use Rattle.outcomes.specs.declared.refusal.Refusal.TheVariants as refusal
-use Rattle.outcomes.specs.declared.refusal.What.TheVariants as what
-use Rattle.source_interfaces.specs.Scopes.{outer_units, outer_scope, AreThere, AreFitting}
-use Rattle.source_interfaces.specs.Kinds.{AreOfKinds}
-use Rattle.source_interfaces.specs.Interfaces.{AreInterfaces, IsAcyclic}
-use Rattle.source_interfaces.proofs.Steps.{no_memory_known}
+use Rattle.front_end.specs.declared.outcomes.outcome.Outcome.{Outcome}
+use Rattle.front_end.specs.declared.outcomes.outcome.Outcome.TheVariants as outcome
+use Rattle.front_end.specs.declared.outcomes.refusal.Refusal.TheVariants as refusal
+use Rattle.front_end.specs.declared.outcomes.refusal.What.TheVariants as what
+use Rattle.front_end.specs.source_interfaces.Scopes.{outer_units, outer_scope, AreThere, AreFitting}
+use Rattle.front_end.specs.source_interfaces.Kinds.{AreOfKinds}
+use Rattle.front_end.specs.source_interfaces.Interfaces.{AreInterfaces, IsAcyclic}
+use Rattle.front_end.proofs.source_interfaces.Steps.{no_memory_known}
 use Rattle.front_end.specs.Typed.{sources_at, IsUnitOf, AreUnits, AreLawful, IsProgram}
 use Rattle.front_end.specs.Untyped.{IsNoUnit, LacksUnit, AreUntyped}
 

@@ -5,22 +5,22 @@ use Rattle.tp_lexer.specs.declared.token.Text.{Text}
 use Rattle.object_vmt.specs.declared.faults.ClassError.{ClassError}
 use Rattle.object_vmt.specs.declared.faults.ClassError.TheVariants as class
 use Rattle.syntax_tree.specs.declared.identifier.Identifier.{Identifier}
-use Rattle.source_gathering.specs.declared.error.GatherError.{GatherError}
-use Rattle.source_gathering.specs.declared.sources.Source.{Source}
-use Rattle.source_gathering.specs.Walk.{IsRefused, Unless}
+use Rattle.source_graph.specs.declared.error.GatherError.{GatherError}
+use Rattle.source_graph.specs.declared.sources.Source.{Source}
+use Rattle.source_graph.specs.Walk.{IsRefused, Unless}
 use Rattle.typing_rules.specs.declared.faults.CheckError.{CheckError}
 use Rattle.typing_rules.specs.declared.faults.CheckError.TheVariants as check
 use Rattle.typing_rules.specs.Faults.{error_of}
 use Rattle.unit_interface.specs.declared.interfaces.Interface.{Interface}
 use Rattle.unit_interface.specs.declared.order.OrderError.{OrderError}
 use Rattle.unit_interface.specs.declared.order.OrderError.TheVariants as order
-use Rattle.source_order.specs.Orders.{names_of}
-use Rattle.outcomes.specs.declared.outcome.Outcome.{Outcome}
-use Rattle.outcomes.specs.declared.outcome.Outcome.TheVariants as outcome
-use Rattle.outcomes.specs.declared.refusal.Refusal.TheVariants as refusal
-use Rattle.refusals.specs.Outcomes.{gather_outcome, order_outcome, check_outcome, class_outcome}
-use Rattle.source_tree.specs.Sources.{used}
-use Rattle.source_interfaces.specs.Scopes.{outer_units, IsUnresolved, KnowsNothing}
+use Rattle.source_graph.specs.source_order.Orders.{names_of}
+use Rattle.front_end.specs.declared.outcomes.outcome.Outcome.{Outcome}
+use Rattle.front_end.specs.declared.outcomes.outcome.Outcome.TheVariants as outcome
+use Rattle.front_end.specs.declared.outcomes.refusal.Refusal.TheVariants as refusal
+use Rattle.front_end.specs.refusals.Outcomes.{gather_outcome, order_outcome, check_outcome, class_outcome}
+use Rattle.syntax_tree.specs.source_tree.Sources.{used}
+use Rattle.front_end.specs.source_interfaces.Scopes.{outer_units, IsUnresolved, KnowsNothing}
 use Rattle.front_end.specs.Untyped.{AreUntyped, IsNoProgram, IsRefusing, IsDeclining}
 
 order_refuses : (error : OrderError) → IsRefusing (order_outcome error)

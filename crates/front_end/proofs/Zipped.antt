@@ -4,7 +4,7 @@ use Rattle.std.specs.Prelude.{slice_get, option_to_list}
 use Rattle.std.specs.List.{AllZip}
 use Rattle.std.proofs.lemmas.List.{take_more}
 use Rattle.typed_tree.specs.declared.units.Unit.{Unit}
-use Rattle.source_gathering.specs.declared.sources.Source.{Source}
+use Rattle.source_graph.specs.declared.sources.Source.{Source}
 use Rattle.unit_interface.specs.declared.interfaces.Interface.{Interface}
 use Rattle.front_end.specs.Typed.{sources_at, IsUnitOf}
 

@@ -1,7 +1,7 @@
 -- The sources of a program with the typed program that they are.
 use Rattle.std.specs.Prelude.{ℕ, List}
 use Rattle.tp_outside.specs.Folder.{Folder}
-use Rattle.source_gathering.specs.Walk.{Gathers}
+use Rattle.source_graph.specs.Walk.{Gathers}
 use Rattle.front_end.specs.declared.program.TypedSources.{TypedSources}
 use Rattle.front_end.specs.Typed.{IsProgram}
 

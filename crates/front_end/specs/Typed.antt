@@ -7,17 +7,17 @@ use Rattle.tp_lexer.specs.declared.token.Text.{Text}
 use Rattle.typed_tree.specs.declared.units.Unit.{Unit}
 use Rattle.typed_tree.specs.declared.units.Program.{Program}
 use Rattle.object_vmt.specs.Dispatch.{IsLawful}
-use Rattle.source_tree.specs.Sources.{used}
-use Rattle.source_gathering.specs.declared.sources.Source.{Source}
-use Rattle.source_gathering.specs.Walk.{Gathers}
+use Rattle.syntax_tree.specs.source_tree.Sources.{used}
+use Rattle.source_graph.specs.declared.sources.Source.{Source}
+use Rattle.source_graph.specs.Walk.{Gathers}
 use Rattle.unit_interface.specs.declared.interfaces.Interface.{Interface}
 use Rattle.unit_interface.specs.Order.{start_order}
-use Rattle.source_order.specs.Orders.{all_uses}
+use Rattle.source_graph.specs.source_order.Orders.{all_uses}
 use Rattle.tp_check_decl.specs.Units.{view_unit}
 use Rattle.tp_check_decl.specs.Checked.{IsTypedAs}
-use Rattle.source_interfaces.specs.Scopes.{outer_units, outer_scope, AreThere, AreFitting}
-use Rattle.source_interfaces.specs.Kinds.{AreOfKinds}
-use Rattle.source_interfaces.specs.Interfaces.{AreInterfaces, IsAcyclic}
+use Rattle.front_end.specs.source_interfaces.Scopes.{outer_units, outer_scope, AreThere, AreFitting}
+use Rattle.front_end.specs.source_interfaces.Kinds.{AreOfKinds}
+use Rattle.front_end.specs.source_interfaces.Interfaces.{AreInterfaces, IsAcyclic}
 
 -- the sources at these places
 abbrev pub sources_at : List Source → List ℕ → List Source

@@ -5,26 +5,26 @@ use Rattle.tp_lexer.specs.declared.token.Text.{Text}
 use Rattle.typed_tree.specs.declared.units.Unit as typed
 use Rattle.object_vmt.specs.declared.faults.ClassError.{ClassError}
 use Rattle.object_vmt.specs.Dispatch.{IsCause}
-use Rattle.source_tree.specs.Sources.{used}
-use Rattle.source_gathering.specs.declared.error.GatherError.{GatherError}
-use Rattle.source_gathering.specs.declared.sources.Source.{Source}
-use Rattle.source_gathering.specs.Walk.{Gathers, IsRefused, Unless}
+use Rattle.syntax_tree.specs.source_tree.Sources.{used}
+use Rattle.source_graph.specs.declared.error.GatherError.{GatherError}
+use Rattle.source_graph.specs.declared.sources.Source.{Source}
+use Rattle.source_graph.specs.Walk.{Gathers, IsRefused, Unless}
 use Rattle.typing_rules.specs.declared.faults.CheckError.{CheckError}
 use Rattle.typing_rules.specs.declared.faults.Fault.{Fault}
 use Rattle.typing_rules.specs.Faults.{Tells, error_of}
 use Rattle.unit_interface.specs.declared.interfaces.Interface.{Interface}
 use Rattle.unit_interface.specs.declared.order.OrderError.{OrderError}
 use Rattle.unit_interface.specs.Order.{IsCause as IsOrderCause}
-use Rattle.source_order.specs.Orders.{all_uses}
+use Rattle.source_graph.specs.source_order.Orders.{all_uses}
 use Rattle.tp_check_decl.specs.Checked.{FailsAt}
-use Rattle.outcomes.specs.declared.outcome.Outcome.{Outcome}
-use Rattle.outcomes.specs.declared.outcome.Outcome.TheVariants as outcome
-use Rattle.outcomes.specs.declared.refusal.Refusal.TheVariants as refusal
-use Rattle.outcomes.specs.declared.refusal.What.TheVariants as what
-use Rattle.refusals.specs.Outcomes.{gather_outcome, order_outcome, check_outcome, class_outcome}
-use Rattle.source_interfaces.specs.Scopes.{outer_units, outer_scope, KnowsNothing}
-use Rattle.source_interfaces.specs.Kinds.{AreOfKinds, IsOfWrongKind}
-use Rattle.source_interfaces.specs.Interfaces.{AreInterfaces, IsAcyclic, LacksInterface}
+use Rattle.front_end.specs.declared.outcomes.outcome.Outcome.{Outcome}
+use Rattle.front_end.specs.declared.outcomes.outcome.Outcome.TheVariants as outcome
+use Rattle.front_end.specs.declared.outcomes.refusal.Refusal.TheVariants as refusal
+use Rattle.front_end.specs.declared.outcomes.refusal.What.TheVariants as what
+use Rattle.front_end.specs.refusals.Outcomes.{gather_outcome, order_outcome, check_outcome, class_outcome}
+use Rattle.front_end.specs.source_interfaces.Scopes.{outer_units, outer_scope, KnowsNothing}
+use Rattle.front_end.specs.source_interfaces.Kinds.{AreOfKinds, IsOfWrongKind}
+use Rattle.front_end.specs.source_interfaces.Interfaces.{AreInterfaces, IsAcyclic, LacksInterface}
 use Rattle.front_end.specs.Typed.{AreUnits, AreLawful}
 
 -- they have no order: a source lies on a circle of uses in interface parts

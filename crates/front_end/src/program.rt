@@ -3,19 +3,19 @@
 ghost use Rattle.std.specs.Prelude.{◌≡◌, ◌≤◌, ◌<◌, ◌+◌, ◌⊎◌, IfOk, IfErr, IfSome, Err, length};
 ghost use Rattle.tp_outside.specs.Faults.{HasRisen};
 ghost use Rattle.tp_outside.specs.Folder.{Folder};
-ghost use Rattle.outcomes.specs.declared.outcome.Outcome.{Outcome};
-ghost use Rattle.outcomes.specs.declared.refusal.Refusal.{Refusal};
-ghost use Rattle.outcomes.specs.declared.refusal.What.{What};
+ghost use Rattle.front_end.specs.declared.outcomes.outcome.Outcome.{Outcome};
+ghost use Rattle.front_end.specs.declared.outcomes.refusal.Refusal.{Refusal};
+ghost use Rattle.front_end.specs.declared.outcomes.refusal.What.{What};
 ghost use Rattle.front_end.specs.Found.{IsFoundIn};
 ghost use Rattle.front_end.specs.Typed.{IsProgram, IsProgramIn};
 ghost use Rattle.front_end.specs.Untyped.{AreUntyped, IsNoProgram, IsDeclining};
 
+use crate::outcomes::{Outcome, Refusal, What};
+use crate::refusals::{check_outcome, gather_outcome, order_outcome};
+use crate::source_interfaces::{check_kinds, interfaces_of};
 use crate::units::{check_classes, units_at};
-use outcomes::{Outcome, Refusal, What};
-use refusals::{check_outcome, gather_outcome, order_outcome};
-use source_gathering::{Gathered, Source, gather};
-use source_interfaces::{check_kinds, interfaces_of};
-use source_order::source_order;
+use source_graph::source_order::source_order;
+use source_graph::{Gathered, Source, gather};
 use std::alloc::Global;
 use tp_lexer::Text;
 use tp_outside::Files;

@@ -2,20 +2,20 @@
 
 ghost use Rattle.std.specs.Prelude.{◌≡◌, ◌≤◌, ◌+◌, Contains, IfOk, IfErr, OnOk, length};
 ghost use Rattle.std.specs.List.{AllZip};
-ghost use Rattle.source_tree.specs.Sources.{used};
-ghost use Rattle.source_interfaces.specs.Scopes.{outer_units, outer_scope, AreThere, AreFitting};
-ghost use Rattle.source_interfaces.specs.Interfaces.{AreInterfaces};
+ghost use Rattle.syntax_tree.specs.source_tree.Sources.{used};
+ghost use Rattle.front_end.specs.source_interfaces.Scopes.{outer_units, outer_scope, AreThere, AreFitting};
+ghost use Rattle.front_end.specs.source_interfaces.Interfaces.{AreInterfaces};
 ghost use Rattle.front_end.specs.Typed.{sources_at, IsUnitOf, AreLawful};
 ghost use Rattle.front_end.specs.Untyped.{IsIgnorant, IsNoUnit, LacksUnit, HasWrongClass};
 
+use crate::outcomes::Outcome;
+use crate::refusals::{check_outcome, class_outcome};
+use crate::source_interfaces::{outer_units, scope_of};
 use object_vmt::classes;
-use outcomes::Outcome;
-use refusals::{check_outcome, class_outcome};
 use scopes::Scope;
-use source_gathering::Source;
-use source_interfaces::{outer_units, scope_of};
-use source_tree::uses_of;
+use source_graph::Source;
 use std::alloc::Global;
+use syntax_tree::source_tree::uses_of;
 use tp_check_decl::check;
 use tp_lexer::Text;
 use typed_tree::{Unit, Units};

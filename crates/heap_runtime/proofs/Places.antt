@@ -5,10 +5,10 @@ use Rattle.flat_code.specs.Memory.{address_of}
 use Rattle.flat_code.specs.Program.{FlatProgram, Choice, ovr_name_key}
 use Rattle.flat_code.specs.Meaning.{stack_top}
 use Rattle.flat_code.specs.Legal.{Mention, ToDatum, TakesData, IsLegal}
-use Rattle.strings_in_memory.specs.Strings.{IsOffStack, place}
-use Rattle.rt_overlay.specs.Data.{ovr_result_key, ovr_result_datum, ovr_name_datum, HasOverlay}
-use Rattle.rt_heap.specs.HeapMemory.{HeapPlaces, HoldsHeapData, ReachesHeapData}
-use Rattle.rt_heap.proofs.Places.{places-of}
+use Rattle.runtime_proofs.specs.strings_in_memory.Strings.{IsOffStack, place}
+use Rattle.heap_runtime.specs.overlay.Data.{ovr_result_key, ovr_result_datum, ovr_name_datum, HasOverlay}
+use Rattle.heap_runtime.specs.heap.HeapMemory.{HeapPlaces, HoldsHeapData, ReachesHeapData}
+use Rattle.heap_runtime.proofs.heap.Places.{places-of}
 use Rattle.heap_runtime.specs.Unit.{heap_code, heap_segment_datum, heap_bytes_datum, heap_state_datum, HoldsHeapUnit}
 use Rattle.heap_runtime.specs.Specifications.{ReachesOverlay}
 

@@ -5,7 +5,7 @@ use Rattle.flat_code.specs.Memory.{Cells, region, word_bytes}
 use Rattle.flat_code.specs.Program.{Name, Datum, Vmt, UnitCode, FlatProgram, Choice, heap_segment_key, heap_bytes_key, ovr_name_key}
 use Rattle.flat_code.specs.Meaning.{number_bytes, filled, laid_at, with_data, vmt_bytes, with_vmts, with_unit, with_units, start_cells}
 use Rattle.flat_code.proofs.Shut.{region_in}
-use Rattle.text_memory.proofs.Buffer.{laid-reached}
+use Rattle.runtime_proofs.proofs.text_memory.Buffer.{laid-reached}
 
 module _ (program : FlatProgram) (choice : Choice) (x : ℕ) where
   abbrev Reached : Cells → Type 0

@@ -1,19 +1,19 @@
 -- The data of the unit as a program starts.
 use Rattle.std.proofs.Common.{◌≡◌, ◌≢◌, ℕ, zero, suc, ◌+◌, ◌*◌, ◌/◌, ◌%◌, ◌≤◌, ◌<◌, List, [], ◌∷◌, length, get_or, Some, refl, sym, ap, ◌∙◌, arith, ⊎_elim}
 use Rattle.std.specs.Prelude.{Contains}
-use Rattle.integers.specs.Words.{low_byte, high_byte}
+use Rattle.common_values.specs.integers.Words.{low_byte, high_byte}
 use Rattle.flat_code.specs.declared.memory.Cell.TheVariants.{Known, Outside}
 use Rattle.flat_code.specs.Memory.{Cells, address_of, region, laid, word_bytes}
 use Rattle.flat_code.specs.Program.{Key, FlatProgram, Choice, overlay_unit, heap_segment_key, heap_bytes_key, ovr_name_key}
 use Rattle.flat_code.specs.Meaning.{number_bytes, laid_at, with_units, start_cells}
 use Rattle.flat_code.specs.Legal.{Mention, ToDatum, TakesData, IsApart, IsLegal}
-use Rattle.routine_proofs.specs.Activation.{HoldsWord}
-use Rattle.strings_in_memory.specs.Strings.{HasBytes, place}
-use Rattle.strings_in_memory.proofs.Cells.{bytes-kept, laid-other, laid-has}
-use Rattle.start_data.specs.Start.{FitsRuntime, FirstsFit, IsOther}
-use Rattle.start_data.proofs.Start.{start}
-use Rattle.rt_overlay.specs.Data.{ovr_result_key, ovr_result_datum, ovr_name_datum, HasOverlay}
-use Rattle.rt_heap.specs.HeapMemory.{heap_state_key, HeapPlaces}
+use Rattle.runtime_proofs.specs.routine_proofs.Activation.{HoldsWord}
+use Rattle.runtime_proofs.specs.strings_in_memory.Strings.{HasBytes, place}
+use Rattle.runtime_proofs.proofs.strings_in_memory.Cells.{bytes-kept, laid-other, laid-has}
+use Rattle.runtime_proofs.specs.start_data.Start.{FitsRuntime, FirstsFit, IsOther}
+use Rattle.runtime_proofs.proofs.start_data.Start.{start}
+use Rattle.heap_runtime.specs.overlay.Data.{ovr_result_key, ovr_result_datum, ovr_name_datum, HasOverlay}
+use Rattle.heap_runtime.specs.heap.HeapMemory.{heap_state_key, HeapPlaces}
 use Rattle.heap_runtime.specs.Unit.{heap_code, heap_segment_datum, heap_bytes_datum, heap_state_datum, HoldsHeapUnit}
 use Rattle.heap_runtime.specs.Specifications.{IsFileName, StartsHeap}
 use Rattle.heap_runtime.proofs.Reached.{heap-reached}

@@ -2,12 +2,12 @@
 use Rattle.std.proofs.Common.{ℕ, refl, sym}
 use Rattle.flat_code.specs.Program.{FlatProgram, Choice}
 use Rattle.flat_code.specs.Legal.{StackFits}
-use Rattle.rt_overlay.specs.Data.{HasOverlay}
-use Rattle.rt_overlay.proofs.Installing.{installs}
-use Rattle.rt_overlay.proofs.Clearing.{sets-buffer, clears-buffer}
-use Rattle.rt_heap.proofs.Making.{makes}
-use Rattle.rt_heap.proofs.Disposing.{disposes}
-use Rattle.rt_clear.proofs.Clearing.{clears}
+use Rattle.heap_runtime.specs.overlay.Data.{HasOverlay}
+use Rattle.heap_runtime.proofs.overlay.Installing.{installs}
+use Rattle.heap_runtime.proofs.overlay.Clearing.{sets-buffer, clears-buffer}
+use Rattle.heap_runtime.proofs.heap.Making.{makes}
+use Rattle.heap_runtime.proofs.heap.Disposing.{disposes}
+use Rattle.heap_runtime.proofs.clear.Clearing.{clears}
 use Rattle.heap_runtime.specs.Unit.{heap_code, HoldsHeapUnit}
 use Rattle.heap_runtime.specs.Specifications.{HeapWorks}
 

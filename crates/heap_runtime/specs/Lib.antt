@@ -1,2 +1,5 @@
 pub mod Unit
 pub mod Specifications
+pub mod clear
+pub mod heap
+pub mod overlay

@@ -3,11 +3,11 @@ use Rattle.std.specs.Prelude.{ℕ, ◌≤◌, ◌<◌, List, length, slice_index
 use Rattle.flat_code.specs.Program.{FlatProgram, Choice, ovr_name_key}
 use Rattle.flat_code.specs.Meaning.{start_cells}
 use Rattle.flat_code.specs.Legal.{Mention, ToDatum}
-use Rattle.rt_overlay.specs.Data.{ovr_result_key, HasName}
-use Rattle.rt_overlay.specs.Specifications.{Installs, SetsBuffer, ClearsBuffer}
-use Rattle.rt_heap.specs.HeapMemory.{HeapPlaces, HeapBegins}
-use Rattle.rt_heap.specs.Specifications.{Makes, Disposes}
-use Rattle.rt_clear.specs.Specifications.{Clears}
+use Rattle.heap_runtime.specs.overlay.Data.{ovr_result_key, HasName}
+use Rattle.heap_runtime.specs.overlay.Specifications.{Installs, SetsBuffer, ClearsBuffer}
+use Rattle.heap_runtime.specs.heap.HeapMemory.{HeapPlaces, HeapBegins}
+use Rattle.heap_runtime.specs.heap.Specifications.{Makes, Disposes}
+use Rattle.heap_runtime.specs.clear.Specifications.{Clears}
 
 pub record HeapWorks (program : FlatProgram) (choice : Choice) (result name : ℕ) : Type 0 where
   pub init : Installs program choice result name

@@ -1,10 +1,10 @@
 -- The unit of the runtime's routines on overlays and the heap, by name OVERLAY.
 use Rattle.std.specs.Prelude.{◌≡◌, false, List, [], ◌∷◌, Some, None, codes}
 use Rattle.flat_code.specs.Program.{Routine, Datum, UnitCode, FlatProgram, overlay_unit}
-use Rattle.rt_overlay.specs.Data.{ovr_result_datum, ovr_name_datum}
-use Rattle.rt_overlay.specs.Routines.{init_routine, set_buffer_routine, clear_buffer_routine}
-use Rattle.rt_heap.specs.Routines.{new_routine, dispose_routine}
-use Rattle.rt_clear.specs.Routines.{clear_routine}
+use Rattle.heap_runtime.specs.overlay.Data.{ovr_result_datum, ovr_name_datum}
+use Rattle.heap_runtime.specs.overlay.Routines.{init_routine, set_buffer_routine, clear_buffer_routine}
+use Rattle.heap_runtime.specs.heap.Routines.{new_routine, dispose_routine}
+use Rattle.heap_runtime.specs.clear.Routines.{clear_routine}
 
 -- the heap's segment and its bytes, which the program gets as it starts
 abbrev pub heap_segment_datum : Datum

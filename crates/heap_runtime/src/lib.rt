@@ -1,23 +1,27 @@
 //! The unit of the runtime's routines on overlays and the heap, as flat code.
 #![tactic(auto)]
 
+pub mod clear;
+pub mod heap;
+pub mod overlay;
+
 ghost use Rattle.std.specs.Prelude.{◌≡◌, ◌≤◌, ◌<◌, IfOk, ℕ, [], length, Bool, IsTrue, Contains};
 ghost use Rattle.flat_code.specs.Program.{FlatProgram, Choice, Datum, overlay_unit};
 ghost use Rattle.flat_code.specs.Legal.{StackFits, Mention, IsLegal};
 ghost use Rattle.flat_code.specs.Plain.{view_unit, view_datum};
 ghost use Rattle.flat_code.specs.Weights.{unit_weight};
-ghost use Rattle.start_data.specs.Start.{FirstsFit, FitsRuntime};
-ghost use Rattle.leaf_routines.specs.Leaves.{AreLeaves};
-ghost use Rattle.rt_overlay.specs.Data.{HasOverlay};
-ghost use Rattle.rt_heap.specs.HeapMemory.{HeapPlaces, ReachesHeapData};
+ghost use Rattle.runtime_proofs.specs.start_data.Start.{FirstsFit, FitsRuntime};
+ghost use Rattle.flat_code.specs.leaf_routines.Leaves.{AreLeaves};
+ghost use Rattle.heap_runtime.specs.overlay.Data.{HasOverlay};
+ghost use Rattle.heap_runtime.specs.heap.HeapMemory.{HeapPlaces, ReachesHeapData};
 ghost use Rattle.heap_runtime.specs.Unit.{heap_code, HoldsHeapUnit};
 ghost use Rattle.heap_runtime.specs.Specifications.{HeapWorks, ReachesOverlay, IsFileName, StartsHeap};
 
-use flat_builders::name;
+use crate::clear::clear_bytes;
+use crate::heap::{dispose_block, new_block};
+use crate::overlay::{clear_buffer, init, set_buffer};
+use flat_code::flat_builders::name;
 use flat_code::{FlatDatum, FlatUnit};
-use rt_clear::clear_bytes;
-use rt_heap::{dispose_block, new_block};
-use rt_overlay::{clear_buffer, init, set_buffer};
 use std::alloc::{AllocError, Global};
 use type_layout::{Bytes, Names, Sequence};
 

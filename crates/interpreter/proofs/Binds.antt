@@ -3,17 +3,17 @@ use Rattle.std.proofs.Common.{◌≡◌, refl, ap}
 use Rattle.std.specs.Prelude.{Result}
 use Rattle.typed_tree.specs.declared.units.Program.{Program}
 use Rattle.interpreter_steps.specs.declared.state.Over.{Over as OverAs}
-use Rattle.interpreter_frames.specs.declared.frames.Next.{Next as NextStep}
-use Rattle.interpreter_frames.specs.declared.work.Work.{Work}
-use Rattle.interpreter_frames.specs.Frames.{Goes}
-use Rattle.interpreter_frames.proofs.Moves.{goes}
-use Rattle.interpreter_frames.proofs.Again.{again}
-use Rattle.meaning.specs.Trees.{Value}
-use Rattle.meaning.specs.Activations.{Activation}
-use Rattle.meaning.specs.Calls.{Flow, Task}
-use Rattle.meaning.specs.Statements.{task}
-use Rattle.meaning.specs.Meaning.{run}
-use Rattle.meaning.specs.Outcomes.{State, Outcome, Done, Over, Does, and_then}
+use Rattle.interpreter_steps.specs.declared.interpreter_frames.frames.Next.{Next as NextStep}
+use Rattle.interpreter_steps.specs.declared.interpreter_frames.work.Work.{Work}
+use Rattle.interpreter_steps.specs.interpreter_frames.Frames.{Goes}
+use Rattle.interpreter_steps.proofs.interpreter_frames.Moves.{goes}
+use Rattle.interpreter_steps.proofs.interpreter_frames.Again.{again}
+use Rattle.tp_meaning.specs.Trees.{Value}
+use Rattle.tp_meaning.specs.Activations.{Activation}
+use Rattle.tp_meaning.specs.Calls.{Flow, Task}
+use Rattle.tp_meaning.specs.Statements.{task}
+use Rattle.tp_meaning.specs.Meaning.{run}
+use Rattle.tp_meaning.specs.Outcomes.{State, Outcome, Done, Over, Does, and_then}
 
 pub two_binds : {A B C : Type 0} (o : Outcome A) (g : A → Does B) (k : B → Does C) → and_then (and_then o g) k ≡ and_then o (λ a t. and_then (g a t) k)
 two_binds (Done a s) g k = refl

@@ -7,23 +7,23 @@ use Rattle.typed_tree.specs.declared.units.Program.{Program}
 use Rattle.typed_tree.specs.declared.expressions.Variable.{Variable}
 use Rattle.typed_tree.specs.Statements.{Statement}
 use Rattle.type_layout.specs.declared.definitions.TypeId.{TypeId}
-use Rattle.meaning.specs.Trees.{Value, Ordinal}
-use Rattle.meaning.specs.Programs.{definition, sort_in}
-use Rattle.meaning.specs.Outcomes.{State, Outcome, Done, Does, and_then, looked, changed}
-use Rattle.meaning.specs.Activations.{Reached, Activation, assigned, number_in}
-use Rattle.meaning.specs.Calls.{Flow, Turns}
-use Rattle.meaning.specs.Standard.{number_assigned}
-use Rattle.meaning.specs.Statements.{statement, chosen, step, tested, counter, counted, turn, turned}
-use Rattle.meaning.specs.Meaning.{run}
+use Rattle.tp_meaning.specs.Trees.{Value, Ordinal}
+use Rattle.tp_meaning.specs.Programs.{definition, sort_in}
+use Rattle.tp_meaning.specs.Outcomes.{State, Outcome, Done, Does, and_then, looked, changed}
+use Rattle.tp_meaning.specs.Activations.{Reached, Activation, assigned, number_in}
+use Rattle.tp_meaning.specs.Calls.{Flow, Turns}
+use Rattle.tp_meaning.specs.Standard.{number_assigned}
+use Rattle.tp_meaning.specs.Statements.{statement, chosen, step, tested, counter, counted, turn, turned}
+use Rattle.tp_meaning.specs.Meaning.{run}
 use Rattle.interpreter_steps.specs.StatementParts.{begun_at}
 use Rattle.interpreter_steps.specs.declared.state.Over.{Over as OverAs}
 use Rattle.interpreter_steps.specs.Running.{Ends}
 use Rattle.interpreter_steps.proofs.Ends.{ends_bind}
 use Rattle.interpreter_steps.proofs.Entered.{four_parts}
-use Rattle.interpreter_frames.specs.declared.frames.Next.{Next as NextStep}
-use Rattle.interpreter_frames.specs.declared.work.Work.{Work}
-use Rattle.interpreter_frames.specs.Frames.{Goes}
-use Rattle.interpreter_frames.proofs.Moves.{goes, moves_found}
+use Rattle.interpreter_steps.specs.declared.interpreter_frames.frames.Next.{Next as NextStep}
+use Rattle.interpreter_steps.specs.declared.interpreter_frames.work.Work.{Work}
+use Rattle.interpreter_steps.specs.interpreter_frames.Frames.{Goes}
+use Rattle.interpreter_steps.proofs.interpreter_frames.Moves.{goes, moves_found}
 use Rattle.interpreter.proofs.Binds.{again_at}
 
 -- the turns behind the beginning

@@ -3,21 +3,21 @@ use Rattle.std.proofs.Common.{◌≡◌, ℕ, List, Option, refl, sym, ap, subst
 use Rattle.std.specs.Prelude.{Result}
 use Rattle.typed_tree.specs.declared.units.Program.{Program}
 use Rattle.typed_tree.specs.Statements.{view_stmt}
-use Rattle.meaning.specs.Trees.{Key, Spot, Value}
-use Rattle.meaning.specs.Outcomes.{State, Outcome, Done, Does, and_then}
-use Rattle.meaning.specs.Activations.{Activation, Callee}
-use Rattle.meaning.specs.Calls.{Flow, Do, entered, activated}
-use Rattle.meaning.specs.Statements.{statement}
-use Rattle.meaning.specs.Meaning.{run}
+use Rattle.tp_meaning.specs.Trees.{Key, Spot, Value}
+use Rattle.tp_meaning.specs.Outcomes.{State, Outcome, Done, Does, and_then}
+use Rattle.tp_meaning.specs.Activations.{Activation, Callee}
+use Rattle.tp_meaning.specs.Calls.{Flow, Do, entered, activated}
+use Rattle.tp_meaning.specs.Statements.{statement}
+use Rattle.tp_meaning.specs.Meaning.{run}
 use Rattle.interpreter_steps.specs.declared.state.Over.{Over as OverAs}
 use Rattle.interpreter_steps.specs.Running.{Ends}
 use Rattle.interpreter_steps.specs.Entering.{admitted, begun, ended}
 use Rattle.interpreter_steps.proofs.Ends.{ends_bind}
 use Rattle.interpreter_steps.proofs.Entered.{entered_is, activated_is}
-use Rattle.interpreter_frames.specs.declared.frames.Next.{Next as NextStep}
-use Rattle.interpreter_frames.specs.declared.work.Work.{Work}
-use Rattle.interpreter_frames.specs.Frames.{Goes}
-use Rattle.interpreter_frames.proofs.Moves.{goes, moves1, moves_again}
+use Rattle.interpreter_steps.specs.declared.interpreter_frames.frames.Next.{Next as NextStep}
+use Rattle.interpreter_steps.specs.declared.interpreter_frames.work.Work.{Work}
+use Rattle.interpreter_steps.specs.interpreter_frames.Frames.{Goes}
+use Rattle.interpreter_steps.proofs.interpreter_frames.Moves.{goes, moves1, moves_again}
 
 -- the call once its routine is known
 entered_by : (p : Program) (s : State) (f : Activation) (key : Key) (own : Option Spot) (class : Option Key) (args : List Value) (callee : Callee)

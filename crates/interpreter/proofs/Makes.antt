@@ -5,23 +5,23 @@ use Rattle.type_layout.specs.declared.definitions.TypeId.{TypeId}
 use Rattle.type_layout.specs.declared.definitions.RoutineId.{RoutineId}
 use Rattle.typed_tree.specs.declared.units.Program.{Program}
 use Rattle.typed_tree.specs.Expressions.{Arguments, Make}
-use Rattle.meaning.specs.Trees.{Key, Value, Block}
-use Rattle.meaning.specs.Programs.{Sort, sort_in, routine_key, class_key}
-use Rattle.meaning.specs.Outcomes.{State, Outcome, Done, Does, and_then, give, found, known}
-use Rattle.meaning.specs.Activations.{Activation, whole}
-use Rattle.meaning.specs.Standard.{Operand, target}
-use Rattle.meaning.specs.Expressions.{Instance, value, operands, called, block_made}
-use Rattle.meaning.specs.Meaning.{run}
+use Rattle.tp_meaning.specs.Trees.{Key, Value, Block}
+use Rattle.tp_meaning.specs.Programs.{Sort, sort_in, routine_key, class_key}
+use Rattle.tp_meaning.specs.Outcomes.{State, Outcome, Done, Does, and_then, give, found, known}
+use Rattle.tp_meaning.specs.Activations.{Activation, whole}
+use Rattle.tp_meaning.specs.Standard.{Operand, target}
+use Rattle.tp_meaning.specs.Expressions.{Instance, value, operands, called, block_made}
+use Rattle.tp_meaning.specs.Meaning.{run}
 use Rattle.interpreter_steps.specs.declared.state.Over.{Over as OverAs}
 use Rattle.interpreter_steps.specs.Running.{Ends}
 use Rattle.interpreter_steps.specs.Places.{block_for}
 use Rattle.interpreter_steps.specs.Entering.{new_instance}
 use Rattle.interpreter_steps.proofs.Ends.{ends_bind}
 use Rattle.interpreter_steps.proofs.Entered.{bind_assoc, bind_same}
-use Rattle.interpreter_frames.specs.declared.frames.Next.{Next as NextStep}
-use Rattle.interpreter_frames.specs.declared.work.Work.{Work}
-use Rattle.interpreter_frames.specs.Frames.{constructed, Goes}
-use Rattle.interpreter_frames.proofs.Moves.{goes, moves1, moves_found}
+use Rattle.interpreter_steps.specs.declared.interpreter_frames.frames.Next.{Next as NextStep}
+use Rattle.interpreter_steps.specs.declared.interpreter_frames.work.Work.{Work}
+use Rattle.interpreter_steps.specs.interpreter_frames.Frames.{constructed, Goes}
+use Rattle.interpreter_steps.proofs.interpreter_frames.Moves.{goes, moves1, moves_found}
 
 abbrev instance_of : ℕ → Key → Instance
 instance_of serial class = record { own = Some (whole serial); class = Some class }

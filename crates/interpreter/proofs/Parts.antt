@@ -5,24 +5,24 @@ use Rattle.typed_tree.specs.declared.units.Program.{Program}
 use Rattle.typed_tree.specs.declared.statements.Destructor.{Destructor}
 use Rattle.typed_tree.specs.Expressions.{Expression, Arguments}
 use Rattle.typed_tree.specs.Statements.{Written}
-use Rattle.meaning.specs.Trees.{Value}
-use Rattle.meaning.specs.Programs.{Sort, definition}
-use Rattle.meaning.specs.Outcomes.{State, Outcome, Done, Does, and_then, give, found, looked, printed}
-use Rattle.meaning.specs.Activations.{Reached, Activation, whole}
-use Rattle.meaning.specs.Calls.{Flow}
-use Rattle.meaning.specs.Standard.{field_text, text_of, target}
-use Rattle.meaning.specs.Expressions.{operands, sort_of}
-use Rattle.meaning.specs.Statements.{written, line_written, block_of, freed}
-use Rattle.meaning.specs.Meaning.{run}
+use Rattle.tp_meaning.specs.Trees.{Value}
+use Rattle.tp_meaning.specs.Programs.{Sort, definition}
+use Rattle.tp_meaning.specs.Outcomes.{State, Outcome, Done, Does, and_then, give, found, looked, printed}
+use Rattle.tp_meaning.specs.Activations.{Reached, Activation, whole}
+use Rattle.tp_meaning.specs.Calls.{Flow}
+use Rattle.tp_meaning.specs.Standard.{field_text, text_of, target}
+use Rattle.tp_meaning.specs.Expressions.{operands, sort_of}
+use Rattle.tp_meaning.specs.Statements.{written, line_written, block_of, freed}
+use Rattle.tp_meaning.specs.Meaning.{run}
 use Rattle.interpreter_steps.specs.declared.state.Over.{Over as OverAs}
 use Rattle.interpreter_steps.specs.Running.{Ends}
 use Rattle.interpreter_steps.specs.StatementParts.{printed_in, block_at}
 use Rattle.interpreter_steps.proofs.Ends.{ends_bind}
 use Rattle.interpreter_steps.proofs.Entered.{bind_assoc, bind_same}
-use Rattle.interpreter_frames.specs.declared.frames.Next.{Next as NextStep}
-use Rattle.interpreter_frames.specs.declared.work.Work.{Work}
-use Rattle.interpreter_frames.specs.Frames.{printed_then, disposed_with, Goes}
-use Rattle.interpreter_frames.proofs.Moves.{goes, two_binds}
+use Rattle.interpreter_steps.specs.declared.interpreter_frames.frames.Next.{Next as NextStep}
+use Rattle.interpreter_steps.specs.declared.interpreter_frames.work.Work.{Work}
+use Rattle.interpreter_steps.specs.interpreter_frames.Frames.{printed_then, disposed_with, Goes}
+use Rattle.interpreter_steps.proofs.interpreter_frames.Moves.{goes, two_binds}
 
 printed_is : (p : Program) (f : Activation) (sort : Sort) (v : Value) (rest : List Written) (width : ℤ) (s : State)
     → printed_then p f sort v rest width s ≡ and_then (printed_in sort v width s) (λ done. written p (run p) f rest)

@@ -6,25 +6,25 @@ use Rattle.type_layout.specs.declared.definitions.RoutineId.{RoutineId}
 use Rattle.typed_tree.specs.declared.statements.Destructor.{Destructor}
 use Rattle.typed_tree.specs.declared.units.Program.{Program}
 use Rattle.typed_tree.specs.Expressions.{Arguments, Call, NoReceiver}
-use Rattle.meaning.specs.Trees.{Key, Spot, Value, Block}
-use Rattle.meaning.specs.Programs.{Sort, routine_key}
-use Rattle.meaning.specs.Outcomes.{State, Outcome, Done, Does, and_then, give, known, looked, spending}
-use Rattle.meaning.specs.Activations.{Reached, Activation, held_routine}
-use Rattle.meaning.specs.Calls.{Flow, entered, method_of}
-use Rattle.meaning.specs.Standard.{Operand, handed}
-use Rattle.meaning.specs.Expressions.{Instance, no_instance, value, operands, called, called_by_class, called_through}
-use Rattle.meaning.specs.Statements.{destructor_of, freed}
-use Rattle.meaning.specs.Meaning.{run}
-use Rattle.standard_effects.specs.declared.arguments.Operand.{Operand as OperandOf}
-use Rattle.standard_effects.specs.Operands.{view_operand}
+use Rattle.tp_meaning.specs.Trees.{Key, Spot, Value, Block}
+use Rattle.tp_meaning.specs.Programs.{Sort, routine_key}
+use Rattle.tp_meaning.specs.Outcomes.{State, Outcome, Done, Does, and_then, give, known, looked, spending}
+use Rattle.tp_meaning.specs.Activations.{Reached, Activation, held_routine}
+use Rattle.tp_meaning.specs.Calls.{Flow, entered, method_of}
+use Rattle.tp_meaning.specs.Standard.{Operand, handed}
+use Rattle.tp_meaning.specs.Expressions.{Instance, no_instance, value, operands, called, called_by_class, called_through}
+use Rattle.tp_meaning.specs.Statements.{destructor_of, freed}
+use Rattle.tp_meaning.specs.Meaning.{run}
+use Rattle.interpreter_effects.specs.declared.standard_effects.arguments.Operand.{Operand as OperandOf}
+use Rattle.interpreter_effects.specs.standard_effects.Operands.{view_operand}
 use Rattle.interpreter_steps.specs.declared.state.Over.{Over as OverAs}
 use Rattle.interpreter_steps.specs.Entering.{new_instance}
 use Rattle.interpreter_steps.specs.StatementParts.{freed_at}
-use Rattle.interpreter_frames.specs.declared.callable.Callable.{Callable}
-use Rattle.interpreter_frames.specs.declared.frames.Next.{Next as NextStep}
-use Rattle.interpreter_frames.specs.declared.work.Work.{Work}
-use Rattle.interpreter_frames.specs.Frames.{Rest, Goes, called_named, called_on, constructed, on_operands, on_arguments}
-use Rattle.interpreter_frames.proofs.Moves.{goes, moves1, moves_found, spent_bind}
+use Rattle.interpreter_steps.specs.declared.interpreter_frames.callable.Callable.{Callable}
+use Rattle.interpreter_steps.specs.declared.interpreter_frames.frames.Next.{Next as NextStep}
+use Rattle.interpreter_steps.specs.declared.interpreter_frames.work.Work.{Work}
+use Rattle.interpreter_steps.specs.interpreter_frames.Frames.{Rest, Goes, called_named, called_on, constructed, on_operands, on_arguments}
+use Rattle.interpreter_steps.proofs.interpreter_frames.Moves.{goes, moves1, moves_found, spent_bind}
 
 -- a turn was spent, and the step came to another state behind it
 pub spent_at : {A : Type 0} (p : Program) (r : Result NextStep OverAs) (w : Work) (t s s' : State) (go : Does A) (k : A → Does Value)

@@ -7,21 +7,21 @@ use Rattle.std.proofs.lemmas.Grind.{flat_map-append}
 use Rattle.type_layout.specs.declared.definitions.TypeDef.{TypeDef}
 use Rattle.typed_tree.specs.declared.units.Global.{Global}
 use Rattle.typed_tree.specs.declared.units.Unit.{Unit as TypedUnit}
-use Rattle.values.specs.Written.{error_text}
+use Rattle.common_values.specs.Written.{error_text}
 use Rattle.std.specs.Prelude.{Result, Ok, Err, false}
-use Rattle.behaviour.specs.Seen.{Seen, Ended}
+use Rattle.common_values.specs.behaviour.Seen.{Seen, Ended}
 use Rattle.typed_tree.specs.declared.units.Program.{Program}
-use Rattle.meaning.specs.Trees.{Key, Value, Tree}
-use Rattle.meaning.specs.Shapes.{first_tree}
-use Rattle.meaning.specs.Store.{Object, Store, with_new}
-use Rattle.meaning.specs.Outcomes.{State, Outcome, Done, Over, and_then, give}
-use Rattle.meaning.specs.Activations.{Activation, variable_object}
-use Rattle.meaning.specs.Calls.{entered}
-use Rattle.meaning.specs.Meaning.{run, start_store, start_state, all_started, seen_of, seen_so, unit_objects}
+use Rattle.tp_meaning.specs.Trees.{Key, Value, Tree}
+use Rattle.tp_meaning.specs.Shapes.{first_tree}
+use Rattle.tp_meaning.specs.Store.{Object, Store, with_new}
+use Rattle.tp_meaning.specs.Outcomes.{State, Outcome, Done, Over, and_then, give}
+use Rattle.tp_meaning.specs.Activations.{Activation, variable_object}
+use Rattle.tp_meaning.specs.Calls.{entered}
+use Rattle.tp_meaning.specs.Meaning.{run, start_store, start_state, all_started, seen_of, seen_so, unit_objects}
 use Rattle.interpreter_steps.specs.declared.state.Over.{Over as OverAs}
 use Rattle.interpreter_steps.specs.Running.{shown, Ends, Comes}
-use Rattle.interpreter_frames.specs.declared.frames.Frame.{Frame}
-use Rattle.interpreter_frames.specs.Frames.{frames_over, nothing_left}
+use Rattle.interpreter_steps.specs.declared.interpreter_frames.frames.Frame.{Frame}
+use Rattle.interpreter_steps.specs.interpreter_frames.Frames.{frames_over, nothing_left}
 use Rattle.interpreter.specs.Whole.{global_objects}
 
 -- a part behind which nothing is left

@@ -2,21 +2,21 @@
 use Rattle.std.proofs.Common.{◌≡◌, Option, Some, None, refl, sym, ap, subst, ◌∙◌}
 use Rattle.std.specs.Prelude.{Result, Ok, Err}
 use Rattle.typed_tree.specs.declared.units.Program.{Program}
-use Rattle.meaning.specs.Trees.{Value}
-use Rattle.meaning.specs.Outcomes.{State, Outcome, Done}
-use Rattle.meaning.specs.Activations.{Reached, Activation}
-use Rattle.meaning.specs.Calls.{Flow}
-use Rattle.activations.specs.declared.calls.Activation.{Activation as ActivationOf}
-use Rattle.activations.specs.Views.{view_activation}
+use Rattle.tp_meaning.specs.Trees.{Value}
+use Rattle.tp_meaning.specs.Outcomes.{State, Outcome, Done}
+use Rattle.tp_meaning.specs.Activations.{Reached, Activation}
+use Rattle.tp_meaning.specs.Calls.{Flow}
+use Rattle.interpreter_effects.specs.declared.activations.calls.Activation.{Activation as ActivationOf}
+use Rattle.interpreter_effects.specs.activations.Views.{view_activation}
 use Rattle.interpreter_steps.specs.declared.state.Over.{Over as OverAs}
-use Rattle.interpreter_frames.specs.declared.frames.OnValue.{OnValue}
-use Rattle.interpreter_frames.specs.declared.frames.OnPlace.{OnPlace}
-use Rattle.interpreter_frames.specs.declared.frames.OnFlow.{OnFlow}
-use Rattle.interpreter_frames.specs.declared.frames.Frame.{Frame}
-use Rattle.interpreter_frames.specs.declared.frames.Frame.TheVariants as frame
-use Rattle.interpreter_frames.specs.declared.frames.Step.{Step}
-use Rattle.interpreter_frames.specs.declared.work.Work.{Work}
-use Rattle.interpreter_frames.specs.Frames.{Rest, framed, rest_of, popped, resumed_value, resumed_place, resumed_flow, Steps}
+use Rattle.interpreter_steps.specs.declared.interpreter_frames.frames.OnValue.{OnValue}
+use Rattle.interpreter_steps.specs.declared.interpreter_frames.frames.OnPlace.{OnPlace}
+use Rattle.interpreter_steps.specs.declared.interpreter_frames.frames.OnFlow.{OnFlow}
+use Rattle.interpreter_steps.specs.declared.interpreter_frames.frames.Frame.{Frame}
+use Rattle.interpreter_steps.specs.declared.interpreter_frames.frames.Frame.TheVariants as frame
+use Rattle.interpreter_steps.specs.declared.interpreter_frames.frames.Step.{Step}
+use Rattle.interpreter_steps.specs.declared.interpreter_frames.work.Work.{Work}
+use Rattle.interpreter_steps.specs.interpreter_frames.Frames.{Rest, framed, rest_of, popped, resumed_value, resumed_place, resumed_flow, Steps}
 
 -- the same outcome
 pub steps : (p : Program) (r : Result Step OverAs) (w : Work) (s : State) (o o' : Outcome Value) → o' ≡ o → Steps p r w s o → Steps p r w s o'

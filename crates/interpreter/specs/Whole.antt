@@ -2,10 +2,10 @@
 use Rattle.std.specs.Prelude.{List, map, Option}
 use Rattle.type_layout.specs.declared.definitions.TypeDef.{TypeDef}
 use Rattle.typed_tree.specs.declared.units.Global.{Global}
-use Rattle.meaning.specs.Shapes.{first_tree}
-use Rattle.meaning.specs.Store.{Object}
-use Rattle.meaning.specs.Activations.{variable_object}
-use Rattle.behaviour.specs.Seen.{Standing, Ended, Going, Undefined, Stopped, Seen}
+use Rattle.tp_meaning.specs.Shapes.{first_tree}
+use Rattle.tp_meaning.specs.Store.{Object}
+use Rattle.tp_meaning.specs.Activations.{variable_object}
+use Rattle.common_values.specs.behaviour.Seen.{Standing, Ended, Going, Undefined, Stopped, Seen}
 use Rattle.interpreter.specs.declared.program.MeanEnd.{MeanEnd}
 use Rattle.interpreter.specs.declared.program.MeanEnd.TheVariants as mean_end
 use Rattle.interpreter.specs.declared.program.Meaning.{Meaning}

@@ -1,21 +1,21 @@
 //! Calls, once their arguments are known.
 
 ghost use Rattle.std.specs.Prelude.{map};
-ghost use Rattle.meaning.specs.Expressions.{called_by_class, called_through};
-ghost use Rattle.meaning.specs.Statements.{freed};
-ghost use Rattle.meaning.specs.Meaning.{run as runs};
-ghost use Rattle.typed_cells.specs.Sorts.{view_sort, view_reached};
-ghost use Rattle.activations.specs.Views.{view_activation};
-ghost use Rattle.standard_effects.specs.Operands.{view_operand};
+ghost use Rattle.tp_meaning.specs.Expressions.{called_by_class, called_through};
+ghost use Rattle.tp_meaning.specs.Statements.{freed};
+ghost use Rattle.tp_meaning.specs.Meaning.{run as runs};
+ghost use Rattle.interpreter_store.specs.typed_cells.Sorts.{view_sort, view_reached};
+ghost use Rattle.interpreter_effects.specs.activations.Views.{view_activation};
+ghost use Rattle.interpreter_effects.specs.standard_effects.Operands.{view_operand};
 ghost use Rattle.interpreter_steps.specs.Running.{view_run, view_instance, program_of};
-ghost use Rattle.interpreter_frames.specs.Frames.{rest_of, then_value, then_flow, called_named, constructed, on_operands, Goes};
+ghost use Rattle.interpreter_steps.specs.interpreter_frames.Frames.{rest_of, then_value, then_flow, called_named, constructed, on_operands, Goes};
 
 use crate::machine::Machine;
-use interpreter_frames::{Callable, Next, OnValue, Work, gave_value};
+use interpreter_effects::standard_effects::Operand;
+use interpreter_steps::interpreter_frames::{Callable, Next, OnValue, Work, gave_value};
 use interpreter_steps::{Instance, Over, Run, all_handed, held_routine, named, new_instance};
-use standard_effects::Operand;
+use interpreter_store::typed_cells::{Reached, Sort};
 use type_layout::{RoutineId, TypeId};
-use typed_cells::{Reached, Sort};
 use typed_tree::Destructor;
 
 impl<'a> Machine<'a> {

@@ -2,20 +2,20 @@
 
 ghost use Rattle.std.specs.Prelude.{map};
 ghost use Rattle.std.specs.Option.{option_map, option_copied};
-ghost use Rattle.meaning.specs.Calls.{entered};
-ghost use Rattle.meaning.specs.Expressions.{called};
-ghost use Rattle.meaning.specs.Meaning.{run as runs};
-ghost use Rattle.cell_store.specs.Views.{view_key, view_spot, view_value};
-ghost use Rattle.standard_effects.specs.Operands.{view_operand};
+ghost use Rattle.tp_meaning.specs.Calls.{entered};
+ghost use Rattle.tp_meaning.specs.Expressions.{called};
+ghost use Rattle.tp_meaning.specs.Meaning.{run as runs};
+ghost use Rattle.interpreter_store.specs.cell_store.Views.{view_key, view_spot, view_value};
+ghost use Rattle.interpreter_effects.specs.standard_effects.Operands.{view_operand};
 ghost use Rattle.interpreter_steps.specs.Running.{view_run, view_instance, program_of};
-ghost use Rattle.interpreter_frames.specs.Frames.{then_value, Goes};
+ghost use Rattle.interpreter_steps.specs.interpreter_frames.Frames.{then_value, Goes};
 
 use crate::machine::Machine;
-use cell_store::{Key, Spot, Value};
-use interpreter_frames::{Next, Work, gave_value};
+use interpreter_effects::program_names::is_overlay;
+use interpreter_effects::standard_effects::Operand;
+use interpreter_steps::interpreter_frames::{Next, Work, gave_value};
 use interpreter_steps::{Instance, Over, Run, all_handed};
-use program_names::is_overlay;
-use standard_effects::Operand;
+use interpreter_store::cell_store::{Key, Spot, Value};
 
 impl<'a> Machine<'a> {
     /// Enters a routine whose turn is spent.

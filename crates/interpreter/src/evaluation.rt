@@ -4,21 +4,23 @@ ghost use Rattle.type_layout.specs.declared.definitions.TypeId.{TypeId as TypeOf
 ghost use Rattle.std.specs.Prelude.{Option};
 ghost use Rattle.typed_tree.specs.declared.units.Program.{Program};
 ghost use Rattle.typed_tree.specs.Expressions.{Call, Make, view_expr, view_place, view_receiver, view_element, view_elements, view_args};
-ghost use Rattle.meaning.specs.Outcomes.{State};
-ghost use Rattle.meaning.specs.Expressions.{value, place, elements};
-ghost use Rattle.meaning.specs.Meaning.{run as runs};
-ghost use Rattle.cell_store.specs.Views.{view_value};
+ghost use Rattle.tp_meaning.specs.Outcomes.{State};
+ghost use Rattle.tp_meaning.specs.Expressions.{value, place, elements};
+ghost use Rattle.tp_meaning.specs.Meaning.{run as runs};
+ghost use Rattle.interpreter_store.specs.cell_store.Views.{view_value};
 ghost use Rattle.interpreter_steps.specs.Running.{view_run, program_of};
-ghost use Rattle.interpreter_frames.specs.Frames.{then_value, then_place, operated, Goes};
+ghost use Rattle.interpreter_steps.specs.interpreter_frames.Frames.{then_value, then_place, operated, Goes};
 
 use crate::machine::Machine;
-use cell_store::Value;
-use interpreter_frames::{Callable, Next, OnPlace, OnValue, Work, gave_place, gave_value};
+use interpreter_steps::interpreter_frames::{
+    Callable, Next, OnPlace, OnValue, Work, gave_place, gave_value,
+};
 use interpreter_steps::{Instance, Over, Run, constant_value, routine_value};
+use interpreter_store::cell_store::Value;
+use interpreter_store::value_operators::decided;
 use std::alloc::Global;
 use type_layout::{Bytes, RoutineId, TypeId};
 use typed_tree::{Arg, BinaryOp, Expr, PlaceExpr, SetElement};
-use value_operators::decided;
 
 // An element or a span comes next, and then the others that are listed.
 fn list_element<'a>(

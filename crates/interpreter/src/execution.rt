@@ -5,22 +5,24 @@ ghost use Rattle.std.specs.Option.{option_map};
 ghost use Rattle.typed_tree.specs.declared.units.Program.{Program};
 ghost use Rattle.typed_tree.specs.Expressions.{view_boxed};
 ghost use Rattle.typed_tree.specs.Statements.{view_stmt, view_stmts, view_arms, view_written, view_taken};
-ghost use Rattle.meaning.specs.Outcomes.{State};
-ghost use Rattle.meaning.specs.Calls.{Runs};
-ghost use Rattle.meaning.specs.Activations.{Activation as PureActivation};
-ghost use Rattle.meaning.specs.Statements.{statement, statements, branches};
-ghost use Rattle.meaning.specs.Meaning.{run as runs};
-ghost use Rattle.cell_store.specs.Views.{view_value};
-ghost use Rattle.typed_cells.specs.Sorts.{view_sort};
+ghost use Rattle.tp_meaning.specs.Outcomes.{State};
+ghost use Rattle.tp_meaning.specs.Calls.{Runs};
+ghost use Rattle.tp_meaning.specs.Activations.{Activation as PureActivation};
+ghost use Rattle.tp_meaning.specs.Statements.{statement, statements, branches};
+ghost use Rattle.tp_meaning.specs.Meaning.{run as runs};
+ghost use Rattle.interpreter_store.specs.cell_store.Views.{view_value};
+ghost use Rattle.interpreter_store.specs.typed_cells.Sorts.{view_sort};
 ghost use Rattle.interpreter_steps.specs.Running.{view_run, program_of};
-ghost use Rattle.interpreter_frames.specs.Frames.{then_flow, all_written, all_read, item_printed, item_widened, Goes};
+ghost use Rattle.interpreter_steps.specs.interpreter_frames.Frames.{then_flow, all_written, all_read, item_printed, item_widened, Goes};
 
 use crate::loops::{test_while, turn_repeat};
 use crate::machine::Machine;
-use cell_store::Value;
-use interpreter_frames::{Counting, Next, OnFlow, OnPlace, OnValue, Work, gave_flow};
+use interpreter_steps::interpreter_frames::{
+    Counting, Next, OnFlow, OnPlace, OnValue, Work, gave_flow,
+};
 use interpreter_steps::{Flow, Over, Run, covers, end_line, skip_line, sort_of};
-use typed_cells::Sort;
+use interpreter_store::cell_store::Value;
+use interpreter_store::typed_cells::Sort;
 use typed_tree::{Arm, Expr, ReadItem, Stmt, WriteItem};
 
 /// The first branch that has a label for a number.

@@ -5,20 +5,20 @@ ghost use Rattle.std.specs.Ordering.{int_eq};
 ghost use Rattle.typed_tree.specs.declared.units.Program.{Program};
 ghost use Rattle.typed_tree.specs.Expressions.{view_expr};
 ghost use Rattle.typed_tree.specs.Statements.{While, Repeat, view_stmt};
-ghost use Rattle.meaning.specs.Outcomes.{State};
-ghost use Rattle.meaning.specs.Calls.{Do};
-ghost use Rattle.meaning.specs.Statements.{statement, then_next, turn, turned};
-ghost use Rattle.meaning.specs.Meaning.{run as runs};
-ghost use Rattle.cell_store.specs.Views.{view_value};
+ghost use Rattle.tp_meaning.specs.Outcomes.{State};
+ghost use Rattle.tp_meaning.specs.Calls.{Do};
+ghost use Rattle.tp_meaning.specs.Statements.{statement, then_next, turn, turned};
+ghost use Rattle.tp_meaning.specs.Meaning.{run as runs};
+ghost use Rattle.interpreter_store.specs.cell_store.Views.{view_value};
 ghost use Rattle.interpreter_steps.specs.Running.{view_run, view_flow, program_of};
-ghost use Rattle.interpreter_frames.specs.Frames.{then_flow, while_turned, until_turned, repeat_followed, counting_from, Goes};
+ghost use Rattle.interpreter_steps.specs.interpreter_frames.Frames.{then_flow, while_turned, until_turned, repeat_followed, counting_from, Goes};
 
 use crate::machine::Machine;
-use cell_store::Value;
-use interpreter_frames::{Counting, Next, OnFlow, OnValue, Work, gave_flow};
+use interpreter_steps::interpreter_frames::{Counting, Next, OnFlow, OnValue, Work, gave_flow};
 use interpreter_steps::{Flow, Over, Run, is_past, number_in, number_of};
+use interpreter_store::cell_store::Value;
+use interpreter_store::value_operators::is_true;
 use typed_tree::{Expr, Stmt};
-use value_operators::is_true;
 
 /// The condition of a `while` comes next.
 pub fn test_while<'a>(

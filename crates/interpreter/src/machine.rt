@@ -1,19 +1,19 @@
 //! The steps of a run, one after another.
 
 ghost use Rattle.typed_tree.specs.declared.units.Program.{Program};
-ghost use Rattle.meaning.specs.Trees.{Value as PureValue};
-ghost use Rattle.meaning.specs.Outcomes.{State, Outcome};
-ghost use Rattle.cell_store.specs.Views.{view_value};
-ghost use Rattle.typed_cells.specs.Sorts.{view_reached};
-ghost use Rattle.activations.specs.Views.{view_activation};
+ghost use Rattle.tp_meaning.specs.Trees.{Value as PureValue};
+ghost use Rattle.tp_meaning.specs.Outcomes.{State, Outcome};
+ghost use Rattle.interpreter_store.specs.cell_store.Views.{view_value};
+ghost use Rattle.interpreter_store.specs.typed_cells.Sorts.{view_reached};
+ghost use Rattle.interpreter_effects.specs.activations.Views.{view_activation};
 ghost use Rattle.interpreter_steps.specs.Running.{view_run, view_flow, program_of, Comes};
-ghost use Rattle.interpreter_frames.specs.declared.work.Work.{Work as WorkOf};
-ghost use Rattle.interpreter_frames.specs.Frames.{rest_of, framed, next_of, Steps, Goes};
+ghost use Rattle.interpreter_steps.specs.declared.interpreter_frames.work.Work.{Work as WorkOf};
+ghost use Rattle.interpreter_steps.specs.interpreter_frames.Frames.{rest_of, framed, next_of, Steps, Goes};
 
-use cell_store::Value;
-use interpreter_frames::{Frame, Next, Step, Work};
+use interpreter_steps::interpreter_frames::{Frame, Next, Step, Work};
 use interpreter_steps::{Flow, Interpreter, Over, Run};
-use typed_cells::Reached;
+use interpreter_store::cell_store::Value;
+use interpreter_store::typed_cells::Reached;
 
 /// A program that is run by its frames.
 #[derive(Clone, Copy)]

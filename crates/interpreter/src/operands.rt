@@ -2,17 +2,17 @@
 
 ghost use Rattle.std.specs.Prelude.{map};
 ghost use Rattle.typed_tree.specs.Expressions.{view_arg, view_args};
-ghost use Rattle.meaning.specs.Expressions.{operands};
-ghost use Rattle.meaning.specs.Meaning.{run as runs};
-ghost use Rattle.activations.specs.Views.{view_activation};
-ghost use Rattle.standard_effects.specs.Operands.{view_operand};
+ghost use Rattle.tp_meaning.specs.Expressions.{operands};
+ghost use Rattle.tp_meaning.specs.Meaning.{run as runs};
+ghost use Rattle.interpreter_effects.specs.activations.Views.{view_activation};
+ghost use Rattle.interpreter_effects.specs.standard_effects.Operands.{view_operand};
 ghost use Rattle.interpreter_steps.specs.Running.{view_run, program_of};
-ghost use Rattle.interpreter_frames.specs.Frames.{rest_of, on_arguments, arguments_behind, Goes};
+ghost use Rattle.interpreter_steps.specs.interpreter_frames.Frames.{rest_of, on_arguments, arguments_behind, Goes};
 
 use crate::machine::Machine;
-use interpreter_frames::{Callable, Next, OnPlace, OnValue, Work};
+use interpreter_effects::standard_effects::Operand;
+use interpreter_steps::interpreter_frames::{Callable, Next, OnPlace, OnValue, Work};
 use interpreter_steps::{Over, Run, operand_behind, sort_of};
-use standard_effects::Operand;
 use typed_tree::Arg;
 
 impl<'a> Machine<'a> {

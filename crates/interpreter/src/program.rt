@@ -2,27 +2,27 @@
 
 ghost use Rattle.std.specs.Prelude.{◌≡◌, [], IfOk, OnOk};
 ghost use Rattle.std.specs.List.{flat_map};
-ghost use Rattle.meaning.specs.Trees.{Value as PureValue};
-ghost use Rattle.meaning.specs.Store.{with_new};
-ghost use Rattle.meaning.specs.Outcomes.{Outcome};
-ghost use Rattle.meaning.specs.Calls.{entered};
-ghost use Rattle.meaning.specs.Meaning.{run as runs, unit_objects, start_store, start_activation, started, all_started, seen_so, seen_of, mean};
-ghost use Rattle.cell_store.specs.Views.{view_store, view_value};
-ghost use Rattle.activations.specs.Views.{view_activation};
+ghost use Rattle.tp_meaning.specs.Trees.{Value as PureValue};
+ghost use Rattle.tp_meaning.specs.Store.{with_new};
+ghost use Rattle.tp_meaning.specs.Outcomes.{Outcome};
+ghost use Rattle.tp_meaning.specs.Calls.{entered};
+ghost use Rattle.tp_meaning.specs.Meaning.{run as runs, unit_objects, start_store, start_activation, started, all_started, seen_so, seen_of, mean};
+ghost use Rattle.interpreter_store.specs.cell_store.Views.{view_store, view_value};
+ghost use Rattle.interpreter_effects.specs.activations.Views.{view_activation};
 ghost use Rattle.interpreter_steps.specs.Running.{view_run, program_of, Ends, Comes};
 ghost use Rattle.interpreter.specs.Whole.{view_end, view_meaning, global_objects};
 
 use crate::machine::Machine;
-use activations::Activation;
-use cell_store::{Key, Store, Tree, Value};
-use first_values::first_tree;
-use interpreter_frames::Work;
+use common_values::written::error_text;
+use interpreter_effects::activations::Activation;
+use interpreter_effects::initializers::first_tree;
+use interpreter_effects::program_names::Sources;
+use interpreter_steps::interpreter_frames::Work;
 use interpreter_steps::{Interpreter, Over, Run};
-use program_names::Sources;
+use interpreter_store::cell_store::{Key, Store, Tree, Value};
 use std::alloc::{AllocError, Global};
 use type_layout::{Host, TypeDef, Types};
 use typed_tree::{Global as GlobalVariable, Program, Unit};
-use values::written::error_text;
 
 /// How a run stands.
 #[derive(Clone, Copy, Debug, PartialEq, Eq)]

@@ -4,37 +4,37 @@ ghost use Rattle.std.specs.Prelude.{map};
 ghost use Rattle.typed_tree.specs.declared.units.Program.{Program};
 ghost use Rattle.typed_tree.specs.Expressions.{view_expr, view_place, view_elements, view_args};
 ghost use Rattle.typed_tree.specs.Statements.{view_stmt, view_stmts, view_arms, view_written, view_taken};
-ghost use Rattle.meaning.specs.Outcomes.{State};
-ghost use Rattle.meaning.specs.Expressions.{instance_at};
-ghost use Rattle.meaning.specs.Statements.{statements, then_next};
-ghost use Rattle.meaning.specs.Meaning.{run as runs};
-ghost use Rattle.cell_store.specs.Views.{view_value};
-ghost use Rattle.typed_cells.specs.Sorts.{view_sort, view_reached};
-ghost use Rattle.activations.specs.Views.{view_activation, view_callee};
+ghost use Rattle.tp_meaning.specs.Outcomes.{State};
+ghost use Rattle.tp_meaning.specs.Expressions.{instance_at};
+ghost use Rattle.tp_meaning.specs.Statements.{statements, then_next};
+ghost use Rattle.tp_meaning.specs.Meaning.{run as runs};
+ghost use Rattle.interpreter_store.specs.cell_store.Views.{view_value};
+ghost use Rattle.interpreter_store.specs.typed_cells.Sorts.{view_sort, view_reached};
+ghost use Rattle.interpreter_effects.specs.activations.Views.{view_activation, view_callee};
 ghost use Rattle.interpreter_steps.specs.Running.{view_run, view_flow, program_of};
 ghost use Rattle.interpreter_steps.specs.Entering.{ended};
-ghost use Rattle.interpreter_frames.specs.declared.work.Work.{Work as WorkOf};
-ghost use Rattle.interpreter_frames.specs.Frames.{rest_of, with_value, then_value, then_flow, element_added, span_begun, span_added, branched, selected, counting_up, counting_to, wide_printed, halted_by, disposed_with, called_on, item_read, resumed_value, resumed_place, resumed_flow, Goes};
+ghost use Rattle.interpreter_steps.specs.declared.interpreter_frames.work.Work.{Work as WorkOf};
+ghost use Rattle.interpreter_steps.specs.interpreter_frames.Frames.{rest_of, with_value, then_value, then_flow, element_added, span_begun, span_added, branched, selected, counting_up, counting_to, wide_printed, halted_by, disposed_with, called_on, item_read, resumed_value, resumed_place, resumed_flow, Goes};
 
 use crate::evaluation::{list_elements, operate};
 use crate::execution::{branch_for, list_statements, read};
 use crate::loops::{end_repeat, follow_repeat, follow_while, turn_while};
 use crate::machine::Machine;
-use cell_store::Value;
-use interpreter_frames::{
+use common_values::sets::with_range;
+use interpreter_effects::standard_effects::Operand;
+use interpreter_steps::interpreter_frames::{
     Callable, Counting, Next, OnFlow, OnPlace, OnValue, Return, Work, done, gave_flow, gave_place,
     gave_value,
 };
 use interpreter_steps::{
     Flow, Over, Run, element_number, halted, instance_at, number_of, unary_value, value_within,
 };
-use standard_effects::Operand;
+use interpreter_store::cell_store::Value;
+use interpreter_store::typed_cells::{Reached, Sort};
+use interpreter_store::value_operators::is_true;
 use std::alloc::Global;
 use type_layout::RoutineId;
-use typed_cells::{Reached, Sort};
 use typed_tree::{Arg, Arm, Destructor, Expr, PlaceExpr, ReadItem, SetElement, Stmt, WriteItem};
-use value_operators::is_true;
-use values::sets::with_range;
 
 // One element joins a set, and those that are left come next.
 fn add_element<'a>(

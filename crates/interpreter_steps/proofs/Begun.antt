@@ -4,11 +4,11 @@ use Rattle.std.specs.Prelude.{ℤ}
 use Rattle.type_layout.specs.declared.definitions.TypeId.{TypeId}
 use Rattle.typed_tree.specs.declared.expressions.Variable.{Variable}
 use Rattle.typed_tree.specs.declared.units.Program.{Program}
-use Rattle.meaning.specs.Trees.{Ordinal}
-use Rattle.meaning.specs.Programs.{definition, sort_in}
-use Rattle.meaning.specs.Outcomes.{State, Outcome, Done, Does, and_then, give, changed}
-use Rattle.meaning.specs.Activations.{Reached, Activation, assigned}
-use Rattle.meaning.specs.Statements.{tested, counter}
+use Rattle.tp_meaning.specs.Trees.{Ordinal}
+use Rattle.tp_meaning.specs.Programs.{definition, sort_in}
+use Rattle.tp_meaning.specs.Outcomes.{State, Outcome, Done, Does, and_then, give, changed}
+use Rattle.tp_meaning.specs.Activations.{Reached, Activation, assigned}
+use Rattle.tp_meaning.specs.Statements.{tested, counter}
 use Rattle.interpreter_steps.specs.declared.state.Over.{Over}
 use Rattle.interpreter_steps.specs.Running.{Ends}
 use Rattle.interpreter_steps.specs.StatementParts.{begun_at, counted_at}

@@ -3,21 +3,21 @@ use Rattle.std.proofs.Common.{◌≡◌, ℕ, List, Option, Some, None, refl, sy
 use Rattle.std.specs.Prelude.{Result, Ok, Err}
 use Rattle.std.specs.Option.{option_map}
 use Rattle.typed_tree.specs.declared.units.Program.{Program}
-use Rattle.cell_store.specs.declared.traps.Trap.{Trap}
-use Rattle.cell_store.specs.declared.traps.Stop.{Stop}
-use Rattle.cell_store.specs.declared.traps.Stop.TheVariants as stop
-use Rattle.cell_store.specs.declared.traps.Trap.TheVariants as trap
-use Rattle.cell_store.specs.Finding.{view_trap, Gets}
-use Rattle.meaning.specs.Trees.{Value, Void, Block}
-use Rattle.meaning.specs.Found.{Found, ◌>>=◌}
-use Rattle.meaning.specs.Store.{Store, next_serial}
-use Rattle.meaning.specs.Programs.{Sort, sort_in}
+use Rattle.interpreter_store.specs.declared.cell_store.traps.Trap.{Trap}
+use Rattle.interpreter_store.specs.declared.cell_store.traps.Stop.{Stop}
+use Rattle.interpreter_store.specs.declared.cell_store.traps.Stop.TheVariants as stop
+use Rattle.interpreter_store.specs.declared.cell_store.traps.Trap.TheVariants as trap
+use Rattle.interpreter_store.specs.cell_store.Finding.{view_trap, Gets}
+use Rattle.tp_meaning.specs.Trees.{Value, Void, Block}
+use Rattle.tp_meaning.specs.Found.{Found, ◌>>=◌}
+use Rattle.tp_meaning.specs.Store.{Store, next_serial}
+use Rattle.tp_meaning.specs.Programs.{Sort, sort_in}
 use Rattle.type_layout.specs.declared.definitions.TypeId.{TypeId}
-use Rattle.meaning.specs.Outcomes.{State, Outcome, Done, and_then, give, found, known, with_store}
-use Rattle.meaning.specs.Activations.{Activation}
-use Rattle.meaning.specs.Standard.{Operand, Standard, Effect, Gives, Changes, Makes, Asks, target, made, standard, effect_of}
-use Rattle.meaning.specs.Expressions.{block_made, effect_done, standard_done}
-use Rattle.standard_effects.specs.Effects.{effect_left}
+use Rattle.tp_meaning.specs.Outcomes.{State, Outcome, Done, and_then, give, found, known, with_store}
+use Rattle.tp_meaning.specs.Activations.{Activation}
+use Rattle.tp_meaning.specs.Standard.{Operand, Standard, Effect, Gives, Changes, Makes, Asks, target, made, standard, effect_of}
+use Rattle.tp_meaning.specs.Expressions.{block_made, effect_done, standard_done}
+use Rattle.interpreter_effects.specs.standard_effects.Effects.{effect_left}
 use Rattle.interpreter_steps.specs.declared.state.Over.{Over}
 use Rattle.interpreter_steps.specs.Running.{Ends, over_of, over_of_trap}
 use Rattle.interpreter_steps.specs.Places.{performed}

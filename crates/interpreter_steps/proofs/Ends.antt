@@ -1,15 +1,15 @@
 -- A run that is over passes by what would have come after it.
 use Rattle.std.proofs.Common.{◌≡◌, ℕ, ◌++◌, Option, Some, None, refl, sym, ap, subst, ◌∙◌}
 use Rattle.std.specs.Prelude.{Result, Ok, Err}
-use Rattle.behaviour.specs.Seen.{Seen, Ended, Going, Undefined, Stopped}
-use Rattle.values.specs.Written.{error_text}
-use Rattle.cell_store.specs.declared.traps.Trap.{Trap}
-use Rattle.cell_store.specs.declared.traps.Trap.TheVariants as trap
-use Rattle.cell_store.specs.Finding.{view_trap}
+use Rattle.common_values.specs.behaviour.Seen.{Seen, Ended, Going, Undefined, Stopped}
+use Rattle.common_values.specs.Written.{error_text}
+use Rattle.interpreter_store.specs.declared.cell_store.traps.Trap.{Trap}
+use Rattle.interpreter_store.specs.declared.cell_store.traps.Trap.TheVariants as trap
+use Rattle.interpreter_store.specs.cell_store.Finding.{view_trap}
 use Rattle.interpreter_steps.specs.declared.state.Over.{Over}
 use Rattle.interpreter_steps.specs.declared.state.Over.TheVariants as over
-use Rattle.meaning.specs.Found.{Found, Act, Error, IllTyped}
-use Rattle.meaning.specs.Outcomes.{State, Outcome, Done, Over as OverIn, Does, and_then, found}
+use Rattle.tp_meaning.specs.Found.{Found, Act, Error, IllTyped}
+use Rattle.tp_meaning.specs.Outcomes.{State, Outcome, Done, Over as OverIn, Does, and_then, found}
 use Rattle.interpreter_steps.specs.Running.{shown, Ends, over_of_trap}
 
 through : {A B : Type 0} (o : Outcome A) (go : A → Does B) (seen : Seen) → shown o ≡ Some seen → shown (and_then o go) ≡ Some seen

@@ -3,12 +3,12 @@ use Rattle.std.proofs.Common.{◌≡◌, ℕ, Bool, true, false, List, Option, r
 use Rattle.std.specs.Prelude.{◌&&◌, not, Ok}
 use Rattle.typed_tree.specs.declared.units.Program.{Program}
 use Rattle.typed_tree.specs.Statements.{view_stmt}
-use Rattle.meaning.specs.Trees.{Key, Spot, Value}
-use Rattle.meaning.specs.Store.{next_serial}
-use Rattle.meaning.specs.Outcomes.{State, Outcome, Done, Over, Does, and_then, give, found, looked, changed, raised_if}
-use Rattle.meaning.specs.Activations.{Activation, Callee, callee_of, levels_around, opened, class_set}
-use Rattle.meaning.specs.Calls.{Runs, Do, activation_of, entered, activated, is_too_deep}
-use Rattle.meaning.specs.Programs.{is_overlaid}
+use Rattle.tp_meaning.specs.Trees.{Key, Spot, Value}
+use Rattle.tp_meaning.specs.Store.{next_serial}
+use Rattle.tp_meaning.specs.Outcomes.{State, Outcome, Done, Over, Does, and_then, give, found, looked, changed, raised_if}
+use Rattle.tp_meaning.specs.Activations.{Activation, Callee, callee_of, levels_around, opened, class_set}
+use Rattle.tp_meaning.specs.Calls.{Runs, Do, activation_of, entered, activated, is_too_deep}
+use Rattle.tp_meaning.specs.Programs.{is_overlaid}
 use Rattle.interpreter_steps.specs.Entering.{admitted, begun, ended}
 
 -- three parts one after another

@@ -1,14 +1,14 @@
 -- What a call does before and after the body of its routine.
 use Rattle.std.specs.Prelude.{ℕ, ◌&&◌, not, length, List, Option, Some, Ok}
 use Rattle.typed_tree.specs.declared.units.Program.{Program}
-use Rattle.type_fits.specs.Routines.{variables_of}
-use Rattle.meaning.specs.Trees.{Key, Spot, Value}
-use Rattle.meaning.specs.Store.{next_serial, without}
-use Rattle.meaning.specs.Programs.{Sort, is_overlaid, class_key}
-use Rattle.meaning.specs.Outcomes.{Does, ◌>>=◌, ◌>>◌, give, found, known, raised_if, looked, changed, is_installed}
-use Rattle.meaning.specs.Activations.{Activation, Callee, whole, callee_of, opened, levels_around, class_set, result_of}
-use Rattle.meaning.specs.Calls.{activation_of, is_too_deep}
-use Rattle.meaning.specs.Expressions.{Instance}
+use Rattle.typed_tree.specs.type_fits.Routines.{variables_of}
+use Rattle.tp_meaning.specs.Trees.{Key, Spot, Value}
+use Rattle.tp_meaning.specs.Store.{next_serial, without}
+use Rattle.tp_meaning.specs.Programs.{Sort, is_overlaid, class_key}
+use Rattle.tp_meaning.specs.Outcomes.{Does, ◌>>=◌, ◌>>◌, give, found, known, raised_if, looked, changed, is_installed}
+use Rattle.tp_meaning.specs.Activations.{Activation, Callee, whole, callee_of, opened, levels_around, class_set, result_of}
+use Rattle.tp_meaning.specs.Calls.{activation_of, is_too_deep}
+use Rattle.tp_meaning.specs.Expressions.{Instance}
 
 -- the routine that is called, where its unit can be reached and the stack has room
 abbrev pub admitted : Program → Activation → Key → Does Callee

@@ -5,13 +5,13 @@ use Rattle.type_layout.specs.declared.definitions.TypeId.{TypeId}
 use Rattle.type_layout.specs.declared.definitions.RoutineId.{RoutineId}
 use Rattle.typed_tree.specs.declared.units.Program.{Program}
 use Rattle.typed_tree.specs.Expressions.{Expression}
-use Rattle.meaning.specs.Trees.{Value, Code}
-use Rattle.meaning.specs.Store.{followed, number_of}
-use Rattle.meaning.specs.Programs.{Sort, definition, sort_in, routine_key}
-use Rattle.meaning.specs.Outcomes.{Does, ◌>>=◌, give, found, known, looked}
-use Rattle.meaning.specs.Activations.{Activation, Reached, whole}
-use Rattle.meaning.specs.Standard.{Operand, standard, target}
-use Rattle.meaning.specs.Expressions.{sort_of, element_in, block_made, standard_done}
+use Rattle.tp_meaning.specs.Trees.{Value, Code}
+use Rattle.tp_meaning.specs.Store.{followed, number_of}
+use Rattle.tp_meaning.specs.Programs.{Sort, definition, sort_in, routine_key}
+use Rattle.tp_meaning.specs.Outcomes.{Does, ◌>>=◌, give, found, known, looked}
+use Rattle.tp_meaning.specs.Activations.{Activation, Reached, whole}
+use Rattle.tp_meaning.specs.Standard.{Operand, standard, target}
+use Rattle.tp_meaning.specs.Expressions.{sort_of, element_in, block_made, standard_done}
 
 -- where a pointer leads, as its expression is typed
 abbrev pub followed_to : Activation → Expression → Value → Does Reached

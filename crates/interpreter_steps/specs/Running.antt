@@ -1,25 +1,25 @@
 -- The interpreter's states and answers as those of the meaning.
 use Rattle.std.specs.Prelude.{◌≡◌, ℕ, ◌++◌, Option, Some, None, Result, Ok, Err}
-use Rattle.behaviour.specs.Seen.{Ended, Going, Undefined, Stopped, Seen}
-use Rattle.values.specs.Written.{error_text}
+use Rattle.common_values.specs.behaviour.Seen.{Ended, Going, Undefined, Stopped, Seen}
+use Rattle.common_values.specs.Written.{error_text}
 use Rattle.typed_tree.specs.declared.units.Program.{Program}
-use Rattle.cell_store.specs.Views.{view_key, view_spot, view_store}
+use Rattle.interpreter_store.specs.cell_store.Views.{view_key, view_spot, view_store}
 use Rattle.interpreter_steps.specs.declared.state.Run.{Run}
 use Rattle.interpreter_steps.specs.declared.state.Over.{Over}
 use Rattle.interpreter_steps.specs.declared.state.Over.TheVariants as over
 use Rattle.interpreter_steps.specs.declared.state.Flow.{Flow}
 use Rattle.interpreter_steps.specs.declared.state.Flow.TheVariants as flow
 use Rattle.interpreter_steps.specs.declared.state.Interpreter.{Interpreter}
-use Rattle.cell_store.specs.declared.traps.Trap.{Trap}
-use Rattle.cell_store.specs.declared.traps.Trap.TheVariants as trap
-use Rattle.cell_store.specs.declared.traps.Stop.{Stop}
-use Rattle.cell_store.specs.declared.traps.Stop.TheVariants as stop
-use Rattle.meaning.specs.Outcomes.{State, Outcome, Does, Done, Over as OverIn}
-use Rattle.meaning.specs.Calls.{Flow as PureFlow, Next, Left}
-use Rattle.meaning.specs.Meaning.{seen_so}
+use Rattle.interpreter_store.specs.declared.cell_store.traps.Trap.{Trap}
+use Rattle.interpreter_store.specs.declared.cell_store.traps.Trap.TheVariants as trap
+use Rattle.interpreter_store.specs.declared.cell_store.traps.Stop.{Stop}
+use Rattle.interpreter_store.specs.declared.cell_store.traps.Stop.TheVariants as stop
+use Rattle.tp_meaning.specs.Outcomes.{State, Outcome, Does, Done, Over as OverIn}
+use Rattle.tp_meaning.specs.Calls.{Flow as PureFlow, Next, Left}
+use Rattle.tp_meaning.specs.Meaning.{seen_so}
 use Rattle.std.specs.Option.{option_map}
 use Rattle.interpreter_steps.specs.declared.instances.Instance.{Instance}
-use Rattle.meaning.specs.Expressions.{Instance as PureInstance}
+use Rattle.tp_meaning.specs.Expressions.{Instance as PureInstance}
 
 abbrev pub view_run : Run → State
 view_run run = record {

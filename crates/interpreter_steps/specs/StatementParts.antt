@@ -5,15 +5,15 @@ use Rattle.type_layout.specs.declared.definitions.TypeDef.{TypeDef}
 use Rattle.typed_tree.specs.declared.expressions.Variable.{Variable}
 use Rattle.typed_tree.specs.declared.units.Program.{Program}
 use Rattle.typed_tree.specs.Expressions.{Expression}
-use Rattle.meaning.specs.Trees.{Value, Ordinal}
-use Rattle.meaning.specs.Store.{disposed}
-use Rattle.meaning.specs.Programs.{Sort, definition, sort_in}
-use Rattle.meaning.specs.Outcomes.{Does, ◌>>=◌, ◌>>◌, give, found, looked, changed, printed}
-use Rattle.meaning.specs.Activations.{Reached, Activation, whole, assigned}
-use Rattle.meaning.specs.Calls.{Flow, Next}
-use Rattle.meaning.specs.Standard.{number_assigned, field_text, text_of, target, size_freed}
-use Rattle.meaning.specs.Expressions.{sort_of}
-use Rattle.meaning.specs.Statements.{tested, numeral_or_error, counter, block_of}
+use Rattle.tp_meaning.specs.Trees.{Value, Ordinal}
+use Rattle.tp_meaning.specs.Store.{disposed}
+use Rattle.tp_meaning.specs.Programs.{Sort, definition, sort_in}
+use Rattle.tp_meaning.specs.Outcomes.{Does, ◌>>=◌, ◌>>◌, give, found, looked, changed, printed}
+use Rattle.tp_meaning.specs.Activations.{Reached, Activation, whole, assigned}
+use Rattle.tp_meaning.specs.Calls.{Flow, Next}
+use Rattle.tp_meaning.specs.Standard.{number_assigned, field_text, text_of, target, size_freed}
+use Rattle.tp_meaning.specs.Expressions.{sort_of}
+use Rattle.tp_meaning.specs.Statements.{tested, numeral_or_error, counter, block_of}
 
 -- a loop's variable gets a value
 abbrev pub counted_at : Program → Activation → Variable → ℤ → Does (Unit {0})

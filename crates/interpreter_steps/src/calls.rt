@@ -2,15 +2,15 @@
 
 ghost use Rattle.std.specs.Prelude.{◌≡◌, map};
 ghost use Rattle.std.specs.Option.{option_map, option_copied};
-ghost use Rattle.cell_store.specs.Views.{view_key, view_spot, view_value};
-ghost use Rattle.activations.specs.Views.{view_activation, view_callee};
+ghost use Rattle.interpreter_store.specs.cell_store.Views.{view_key, view_spot, view_value};
+ghost use Rattle.interpreter_effects.specs.activations.Views.{view_activation, view_callee};
 ghost use Rattle.interpreter_steps.specs.Running.{view_run, program_of, Comes};
 ghost use Rattle.interpreter_steps.specs.Entering.{admitted, begun, ended};
 
 use crate::state::{Interpreter, Over, Run};
-use activations::{Activation, Callee, callee_of};
-use cell_store::{Key, Spot, Value};
-use program_names::is_overlaid;
+use interpreter_effects::activations::{Activation, Callee, callee_of};
+use interpreter_effects::program_names::is_overlaid;
+use interpreter_store::cell_store::{Key, Spot, Value};
 
 impl<'a> Interpreter<'a> {
     /// The routine that is called, where its unit can be reached and the stack has room.

@@ -2,29 +2,31 @@
 
 ghost use Rattle.std.specs.Prelude.{◌≡◌, IfOk, map};
 ghost use Rattle.std.specs.Option.{option_map, option_copied};
-ghost use Rattle.type_fits.specs.Fits.{stored_as};
+ghost use Rattle.typed_tree.specs.type_fits.Fits.{stored_as};
 ghost use Rattle.typed_tree.specs.Expressions.{view_expr, type_of};
-ghost use Rattle.meaning.specs.Outcomes.{State, looked, found};
-ghost use Rattle.meaning.specs.Programs.{sort_in};
-ghost use Rattle.meaning.specs.Operators.{unary, binary, converted, ranged, element_of};
-ghost use Rattle.meaning.specs.Expressions.{constant_value, sort_of, storage};
-ghost use Rattle.cell_store.specs.Views.{view_value};
-ghost use Rattle.typed_cells.specs.Sorts.{view_sort};
-ghost use Rattle.activations.specs.Views.{view_activation};
-ghost use Rattle.standard_effects.specs.Operands.{view_operand};
+ghost use Rattle.tp_meaning.specs.Outcomes.{State, looked, found};
+ghost use Rattle.tp_meaning.specs.Programs.{sort_in};
+ghost use Rattle.tp_meaning.specs.Operators.{unary, binary, converted, ranged, element_of};
+ghost use Rattle.tp_meaning.specs.Expressions.{constant_value, sort_of, storage};
+ghost use Rattle.interpreter_store.specs.cell_store.Views.{view_value};
+ghost use Rattle.interpreter_store.specs.typed_cells.Sorts.{view_sort};
+ghost use Rattle.interpreter_effects.specs.activations.Views.{view_activation};
+ghost use Rattle.interpreter_effects.specs.standard_effects.Operands.{view_operand};
 ghost use Rattle.interpreter_steps.specs.Running.{view_run, program_of, Comes};
 ghost use Rattle.interpreter_steps.specs.Places.{code_of, performed, block_for};
 
 use crate::state::{Interpreter, Over, Run};
-use activations::Activation;
-use cell_store::Value;
-use program_names::routine_key;
-use standard_effects::{Operand, make, perform, standard_of, stored_as, target};
+use interpreter_effects::activations::Activation;
+use interpreter_effects::program_names::routine_key;
+use interpreter_effects::standard_effects::{
+    Operand, make, perform, standard_of, stored_as, target,
+};
+use interpreter_store::cell_store::Value;
+use interpreter_store::typed_cells::Sort;
+use interpreter_store::value_operators::{binary, converted, element_of, ranged, unary};
 use std::alloc::{AllocError, Global};
 use type_layout::{Host, RoutineId, TypeId};
-use typed_cells::Sort;
 use typed_tree::{BinaryOp, Expr, UnaryOp, Value as Constant};
-use value_operators::{binary, converted, element_of, ranged, unary};
 
 /// The value of a constant.
 pub fn constant_value(alloc: Global, constant: &Constant) -> Result<Value, AllocError>

@@ -3,24 +3,26 @@
 ghost use Rattle.std.specs.Prelude.{◌≡◌, map, Err};
 ghost use Rattle.std.specs.Option.{option_map};
 ghost use Rattle.typed_tree.specs.Expressions.{view_place};
-ghost use Rattle.meaning.specs.Outcomes.{State, looked, known};
-ghost use Rattle.meaning.specs.Programs.{overlay_file, routine_key, class_sort};
-ghost use Rattle.meaning.specs.Activations.{held_routine};
-ghost use Rattle.meaning.specs.Calls.{is_file, installed_if, with_overlay_result, without_class, with_method, dispatched_in, method_of, overlay_called};
-ghost use Rattle.meaning.specs.Expressions.{class_for, instance_at};
-ghost use Rattle.cell_store.specs.Views.{view_key, view_value};
-ghost use Rattle.typed_cells.specs.Sorts.{view_sort, view_reached};
-ghost use Rattle.activations.specs.Views.{view_activation};
+ghost use Rattle.tp_meaning.specs.Outcomes.{State, looked, known};
+ghost use Rattle.tp_meaning.specs.Programs.{overlay_file, routine_key, class_sort};
+ghost use Rattle.tp_meaning.specs.Activations.{held_routine};
+ghost use Rattle.tp_meaning.specs.Calls.{is_file, installed_if, with_overlay_result, without_class, with_method, dispatched_in, method_of, overlay_called};
+ghost use Rattle.tp_meaning.specs.Expressions.{class_for, instance_at};
+ghost use Rattle.interpreter_store.specs.cell_store.Views.{view_key, view_value};
+ghost use Rattle.interpreter_store.specs.typed_cells.Sorts.{view_sort, view_reached};
+ghost use Rattle.interpreter_effects.specs.activations.Views.{view_activation};
 ghost use Rattle.interpreter_steps.specs.Running.{view_run, view_instance, program_of, Comes};
 ghost use Rattle.interpreter_steps.specs.Entering.{new_instance};
 
 use crate::state::{Interpreter, Over, Run};
-use activations::Activation;
-use cell_store::{Key, Spot, Value};
-use program_names::{class_key, class_sort, is_overlay_file, method_in, routine_key};
+use interpreter_effects::activations::Activation;
+use interpreter_effects::program_names::{
+    class_key, class_sort, is_overlay_file, method_in, routine_key,
+};
+use interpreter_store::cell_store::{Key, Spot, Value};
+use interpreter_store::typed_cells::{Reached, Sort};
 use std::alloc::Global;
 use type_layout::RoutineId;
-use typed_cells::{Reached, Sort};
 use typed_tree::PlaceExpr;
 
 /// The instance of a method, and the class that a constructor gives it.

@@ -4,6 +4,7 @@
 mod calls;
 mod expressions;
 mod instances;
+pub mod interpreter_frames;
 mod operands;
 mod places;
 mod reading;

@@ -1,12 +1,12 @@
 //! Arguments of calls.
 
 ghost use Rattle.std.specs.Prelude.{◌≡◌, ◌++◌, ◌∷◌, [], map, IfOk};
-ghost use Rattle.meaning.specs.Standard.{handed};
-ghost use Rattle.cell_store.specs.Views.{view_value};
-ghost use Rattle.standard_effects.specs.Operands.{view_operand};
+ghost use Rattle.tp_meaning.specs.Standard.{handed};
+ghost use Rattle.interpreter_store.specs.cell_store.Views.{view_value};
+ghost use Rattle.interpreter_effects.specs.standard_effects.Operands.{view_operand};
 
-use cell_store::Value;
-use standard_effects::{Operand, handed};
+use interpreter_effects::standard_effects::{Operand, handed};
+use interpreter_store::cell_store::Value;
 use std::alloc::{AllocError, Global};
 
 /// The arguments as they are handed to a routine of the sources.

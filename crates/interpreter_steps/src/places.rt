@@ -3,26 +3,28 @@
 ghost use Rattle.std.specs.Prelude.{◌≡◌, pos, Err};
 ghost use Rattle.type_layout.specs.Layouts.{bounds_at};
 ghost use Rattle.typed_tree.specs.Expressions.{view_expr};
-ghost use Rattle.meaning.specs.Outcomes.{State, looked};
-ghost use Rattle.meaning.specs.Activations.{Reached as PureReached, variable_at, loaded};
-ghost use Rattle.meaning.specs.Programs.{definition, char_sort};
-ghost use Rattle.meaning.specs.Expressions.{field_at, outside, element_between, element_in};
-ghost use Rattle.cell_store.specs.Views.{view_spot, view_value};
-ghost use Rattle.typed_cells.specs.Sorts.{view_sort, view_reached};
-ghost use Rattle.activations.specs.Views.{view_activation};
+ghost use Rattle.tp_meaning.specs.Outcomes.{State, looked};
+ghost use Rattle.tp_meaning.specs.Activations.{Reached as PureReached, variable_at, loaded};
+ghost use Rattle.tp_meaning.specs.Programs.{definition, char_sort};
+ghost use Rattle.tp_meaning.specs.Expressions.{field_at, outside, element_between, element_in};
+ghost use Rattle.interpreter_store.specs.cell_store.Views.{view_spot, view_value};
+ghost use Rattle.interpreter_store.specs.typed_cells.Sorts.{view_sort, view_reached};
+ghost use Rattle.interpreter_effects.specs.activations.Views.{view_activation};
 ghost use Rattle.interpreter_steps.specs.Running.{view_run, program_of, Comes};
 ghost use Rattle.interpreter_steps.specs.Places.{followed_to, indexed};
 
 use crate::expressions::sort_of;
 use crate::state::{Interpreter, Over, Run};
-use activations::Activation;
-use cell_store::{Spot, Value};
-use standard_effects::target;
+use interpreter_effects::activations::Activation;
+use interpreter_effects::standard_effects::target;
+use interpreter_store::cell_store::{Spot, Value};
+use interpreter_store::typed_cells::{
+    Reached, Sort, field_place, field_type, inside, parts_of_type,
+};
+use interpreter_store::value_operators::is_between;
 use std::alloc::Global;
 use type_layout::{TypeDef, TypeId, Types};
-use typed_cells::{Reached, Sort, field_place, field_type, inside, parts_of_type};
 use typed_tree::{Expr, Variable};
-use value_operators::is_between;
 
 // Outside its bounds an index is error 201 where it is checked, and else an undefined act.
 fn outside(checked: bool) -> Over

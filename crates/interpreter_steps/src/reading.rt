@@ -2,20 +2,20 @@
 
 ghost use Rattle.std.specs.Prelude.{◌≡◌};
 ghost use Rattle.std.specs.Option.{option_copied};
-ghost use Rattle.meaning.specs.Programs.{definition, sort_in};
-ghost use Rattle.meaning.specs.Statements.{number_taken, char_taken, text_taken, taken_as};
-ghost use Rattle.typed_cells.specs.Sorts.{view_reached};
+ghost use Rattle.tp_meaning.specs.Programs.{definition, sort_in};
+ghost use Rattle.tp_meaning.specs.Statements.{number_taken, char_taken, text_taken, taken_as};
+ghost use Rattle.interpreter_store.specs.typed_cells.Sorts.{view_reached};
 ghost use Rattle.interpreter_steps.specs.Running.{view_run, Comes};
 ghost use Rattle.interpreter_steps.specs.StatementParts.{stored_within, numeral_stored};
 
 use crate::expressions::sort_in;
 use crate::state::{Interpreter, Over, Run};
 use crate::statements::tested;
-use activations::Activation;
-use cell_store::Value;
+use common_values::input::{read_char, read_number, read_string};
+use interpreter_effects::activations::Activation;
+use interpreter_store::cell_store::Value;
+use interpreter_store::typed_cells::Reached;
 use type_layout::{Bytes, Host, TypeDef, TypeId};
-use typed_cells::Reached;
-use values::input::{read_char, read_number, read_string};
 
 impl<'a> Interpreter<'a> {
     fn store_tested(

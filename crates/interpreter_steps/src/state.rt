@@ -1,12 +1,12 @@
 //! What the interpreter keeps of a run.
 
 ghost use Rattle.std.specs.Prelude.{◌≡◌};
-ghost use Rattle.meaning.specs.Trees.{Value as PureValue};
-ghost use Rattle.meaning.specs.Outcomes.{Does, spending};
+ghost use Rattle.tp_meaning.specs.Trees.{Value as PureValue};
+ghost use Rattle.tp_meaning.specs.Outcomes.{Does, spending};
 ghost use Rattle.interpreter_steps.specs.Running.{view_run, Spends};
 
-use cell_store::{Stop, Store, Trap};
-use program_names::Sources;
+use interpreter_effects::program_names::Sources;
+use interpreter_store::cell_store::{Stop, Store, Trap};
 use std::alloc::{AllocError, AllocFailed, Global};
 
 /// How a statement ended: the next one follows, or the routine is left.

@@ -5,30 +5,30 @@ ghost use Rattle.std.specs.List.{list_any};
 ghost use Rattle.std.specs.Option.{option_copied};
 ghost use Rattle.type_layout.specs.Layouts.{bounds_of};
 ghost use Rattle.typed_tree.specs.Expressions.{view_expr};
-ghost use Rattle.meaning.specs.Store.{number_of};
-ghost use Rattle.meaning.specs.Programs.{definition, sort_in};
-ghost use Rattle.meaning.specs.Outcomes.{State, found, looked, changed};
-ghost use Rattle.meaning.specs.Activations.{assigned, copied, number_in};
-ghost use Rattle.meaning.specs.Standard.{number_assigned};
-ghost use Rattle.meaning.specs.Statements.{covers, is_past, step, counted, tested, line_written, line_read, halted, destructor_of};
-ghost use Rattle.cell_store.specs.Views.{view_key, view_spot, view_value};
-ghost use Rattle.typed_cells.specs.Sorts.{view_sort, view_reached};
-ghost use Rattle.activations.specs.Views.{view_activation};
+ghost use Rattle.tp_meaning.specs.Store.{number_of};
+ghost use Rattle.tp_meaning.specs.Programs.{definition, sort_in};
+ghost use Rattle.tp_meaning.specs.Outcomes.{State, found, looked, changed};
+ghost use Rattle.tp_meaning.specs.Activations.{assigned, copied, number_in};
+ghost use Rattle.tp_meaning.specs.Standard.{number_assigned};
+ghost use Rattle.tp_meaning.specs.Statements.{covers, is_past, step, counted, tested, line_written, line_read, halted, destructor_of};
+ghost use Rattle.interpreter_store.specs.cell_store.Views.{view_key, view_spot, view_value};
+ghost use Rattle.interpreter_store.specs.typed_cells.Sorts.{view_sort, view_reached};
+ghost use Rattle.interpreter_effects.specs.activations.Views.{view_activation};
 ghost use Rattle.interpreter_steps.specs.Running.{view_run, view_flow, program_of, Comes};
 ghost use Rattle.interpreter_steps.specs.StatementParts.{counted_at, begun_at, printed_in, block_at, freed_at};
 
 use crate::expressions::sort_in;
 use crate::instances::named;
 use crate::state::{Flow, Interpreter, Over, Run};
-use activations::Activation;
-use cell_store::{Key, Spot, Tree, Value};
-use standard_effects::{number_assigned, size_freed};
+use common_values::input::after_line;
+use common_values::ordinals::shift_count;
+use interpreter_effects::activations::Activation;
+use interpreter_effects::standard_effects::{number_assigned, size_freed};
+use interpreter_store::cell_store::{Key, Spot, Tree, Value};
+use interpreter_store::typed_cells::{Reached, Sort};
+use interpreter_store::value_operators::{field_text, is_between, text_of, within};
 use type_layout::{TypeDef, TypeId};
-use typed_cells::{Reached, Sort};
 use typed_tree::{Destructor, Expr, LabelRange, Variable};
-use value_operators::{field_text, is_between, text_of, within};
-use values::input::after_line;
-use values::ordinals::shift_count;
 
 /// The number of an ordinal.
 pub fn number_of(value: &Value) -> Result<i32, Over>

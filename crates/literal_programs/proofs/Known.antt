@@ -1,13 +1,13 @@
 -- What is known of the run of a program of literals.
 use Rattle.std.proofs.Common.{◌≡◌, ℕ, List, [], sym, ap, ◌∙◌, subst}
-use Rattle.behaviour.specs.Seen as seen
-use Rattle.behaviour.specs.Seen.{Seen, Standing}
+use Rattle.common_values.specs.behaviour.Seen as seen
+use Rattle.common_values.specs.behaviour.Seen.{Seen, Standing}
 use Rattle.typed_tree.specs.declared.units.Program.{Program}
 use Rattle.cpu_8086.specs.Process as process
 use Rattle.cpu_8086.specs.Process.{Status}
-use Rattle.literal_code.specs.Statement.{Statement, written, code_of, shown}
-use Rattle.literal_code.specs.Ends.{EndsAs, EndsWithin, AlwaysEnds}
-use Rattle.meaning.specs.Meaning.{mean}
+use Rattle.literal_programs.specs.literal_code.Statement.{Statement, written, code_of, shown}
+use Rattle.literal_programs.specs.literal_code.Ends.{EndsAs, EndsWithin, AlwaysEnds}
+use Rattle.tp_meaning.specs.Meaning.{mean}
 use Rattle.literal_programs.specs.Literals.{Says, IsLiteral}
 use Rattle.literal_programs.specs.Agrees.{Agrees}
 use Rattle.literal_programs.proofs.Meant.{means}

@@ -2,23 +2,23 @@
 use Rattle.std.proofs.Common.{◌≡◌, ℕ, ◌+◌, ◌≤◌, Bool, true, false, List, [], ◌∷◌, ◌++◌, length, map, Some, None, refl, sym, ap, ◌∙◌, arith, append-nil, append_assoc}
 use Rattle.std.specs.Prelude.{◌%◌, nat_lt, if◌then◌else◌, slice_get, Option, Ok}
 use Rattle.std.proofs.lemmas.Bool.Decides.{nat_tests}
-use Rattle.behaviour.specs.Seen.{Seen, Ended}
+use Rattle.common_values.specs.behaviour.Seen.{Seen, Ended}
 use Rattle.typed_tree.specs.declared.units.Routine.{Routine}
 use Rattle.typed_tree.specs.declared.units.Unit.{Unit as TypedUnit}
 use Rattle.typed_tree.specs.declared.units.Program.{Program}
 use Rattle.typed_tree.specs.Statements.{view_stmt}
 use Rattle.typed_tree.specs.Frames.{frame_of, even}
 use Rattle.object_vmt.proofs.SlotLaws.{same_bytes_refl}
-use Rattle.literal_code.specs.Statement.{Statement, write, halt, written, code_of, shown}
-use Rattle.meaning.specs.Trees.{Value}
-use Rattle.meaning.specs.Shapes.{new_tree}
-use Rattle.meaning.specs.Store.{Store, next_serial, with_new, without}
-use Rattle.meaning.specs.Programs.{is_overlaid}
-use Rattle.meaning.specs.Outcomes.{State, Outcome, Over, Does, ◌>>◌, and_then, give, looked, changed}
-use Rattle.meaning.specs.Activations.{Activation, Callee, callee_of, variable_object, result_trees, opened, levels_around, class_set, is_constructor, result_of}
-use Rattle.meaning.specs.Calls.{Flow, Next, Do, Runs, activation_of, activated, entered}
-use Rattle.type_fits.specs.Routines.{variables_of}
-use Rattle.meaning.specs.Meaning.{run_by, run, start_state, start_activation, started, seen_so, seen_of, mean}
+use Rattle.literal_programs.specs.literal_code.Statement.{Statement, write, halt, written, code_of, shown}
+use Rattle.tp_meaning.specs.Trees.{Value}
+use Rattle.tp_meaning.specs.Shapes.{new_tree}
+use Rattle.tp_meaning.specs.Store.{Store, next_serial, with_new, without}
+use Rattle.tp_meaning.specs.Programs.{is_overlaid}
+use Rattle.tp_meaning.specs.Outcomes.{State, Outcome, Over, Does, ◌>>◌, and_then, give, looked, changed}
+use Rattle.tp_meaning.specs.Activations.{Activation, Callee, callee_of, variable_object, result_trees, opened, levels_around, class_set, is_constructor, result_of}
+use Rattle.tp_meaning.specs.Calls.{Flow, Next, Do, Runs, activation_of, activated, entered}
+use Rattle.typed_tree.specs.type_fits.Routines.{variables_of}
+use Rattle.tp_meaning.specs.Meaning.{run_by, run, start_state, start_activation, started, seen_so, seen_of, mean}
 use Rattle.literal_programs.specs.Literals.{said, IsMain, Says}
 use Rattle.literal_programs.proofs.Played.{behind, played, statement_played}
 

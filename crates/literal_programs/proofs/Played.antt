@@ -1,8 +1,8 @@
 -- What the statements of a program of literals do to the state of a run.
 use Rattle.std.proofs.Common.{◌≡◌, ℕ, Bool, true, false, List, [], ◌∷◌, ◌++◌, length, Some, None, refl, sym, ap, ◌∙◌, arith}
 use Rattle.std.specs.Prelude.{◌-◌, nat_lt, pos, negsuc, if◌then◌else◌, slice_get, Option, Ok}
-use Rattle.behaviour.specs.Seen.{Ended}
-use Rattle.integers.specs.Words.{w8, word_of}
+use Rattle.common_values.specs.behaviour.Seen.{Ended}
+use Rattle.common_values.specs.integers.Words.{w8, word_of}
 use Rattle.type_layout.specs.declared.definitions.Host.TheVariants as host
 use Rattle.type_layout.specs.declared.definitions.TypeId.{TypeId}
 use Rattle.type_layout.specs.declared.definitions.TypeDef.{TypeDef}
@@ -13,13 +13,13 @@ use Rattle.typed_tree.specs.declared.units.Program.{Program}
 use Rattle.typed_tree.specs.Expressions.{Expression, Const, RoutineValue, Load, Unary, Binary, Convert, Range, SetOf, Call, CallVirtual, CallThrough, Std, Make}
 use Rattle.typed_tree.specs.Statements as typed
 use Rattle.typed_tree.specs.Statements.{Written, Assign, CopyAll, Run, If, While, Repeat, Block, Case, For, With, WriteItems, ReadItems, Halt, Exit, Unmake, Statements, NoStatements, Then}
-use Rattle.literal_code.specs.Statement.{Statement, write, halt}
-use Rattle.meaning.specs.Outcomes.{State, Outcome, Done, Over, Does, and_then}
-use Rattle.meaning.specs.Standard.{text_of, field_text}
-use Rattle.meaning.specs.Activations.{Activation}
-use Rattle.meaning.specs.Calls.{Flow, Next, Left, Runs}
-use Rattle.meaning.specs.Expressions.{constant_value}
-use Rattle.meaning.specs.Statements.{then_next, written, line_written, statement, statements}
+use Rattle.literal_programs.specs.literal_code.Statement.{Statement, write, halt}
+use Rattle.tp_meaning.specs.Outcomes.{State, Outcome, Done, Over, Does, and_then}
+use Rattle.tp_meaning.specs.Standard.{text_of, field_text}
+use Rattle.tp_meaning.specs.Activations.{Activation}
+use Rattle.tp_meaning.specs.Calls.{Flow, Next, Left, Runs}
+use Rattle.tp_meaning.specs.Expressions.{constant_value}
+use Rattle.tp_meaning.specs.Statements.{then_next, written, line_written, statement, statements}
 use Rattle.literal_programs.specs.Literals.{text_in, item_text, joined, text_said, items_said, line_said, end_code, halt_said, said, all_said}
 
 -- the state behind these bytes

@@ -10,7 +10,7 @@ use Rattle.typed_tree.specs.declared.units.Program.{Program}
 use Rattle.typed_tree.specs.Statements as typed
 use Rattle.typed_tree.specs.Statements.{Written, Assign, CopyAll, Run, If, While, Repeat, Block, Case, For, With, WriteItems, ReadItems, Halt, Exit, Unmake, Statements, NoStatements, Then, view_stmt}
 use Rattle.typed_tree.specs.Frames.{frame_of, even}
-use Rattle.literal_code.specs.Statement.{Statement, text_size, size_of}
+use Rattle.literal_programs.specs.literal_code.Statement.{Statement, text_size, size_of}
 use Rattle.literal_programs.specs.Literals.{item_text, joined, text_said, items_said, line_said, end_code, halt_said, said, all_said, IsSmall, IsMain, Says}
 use Rattle.literal_programs.specs.Reading.{is_small, with_text, with_items, with_line, with_end, with_statement, with_statements, unit_alone, is_plain, has_room, if_main, main_part, said_in, said_by}
 use Rattle.literal_programs.proofs.Played.{none_some}

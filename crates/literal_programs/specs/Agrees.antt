@@ -1,10 +1,10 @@
 -- When an executable does what a typed program means.
 use Rattle.std.specs.Prelude.{ℕ, ◌≤◌, List}
 use Rattle.typed_tree.specs.declared.units.Program.{Program}
-use Rattle.meaning.specs.Meaning.{mean}
+use Rattle.tp_meaning.specs.Meaning.{mean}
 use Rattle.mz_file.specs.Format.{IsExecutable, exe_of}
 use Rattle.mz_file.specs.Load.{FitsWithBuffer}
-use Rattle.literal_code.specs.Ends.{EndsAs}
+use Rattle.literal_programs.specs.literal_code.Ends.{EndsAs}
 
 -- The bytes are an executable that fits below segment A000h; and with any input and any buffer for overlays that also fits
 -- there, its run comes to the end that the program means on this input, within whatever number of turns: with the same code,

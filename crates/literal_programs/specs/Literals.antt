@@ -1,6 +1,6 @@
 -- Which typed programs are programs of literals, and what they say.
 use Rattle.std.specs.Prelude.{◌≡◌, ℕ, ◌+◌, ◌≤◌, ◌&&◌, nat_lt, Bool, true, false, if◌then◌else◌, pos, negsuc, List, [], ◌∷◌, ◌++◌, length, slice_get, Option, Some, None, option_and_then}
-use Rattle.integers.specs.Words.{w8, word_of}
+use Rattle.common_values.specs.integers.Words.{w8, word_of}
 use Rattle.type_layout.specs.declared.definitions.Host.{Host}
 use Rattle.type_layout.specs.declared.definitions.Host.TheVariants as host
 use Rattle.type_layout.specs.declared.definitions.TypeId.{TypeId}
@@ -15,7 +15,7 @@ use Rattle.typed_tree.specs.Expressions.{Expression, Const}
 use Rattle.typed_tree.specs.Statements as typed
 use Rattle.typed_tree.specs.Statements.{Written, Block, WriteItems, Halt, Statements, NoStatements, Then, view_stmt}
 use Rattle.typed_tree.specs.Frames.{even, is_string, frame_of}
-use Rattle.literal_code.specs.Statement.{Statement, write, halt, line_end, size_of}
+use Rattle.literal_programs.specs.literal_code.Statement.{Statement, write, halt, line_end, size_of}
 
 -- ---- texts
 

@@ -1,10 +1,10 @@
 -- The memory that a program has by its sources.
 use Rattle.std.specs.Prelude.{◌≡◌, ◌+◌}
 use Rattle.typed_tree.specs.declared.units.Program.{Program}
-use Rattle.meaning.specs.Programs.{stack_of, heap_of}
+use Rattle.tp_meaning.specs.Programs.{stack_of, heap_of}
 use Rattle.mz_file.specs.declared.executable.Exe.{Exe}
-use Rattle.literal_code.specs.declared.image.Memory.{Memory}
-use Rattle.literal_code.specs.Image.{paragraphs}
+use Rattle.literal_programs.specs.declared.literal_code.image.Memory.{Memory}
+use Rattle.literal_programs.specs.literal_code.Image.{paragraphs}
 
 -- a program's stack and heap
 pub record IsMemoryOf (program : Program) (memory : Memory) : Type 0 where

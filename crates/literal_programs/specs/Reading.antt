@@ -7,10 +7,10 @@ use Rattle.typed_tree.specs.declared.units.Program.{Program}
 use Rattle.typed_tree.specs.Statements as typed
 use Rattle.typed_tree.specs.Statements.{Written, Block, WriteItems, Halt, Statements, NoStatements, Then, view_stmt}
 use Rattle.typed_tree.specs.Frames.{even, frame_of}
-use Rattle.literal_code.specs.declared.image.Memory.{Memory}
-use Rattle.literal_code.specs.declared.program.LiteralProgram.{LiteralProgram}
-use Rattle.literal_code.specs.Statement.{Statement, write, halt, line_end, size_of}
-use Rattle.literal_code.specs.LiteralProgram.{statements_of, IsFull}
+use Rattle.literal_programs.specs.declared.literal_code.image.Memory.{Memory}
+use Rattle.literal_programs.specs.declared.literal_code.program.LiteralProgram.{LiteralProgram}
+use Rattle.literal_programs.specs.literal_code.Statement.{Statement, write, halt, line_end, size_of}
+use Rattle.literal_programs.specs.literal_code.LiteralProgram.{statements_of, IsFull}
 use Rattle.literal_programs.specs.declared.reading.Unread.{Unread}
 use Rattle.literal_programs.specs.declared.reading.Unread.TheVariants as why
 use Rattle.literal_programs.specs.Literals.{item_text, end_code}

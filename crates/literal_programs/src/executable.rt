@@ -1,19 +1,19 @@
 //! The executable of a program of literals.
 
 ghost use Rattle.std.specs.Prelude.{◌≡◌, ◌≤◌, ℕ, List, [], IfOk, IfSome, None};
-ghost use Rattle.meaning.specs.Meaning.{mean};
+ghost use Rattle.tp_meaning.specs.Meaning.{mean};
 ghost use Rattle.mz_file.specs.Format.{Denotes};
 ghost use Rattle.mz_file.specs.Spelling.{IsWritable};
 ghost use Rattle.mz_file.specs.Load.{IsLoadable, paragraphs_taken};
-ghost use Rattle.literal_code.specs.Ends.{EndsWithin};
+ghost use Rattle.literal_programs.specs.literal_code.Ends.{EndsWithin};
 ghost use Rattle.literal_programs.specs.Agrees.{Agrees};
 ghost use Rattle.literal_programs.specs.Literals.{IsLiteral};
 ghost use Rattle.literal_programs.specs.Memory.{HasMemoryOf, IsMemoryOf};
 ghost use Rattle.literal_programs.specs.Reading.{Gives, said_by};
 
+use crate::literal_code::{LiteralProgram, Memory, executable};
 use crate::main_part::{main_part, memory_of, only_unit};
 use crate::reading::{Unread, add_statement};
-use literal_code::{LiteralProgram, Memory, executable};
 use mz_file::Exe;
 use std::alloc::{AllocError, Global};
 use typed_tree::Program;

@@ -2,8 +2,8 @@
 
 ghost use Rattle.std.specs.Prelude.{◌≡◌, ℕ, List};
 ghost use Rattle.typed_tree.specs.declared.units.Program.{Program};
-ghost use Rattle.literal_code.specs.Statement.{Statement, shown};
-ghost use Rattle.meaning.specs.Meaning.{mean};
+ghost use Rattle.literal_programs.specs.literal_code.Statement.{Statement, shown};
+ghost use Rattle.tp_meaning.specs.Meaning.{mean};
 ghost use Rattle.literal_programs.specs.Literals.{Says};
 
 /// A program of literals means what its statements show, on every input and within any number of turns.

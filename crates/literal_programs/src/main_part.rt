@@ -2,10 +2,10 @@
 
 ghost use Rattle.std.specs.Prelude.{◌≡◌, ◌<◌, ◌≤◌, length, slice_get, Some, IfSome};
 ghost use Rattle.std.specs.Option.{option_map};
-ghost use Rattle.meaning.specs.Programs.{heap_by, main_unit, stack_by};
+ghost use Rattle.tp_meaning.specs.Programs.{heap_by, main_unit, stack_by};
 ghost use Rattle.literal_programs.specs.Reading.{has_room, is_plain, main_part, only_unit};
 
-use literal_code::Memory;
+use crate::literal_code::Memory;
 use typed_tree::{Program, Routine, Unit, frame_of};
 
 /// The bytes that are left of the stack behind the main part's frame.

@@ -4,13 +4,13 @@ ghost use Rattle.std.specs.Prelude.{◌≡◌, ◌+◌, ◌≤◌, ◌<◌, ◌�
 ghost use Rattle.std.specs.Option.{option_map};
 ghost use Rattle.typed_tree.specs.Expressions.{view_boxed, view_expr};
 ghost use Rattle.typed_tree.specs.Statements.{view_stmt, view_stmts, view_written};
-ghost use Rattle.literal_code.specs.LiteralProgram.{statements_of, IsFull};
-ghost use Rattle.literal_code.specs.Statement.{halt, write};
+ghost use Rattle.literal_programs.specs.literal_code.LiteralProgram.{statements_of, IsFull};
+ghost use Rattle.literal_programs.specs.literal_code.Statement.{halt, write};
 ghost use Rattle.literal_programs.specs.Literals.{item_text, text_in};
 ghost use Rattle.literal_programs.specs.Reading.{Adds, with_end, with_items, with_line, with_one, with_statement, with_statements, with_text};
 
 use crate::items::{constant, end_code, is_char, is_string};
-use literal_code::LiteralProgram;
+use crate::literal_code::LiteralProgram;
 use std::alloc::AllocError;
 use type_layout::{TypeId, Types};
 use typed_tree::{Stmt, Value, WriteItem};

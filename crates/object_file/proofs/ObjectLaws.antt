@@ -2,16 +2,16 @@
 use Rattle.std.proofs.Common.{◌≡◌, ℕ, zero, suc, ◌+◌, List, [], ◌∷◌, ◌++◌, length, Result, Ok, Err, refl, arith, Bor}
 use Rattle.std.specs.Prelude.{IsTrue, IfOk, nat_lt, nat_le}
 use Rattle.std.proofs.lemmas.Bool.Decides.{nat_tests}
-use Rattle.object_unit.specs.declared.object.RefKind.{RefKind}
-use Rattle.object_unit.specs.declared.object.RefKind.TheVariants.{FarRoutine, NearRoutine, DataOffset, DataSegment, Vmt, Runtime}
-use Rattle.object_unit.specs.declared.object.ObjectUnit.{ObjectUnit}
-use Rattle.object_unit.specs.Widths.{width_of}
-use Rattle.file_parts.specs.declared.error.PartError.{PartError}
-use Rattle.file_parts.specs.Spelling.{list_text, IsLong}
-use Rattle.file_parts.specs.Parts.{any, Gives}
-use Rattle.file_parts.proofs.Laws.{IsBytes, Meets, MadeOf, fits_as, ruled_meets, followed_meets, then_meets, made_meets, record_meets, spelled_once}
-use Rattle.file_parts.proofs.PartLaws.{byte_text, IsByte, byte_meets, long_meets, bytes_meets, list_meets}
-use Rattle.file_parts.proofs.ValueLaws.{both, and, truth_meets, name_meets}
+use Rattle.object_file.specs.declared.object_unit.object.RefKind.{RefKind}
+use Rattle.object_file.specs.declared.object_unit.object.RefKind.TheVariants.{FarRoutine, NearRoutine, DataOffset, DataSegment, Vmt, Runtime}
+use Rattle.object_file.specs.declared.object_unit.object.ObjectUnit.{ObjectUnit}
+use Rattle.object_file.specs.object_unit.Widths.{width_of}
+use Rattle.object_file.specs.declared.file_parts.error.PartError.{PartError}
+use Rattle.object_file.specs.file_parts.Spelling.{list_text, IsLong}
+use Rattle.object_file.specs.file_parts.Parts.{any, Gives}
+use Rattle.object_file.proofs.file_parts.Laws.{IsBytes, Meets, MadeOf, fits_as, ruled_meets, followed_meets, then_meets, made_meets, record_meets, spelled_once}
+use Rattle.object_file.proofs.file_parts.PartLaws.{byte_text, IsByte, byte_meets, long_meets, bytes_meets, list_meets}
+use Rattle.object_file.proofs.file_parts.ValueLaws.{both, and, truth_meets, name_meets}
 use Rattle.object_file.specs.Text.{kind_number, ref_text, datum_text, code_text, object_text, ref_end, room_behind, IsRef, AreRefs, IsDatum, IsCode, AreData, AreCodes, IsObjectUnit, IsObjectFor}
 use Rattle.object_file.specs.Reading.{kind_of, kind_at, ref_of, ref_at, refs_at, datum_of, is_first_count, datum_at, code_of, is_code_count, code_at, data_at, codes_at, object_of, object_at}
 

@@ -1,13 +1,13 @@
 -- Reading an object unit from the front of what is left.
 use Rattle.std.specs.Prelude.{ℕ, ◌+◌, Bool, nat_lt, nat_le, ◌&&◌, ◌||◌, ◌==◌, List, length, cond}
-use Rattle.object_unit.specs.declared.object.RefKind.{RefKind}
-use Rattle.object_unit.specs.declared.object.RefKind.TheVariants.{FarRoutine, NearRoutine, DataOffset, DataSegment, Vmt, Runtime}
-use Rattle.object_unit.specs.declared.object.Ref.{Ref}
-use Rattle.object_unit.specs.declared.object.Datum.{Datum}
-use Rattle.object_unit.specs.declared.object.Code8086.{Code8086}
-use Rattle.object_unit.specs.declared.object.ObjectUnit.{ObjectUnit}
-use Rattle.object_unit.specs.Widths.{width_of}
-use Rattle.file_parts.specs.Parts.{Reader, ◌▷◌, ruled, followed, made, any, byte_at, long_at, truth_at, bytes_where, list_where, name_at}
+use Rattle.object_file.specs.declared.object_unit.object.RefKind.{RefKind}
+use Rattle.object_file.specs.declared.object_unit.object.RefKind.TheVariants.{FarRoutine, NearRoutine, DataOffset, DataSegment, Vmt, Runtime}
+use Rattle.object_file.specs.declared.object_unit.object.Ref.{Ref}
+use Rattle.object_file.specs.declared.object_unit.object.Datum.{Datum}
+use Rattle.object_file.specs.declared.object_unit.object.Code8086.{Code8086}
+use Rattle.object_file.specs.declared.object_unit.object.ObjectUnit.{ObjectUnit}
+use Rattle.object_file.specs.object_unit.Widths.{width_of}
+use Rattle.object_file.specs.file_parts.Parts.{Reader, ◌▷◌, ruled, followed, made, any, byte_at, long_at, truth_at, bytes_where, list_where, name_at}
 use Rattle.object_file.specs.Text.{ref_end, room_behind}
 
 -- the kind with a number below 6

@@ -1,14 +1,14 @@
 -- The bytes of an object unit, and which object units have them.
 use Rattle.std.specs.Prelude.{ℕ, ◌+◌, ◌-◌, ◌≤◌, IsTrue, ◌||◌, ◌==◌, List, ◌∷◌, ◌++◌, length}
 use Rattle.type_layout.specs.Words.{IsName}
-use Rattle.object_unit.specs.declared.object.RefKind.{RefKind}
-use Rattle.object_unit.specs.declared.object.RefKind.TheVariants.{FarRoutine, NearRoutine, DataOffset, DataSegment, Vmt, Runtime}
-use Rattle.object_unit.specs.declared.object.Ref.{Ref}
-use Rattle.object_unit.specs.declared.object.Datum.{Datum}
-use Rattle.object_unit.specs.declared.object.Code8086.{Code8086}
-use Rattle.object_unit.specs.declared.object.ObjectUnit.{ObjectUnit}
-use Rattle.object_unit.specs.Widths.{width_of}
-use Rattle.file_parts.specs.Spelling.{long_text, truth_text, name_text, bytes_text, list_text, FitInTurn, FitEach, IsLong}
+use Rattle.object_file.specs.declared.object_unit.object.RefKind.{RefKind}
+use Rattle.object_file.specs.declared.object_unit.object.RefKind.TheVariants.{FarRoutine, NearRoutine, DataOffset, DataSegment, Vmt, Runtime}
+use Rattle.object_file.specs.declared.object_unit.object.Ref.{Ref}
+use Rattle.object_file.specs.declared.object_unit.object.Datum.{Datum}
+use Rattle.object_file.specs.declared.object_unit.object.Code8086.{Code8086}
+use Rattle.object_file.specs.declared.object_unit.object.ObjectUnit.{ObjectUnit}
+use Rattle.object_file.specs.object_unit.Widths.{width_of}
+use Rattle.object_file.specs.file_parts.Spelling.{long_text, truth_text, name_text, bytes_text, list_text, FitInTurn, FitEach, IsLong}
 
 -- the kinds by their numbers
 abbrev pub kind_number : RefKind → ℕ

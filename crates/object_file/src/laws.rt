@@ -1,7 +1,7 @@
 //! What holds of every object unit in a file.
 
 ghost use Rattle.std.specs.Prelude.{◌≡◌, ◌++◌, ℕ, List};
-ghost use Rattle.object_unit.specs.declared.object.ObjectUnit.{ObjectUnit};
+ghost use Rattle.object_file.specs.declared.object_unit.object.ObjectUnit.{ObjectUnit};
 ghost use Rattle.object_file.specs.Text.{object_text, IsObjectUnit};
 
 /// Object units have one spelling, and none begins another.

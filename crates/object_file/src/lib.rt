@@ -1,7 +1,9 @@
 //! Object units as bytes of a unit file: read from the front of what is left, and written.
 #![tactic(auto)]
 
+pub mod file_parts;
 mod laws;
+pub mod object_unit;
 mod reading;
 mod writing;
 

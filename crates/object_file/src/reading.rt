@@ -1,14 +1,14 @@
 //! Reading an object unit.
 
 ghost use Rattle.std.specs.Prelude.{◌≡◌, ◌+◌, ◌<◌, ◌++◌, nat_lt, nat_le, ℕ, List, Ok, IfOk};
-ghost use Rattle.object_unit.specs.Widths.{width_of};
-ghost use Rattle.object_unit.specs.declared.object.ObjectUnit.{ObjectUnit};
-ghost use Rattle.file_parts.specs.Parts.{Gives, any, ruled, in_turn, each, byte_at, long_at, bytes_where};
+ghost use Rattle.object_file.specs.object_unit.Widths.{width_of};
+ghost use Rattle.object_file.specs.declared.object_unit.object.ObjectUnit.{ObjectUnit};
+ghost use Rattle.object_file.specs.file_parts.Parts.{Gives, any, ruled, in_turn, each, byte_at, long_at, bytes_where};
 ghost use Rattle.object_file.specs.Text.{ref_end, room_behind, object_text, IsObjectFor};
 ghost use Rattle.object_file.specs.Reading.{kind_of, kind_at, ref_at, refs_at, is_first_count, datum_at, is_code_count, code_at, data_at, codes_at, object_at};
 
-use file_parts::{PartError, byte_of, damaged, long_of, name_of, some_bytes, truth_of};
-use object_unit::{Code8086, Codes, Datum, ObjectData, ObjectUnit, Ref, RefKind, Refs};
+use crate::file_parts::{PartError, byte_of, damaged, long_of, name_of, some_bytes, truth_of};
+use crate::object_unit::{Code8086, Codes, Datum, ObjectData, ObjectUnit, Ref, RefKind, Refs};
 use std::alloc::Global;
 use type_layout::Bytes;
 
@@ -133,7 +133,7 @@ fn first_count(size: u32, bytes: &[u8]) -> Result<(u32, &[u8]), PartError>
     Ok((count, rest))
 }
 
-#[tactic(auto, unfolding(file_parts::specs::Parts::bytes_where))]
+#[tactic(auto, unfolding(crate::specs::file_parts::Parts::bytes_where))]
 fn first_of(alloc: Global, size: u32, bytes: &[u8]) -> Result<(Bytes, &[u8]), PartError>
     ensures { Gives (λ x. (x.0, x.1.now)) result (bytes_where (is_first_count size) bytes.now) }
 {
@@ -162,7 +162,7 @@ fn code_count(room: usize, bytes: &[u8]) -> Result<(u32, &[u8]), PartError>
     Ok((count, rest))
 }
 
-#[tactic(auto, unfolding(file_parts::specs::Parts::bytes_where))]
+#[tactic(auto, unfolding(crate::specs::file_parts::Parts::bytes_where))]
 fn code_bytes(alloc: Global, room: usize, bytes: &[u8]) -> Result<(Bytes, &[u8]), PartError>
     ensures { Gives (λ x. (x.0, x.1.now)) result (bytes_where (is_code_count room) bytes.now) }
 {

@@ -2,11 +2,11 @@
 
 ghost use Rattle.std.specs.Prelude.{◌≡◌, ◌++◌, OnOk};
 ghost use Rattle.std.specs.List.{flat_map};
-ghost use Rattle.file_parts.specs.Spelling.{list_text};
+ghost use Rattle.object_file.specs.file_parts.Spelling.{list_text};
 ghost use Rattle.object_file.specs.Text.{kind_number, ref_text, datum_text, code_text, object_text};
 
-use file_parts::{push_bytes, push_count, push_long, push_name, push_truth};
-use object_unit::{Code8086, Datum, ObjectUnit, Ref, RefKind};
+use crate::file_parts::{push_bytes, push_count, push_long, push_name, push_truth};
+use crate::object_unit::{Code8086, Datum, ObjectUnit, Ref, RefKind};
 use std::alloc::AllocError;
 use type_layout::Bytes;
 

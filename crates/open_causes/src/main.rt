@@ -4,8 +4,8 @@
 //! stands apart from this one.
 #![tactic(auto)]
 
+use dos_runner::overlay_runner::{OpenError, Runner};
 use mz_file::ExeCause;
-use overlay_runner::{OpenError, Runner};
 use std::alloc::{AllocError, Global};
 use std::fmt::{self, Display, Formatter, Write};
 use std::io;

@@ -10,3 +10,4 @@ pub mod Service
 pub mod Stops
 pub mod Stubbing
 pub mod Traps
+pub mod overlay_run

@@ -4,6 +4,7 @@
 mod filling;
 mod laws;
 mod loading;
+pub mod overlay_run;
 mod ovr;
 mod program;
 mod serving;

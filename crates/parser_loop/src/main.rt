@@ -5,9 +5,9 @@
 mod source;
 
 use crate::source::{MAIN, ORDINARY};
-use source_tree::Tree;
 use std::alloc::{AllocError, Global};
 use std::{env, io};
+use syntax_tree::source_tree::Tree;
 use tp_lexer::{Text, tokens};
 use tp_parser::parse;
 use type_layout::{Bytes, FileName};

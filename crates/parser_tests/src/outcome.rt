@@ -1,7 +1,7 @@
 //! Texts as lexemes, and what a reader answers as a text.
 
 use expression_parser::ReadError;
-use lexeme_list::lexemes_of;
+use pascal_grammar::lexeme_list::lexemes_of;
 use pascal_grammar::{Lexeme, Position};
 use std::alloc::{AllocError, Global};
 use tp_lexer::{Text, tokens};

@@ -1,7 +1,7 @@
 use crate::outcome::{lexemes, write_error};
 use expression_parser::ReadError;
+use expression_parser::statement_parser::{read_compound, read_statement};
 use pascal_grammar::{Kind, Lexeme};
-use statement_parser::{read_compound, read_statement};
 use std::alloc::{AllocError, Global};
 use syntax_tree::{CaseElse, CompoundStatement, ElsePart, Statement};
 

@@ -1,6 +1,6 @@
 -- The laws of the grammar.
 use Rattle.std.proofs.Common.{refl}
-use Rattle.predictive_grammar.proofs.Unique.{at_most_one}
+use Rattle.ll1_grammar.proofs.Unique.{at_most_one}
 use Rattle.pascal_grammar.specs.Parts as n
 use Rattle.pascal_grammar.specs.Rules.{grammar}
 use Rattle.pascal_grammar.specs.Choices.{choose}

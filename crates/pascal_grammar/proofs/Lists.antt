@@ -5,7 +5,7 @@ use Rattle.std.proofs.Common.{refl, sym, ap, ◌∙◌, rules}
 use Rattle.std.proofs.lemmas.Bool.{eqb-true}
 use denote.Enum.Bare.{same_true}
 use Rattle.pascal_grammar.specs.contracts.kind.Kind.{the_type}
-use Rattle.predictive_grammar.proofs.Checking.{and, all_in, first_of, second_of}
+use Rattle.ll1_grammar.proofs.Checking.{and, all_in, first_of, second_of}
 use Rattle.pascal_grammar.specs.Asked.{same}
 use Rattle.pascal_grammar.specs.declared.kind.Kind.{Kind}
 use Rattle.pascal_grammar.specs.declared.kind.Kind.TheVariants as k

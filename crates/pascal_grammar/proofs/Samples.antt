@@ -15,9 +15,9 @@ use Rattle.pascal_grammar.specs.Asked as q
 use Rattle.pascal_grammar.specs.Lexemes.{Kept, kind_of, terminal_kind, kept}
 use Rattle.pascal_grammar.specs.Rules.{grammar}
 use Rattle.pascal_grammar.proofs.Tables.{Follow}
-use Rattle.predictive_grammar.specs.Grammar.{Symbol, token, Belongs}
-use Rattle.predictive_grammar.proofs.Checking.{and, first_of, second_of}
-use Rattle.predictive_grammar.proofs.Meeting.{Begun, one, Welcome, IsByKind, some_token}
+use Rattle.ll1_grammar.specs.Grammar.{Symbol, token, Belongs}
+use Rattle.ll1_grammar.proofs.Checking.{and, first_of, second_of}
+use Rattle.ll1_grammar.proofs.Meeting.{Begun, one, Welcome, IsByKind, some_token}
 
 abbrev pub Some_ : Symbol Asked Part → Type 0
 Some_ y = Begun grammar Follow (one grammar Follow y) (Belongs grammar) 0 []

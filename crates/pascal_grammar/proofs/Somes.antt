@@ -10,10 +10,10 @@ use Rattle.pascal_grammar.specs.Choices.{choose}
 use Rattle.pascal_grammar.specs.Starts.{starts, vanishes}
 use Rattle.pascal_grammar.proofs.Tables.{Follow, accepted, known, followed, predict}
 use Rattle.pascal_grammar.proofs.Samples.{Some_, has_sample, of_asked, always, allowed}
-use Rattle.predictive_grammar.proofs.Checking.{and, first_of, second_of}
-use Rattle.predictive_grammar.specs.Grammar.{Symbol, token, part, node, nil, Belongs}
-use Rattle.predictive_grammar.proofs.Meeting.{one, AllJoin, node_begun, Begun-none}
-use Rattle.predictive_grammar.proofs.Predicting.{AllBegun, RestBegun, list_begun, all_join, rest_of}
+use Rattle.ll1_grammar.proofs.Checking.{and, first_of, second_of}
+use Rattle.ll1_grammar.specs.Grammar.{Symbol, token, part, node, nil, Belongs}
+use Rattle.ll1_grammar.proofs.Meeting.{one, AllJoin, node_begun, Begun-none}
+use Rattle.ll1_grammar.proofs.Predicting.{AllBegun, RestBegun, list_begun, all_join, rest_of}
 
 abbrev Begun_ : List (Symbol Asked Part) → Type 0
 Begun_ = AllBegun grammar accepts starts vanishes accepted known Follow

@@ -12,9 +12,9 @@ use Rattle.pascal_grammar.specs.Choices.{choose}
 use Rattle.pascal_grammar.specs.Starts.{starts, vanishes}
 use Rattle.pascal_grammar.specs.Follows.{follows}
 use Rattle.pascal_grammar.proofs.Lists.{kinds, same_production, same_is, every_kind}
-use Rattle.predictive_grammar.specs.Grammar.{Tree, part, node, front, Fit}
-use Rattle.predictive_grammar.proofs.Predicting.{IsAccepted, Knows, Chooses, AllFollow, predicts}
-use Rattle.predictive_grammar.proofs.Checking.{starts_well, chosen_well, followed_well, IsComplete, knows, chooses, all_follow}
+use Rattle.ll1_grammar.specs.Grammar.{Tree, part, node, front, Fit}
+use Rattle.ll1_grammar.proofs.Predicting.{IsAccepted, Knows, Chooses, AllFollow, predicts}
+use Rattle.ll1_grammar.proofs.Checking.{starts_well, chosen_well, followed_well, IsComplete, knows, chooses, all_follow}
 
 abbrev pub Follow : Part → Option Kind → Type 0
 Follow n h = follows n h ≡ true

@@ -1,7 +1,7 @@
 -- That one lexeme ahead decides, and that lexemes spell one tree at most.
 use Rattle.std.specs.Prelude.{◌≡◌, List, Option, Some, true}
-use Rattle.predictive_grammar.specs.Grammar.{Tree, part, node, front, Fit, Has, Belongs}
-use Rattle.predictive_grammar.specs.Sources.{Spells}
+use Rattle.ll1_grammar.specs.Grammar.{Tree, part, node, front, Fit, Has, Belongs}
+use Rattle.ll1_grammar.specs.Sources.{Spells}
 use Rattle.pascal_grammar.specs.declared.kind.Kind.{Kind}
 use Rattle.pascal_grammar.specs.declared.lexeme.Lexeme.{Lexeme}
 use Rattle.pascal_grammar.specs.Parts.{Part}

@@ -1,3 +1,4 @@
+pub use Rattle.ll1_grammar.specs as ll1_grammar
 pub mod Parts
 pub mod Asked
 pub mod Operators
@@ -9,3 +10,4 @@ pub mod Starts
 pub mod Follows
 pub mod Omissions
 pub mod Laws
+pub mod lexeme_list

@@ -2,7 +2,7 @@
 use Rattle.std.specs.Prelude.{List, [], ◌∷◌}
 use Rattle.pascal_grammar.specs.declared.kind.Kind.{Kind}
 use Rattle.pascal_grammar.specs.declared.kind.Kind.TheVariants as k
-use Rattle.predictive_grammar.specs.Grammar.{Symbol, token, part, Grammar}
+use Rattle.ll1_grammar.specs.Grammar.{Symbol, token, part, Grammar}
 use Rattle.pascal_grammar.specs.declared.lexeme.Lexeme.{Lexeme}
 use Rattle.pascal_grammar.specs.Parts.{Part}
 use Rattle.pascal_grammar.specs.Parts as n

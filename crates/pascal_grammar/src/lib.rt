@@ -1,6 +1,8 @@
 //! The lexemes of Turbo Pascal, and its grammar as data.
 #![tactic(auto)]
 
+pub mod lexeme_list;
+
 ghost use Rattle.pascal_grammar.specs.Laws.{IsPredicted, IsInhabited, IsUnambiguous};
 
 mod kind;

@@ -10,3 +10,4 @@ pub mod Standing
 pub mod Start
 pub mod Example
 pub mod Whole
+pub mod machine_lines

@@ -3,5 +3,6 @@
 #![tactic(auto)]
 
 mod laws;
+pub mod machine_lines;
 
 pub use laws::{astray_law, example_law, resident_law, run_law, start_law, whole_law};

@@ -2,18 +2,18 @@
 use Rattle.std.proofs.Common.{refl, sym}
 use Rattle.flat_code.specs.Program.{FlatProgram, Choice}
 use Rattle.flat_code.specs.Legal.{StackFits}
-use Rattle.rt_short_strings.proofs.Assigning.{assigns}
-use Rattle.rt_string_joins.proofs.Joining.{joins}
-use Rattle.rt_string_joins.proofs.Inserting.{inserts}
-use Rattle.rt_string_parts.proofs.Copying.{copies}
-use Rattle.rt_string_parts.proofs.Deleting.{deletes}
-use Rattle.rt_string_parts.proofs.Letters.{makes-upper}
-use Rattle.rt_string_compare.proofs.Comparing.{compares}
-use Rattle.rt_string_search.proofs.Searching.{searches}
-use Rattle.rt_sets.proofs.Combining.{unites, takes-away, intersects}
-use Rattle.rt_set_relations.proofs.Relating.{tells-same, tells-subset}
-use Rattle.rt_set_relations.proofs.Members.{tells-member}
-use Rattle.rt_set_constructors.proofs.Including.{includes}
+use Rattle.rt_strings.proofs.short_strings.Assigning.{assigns}
+use Rattle.rt_strings.proofs.string_joins.Joining.{joins}
+use Rattle.rt_strings.proofs.string_joins.Inserting.{inserts}
+use Rattle.rt_strings.proofs.string_parts.Copying.{copies}
+use Rattle.rt_strings.proofs.string_parts.Deleting.{deletes}
+use Rattle.rt_strings.proofs.string_parts.Letters.{makes-upper}
+use Rattle.rt_strings.proofs.string_compare.Comparing.{compares}
+use Rattle.rt_strings.proofs.string_search.Searching.{searches}
+use Rattle.rt_strings.proofs.sets.Combining.{unites, takes-away, intersects}
+use Rattle.rt_strings.proofs.set_relations.Relating.{tells-same, tells-subset}
+use Rattle.rt_strings.proofs.set_relations.Members.{tells-member}
+use Rattle.rt_strings.proofs.set_constructors.Including.{includes}
 use Rattle.rt_strings.specs.Unit.{strings_code, HoldsStrings}
 use Rattle.rt_strings.specs.Specifications.{StringsWork, SetsWork}
 

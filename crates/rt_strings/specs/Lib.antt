@@ -1,2 +1,11 @@
 pub mod Unit
 pub mod Specifications
+pub mod numbers
+pub mod set_constructors
+pub mod set_relations
+pub mod sets
+pub mod short_strings
+pub mod string_compare
+pub mod string_joins
+pub mod string_parts
+pub mod string_search

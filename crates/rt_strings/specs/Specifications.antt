@@ -1,13 +1,13 @@
 -- What the runtime promises of its routines on strings and sets.
 use Rattle.flat_code.specs.Program.{FlatProgram, Choice}
-use Rattle.rt_short_strings.specs.Specifications.{Assigns}
-use Rattle.rt_string_joins.specs.Specifications.{Joins, Inserts}
-use Rattle.rt_string_parts.specs.Specifications.{Copies, Deletes, MakesUpper}
-use Rattle.rt_string_compare.specs.Specifications.{ComparesStrings}
-use Rattle.rt_string_search.specs.Specifications.{Searches}
-use Rattle.rt_sets.specs.Specifications.{Unites, TakesAway, Intersects}
-use Rattle.rt_set_relations.specs.Specifications.{TellsSame, TellsSubset, TellsMember}
-use Rattle.rt_set_constructors.specs.Specifications.{Includes}
+use Rattle.rt_strings.specs.short_strings.Specifications.{Assigns}
+use Rattle.rt_strings.specs.string_joins.Specifications.{Joins, Inserts}
+use Rattle.rt_strings.specs.string_parts.Specifications.{Copies, Deletes, MakesUpper}
+use Rattle.rt_strings.specs.string_compare.Specifications.{ComparesStrings}
+use Rattle.rt_strings.specs.string_search.Specifications.{Searches}
+use Rattle.rt_strings.specs.sets.Specifications.{Unites, TakesAway, Intersects}
+use Rattle.rt_strings.specs.set_relations.Specifications.{TellsSame, TellsSubset, TellsMember}
+use Rattle.rt_strings.specs.set_constructors.Specifications.{Includes}
 
 -- all on strings
 pub record StringsWork (program : FlatProgram) (choice : Choice) : Type 0 where

@@ -2,16 +2,16 @@
 use Rattle.std.specs.Prelude.{◌≡◌, List, [], ◌∷◌, ◌++◌, Some, None, false, codes}
 use Rattle.flat_code.specs.Program.{Routine, UnitCode, FlatProgram, strings_unit}
 use Rattle.flat_code.specs.Runtime.{negation_routine}
-use Rattle.rt_numbers.specs.Routines.{product_routine, less_routine, sum_routine, difference_routine, equal_routine, left_shift_routine, right_shift_routine, range_routine}
-use Rattle.rt_numbers.specs.Division.{quotient_routine, remainder_routine}
-use Rattle.rt_short_strings.specs.Routines.{assign_routine}
-use Rattle.rt_string_joins.specs.Routines.{concat_routine, insert_routine}
-use Rattle.rt_string_parts.specs.Routines.{copy_routine, delete_routine, upper_routine}
-use Rattle.rt_string_compare.specs.Routines.{compare_routine}
-use Rattle.rt_string_search.specs.Routines.{position_routine}
-use Rattle.rt_sets.specs.Routines.{combine_routine, union_byte, difference_byte, intersection_byte}
-use Rattle.rt_set_relations.specs.Routines.{relation_routine, same_test, subset_test, member_routine}
-use Rattle.rt_set_constructors.specs.Routines.{include_routine}
+use Rattle.rt_strings.specs.numbers.Routines.{product_routine, less_routine, sum_routine, difference_routine, equal_routine, left_shift_routine, right_shift_routine, range_routine}
+use Rattle.rt_strings.specs.numbers.Division.{quotient_routine, remainder_routine}
+use Rattle.rt_strings.specs.short_strings.Routines.{assign_routine}
+use Rattle.rt_strings.specs.string_joins.Routines.{concat_routine, insert_routine}
+use Rattle.rt_strings.specs.string_parts.Routines.{copy_routine, delete_routine, upper_routine}
+use Rattle.rt_strings.specs.string_compare.Routines.{compare_routine}
+use Rattle.rt_strings.specs.string_search.Routines.{position_routine}
+use Rattle.rt_strings.specs.sets.Routines.{combine_routine, union_byte, difference_byte, intersection_byte}
+use Rattle.rt_strings.specs.set_relations.Routines.{relation_routine, same_test, subset_test, member_routine}
+use Rattle.rt_strings.specs.set_constructors.Routines.{include_routine}
 
 -- in the order of their numbers
 abbrev pub number_codes : List Routine

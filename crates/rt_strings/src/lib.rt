@@ -1,31 +1,41 @@
 //! The unit of the runtime's routines on numbers, strings and sets, as flat code.
 #![tactic(auto)]
 
+pub mod numbers;
+pub mod set_constructors;
+pub mod set_relations;
+pub mod sets;
+pub mod short_strings;
+pub mod string_compare;
+pub mod string_joins;
+pub mod string_parts;
+pub mod string_search;
+
 ghost use Rattle.std.specs.Prelude.{◌≡◌, ◌≤◌, IfOk};
 ghost use Rattle.flat_code.specs.Program.{FlatProgram, Choice};
 ghost use Rattle.flat_code.specs.Legal.{StackFits};
 ghost use Rattle.flat_code.specs.Runtime.{IsRuntime};
 ghost use Rattle.flat_code.specs.Plain.{view_unit};
 ghost use Rattle.flat_code.specs.Weights.{unit_weight};
-ghost use Rattle.leaf_routines.specs.Leaves.{AreLeaves};
-ghost use Rattle.rt_numbers.specs.Specifications.{NumbersWork};
+ghost use Rattle.flat_code.specs.leaf_routines.Leaves.{AreLeaves};
+ghost use Rattle.rt_strings.specs.numbers.Specifications.{NumbersWork};
 ghost use Rattle.rt_strings.specs.Unit.{strings_code, HoldsStrings};
 ghost use Rattle.rt_strings.specs.Specifications.{StringsWork, SetsWork};
 
-use flat_builders::name;
-use flat_code::FlatUnit;
-use rt_numbers::{
+use crate::numbers::{
     difference, equal, left_shift, less, negation, product, quotient, range, remainder,
     right_shift, sum,
 };
-use rt_set_constructors::include;
-use rt_set_relations::{member, same, subset};
-use rt_sets::{difference as set_difference, intersection, union};
-use rt_short_strings::assign;
-use rt_string_compare::compare;
-use rt_string_joins::{concat, insert};
-use rt_string_parts::{copy, delete, upper};
-use rt_string_search::position;
+use crate::set_constructors::include;
+use crate::set_relations::{member, same, subset};
+use crate::sets::{difference as set_difference, intersection, union};
+use crate::short_strings::assign;
+use crate::string_compare::compare;
+use crate::string_joins::{concat, insert};
+use crate::string_parts::{copy, delete, upper};
+use crate::string_search::position;
+use flat_code::FlatUnit;
+use flat_code::flat_builders::name;
 use std::alloc::{AllocError, Global};
 use type_layout::{Names, Sequence};
 

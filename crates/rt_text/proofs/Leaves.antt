@@ -3,7 +3,7 @@ use Rattle.std.proofs.Common.{◌≡◌, ◌≤◌, refl, subst, sym}
 use Rattle.std.proofs.lemmas.Bool.{leb-true}
 use Rattle.flat_code.specs.Program.{UnitCode}
 use Rattle.flat_code.specs.Weights.{unit_weight}
-use Rattle.leaf_routines.specs.Leaves.{AreLeaves}
+use Rattle.flat_code.specs.leaf_routines.Leaves.{AreLeaves}
 use Rattle.rt_text.specs.Unit.{text_code}
 
 pub leaves : AreLeaves 48 text_code.routines

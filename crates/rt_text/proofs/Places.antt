@@ -5,8 +5,8 @@ use Rattle.flat_code.specs.Memory.{address_of}
 use Rattle.flat_code.specs.Program.{FlatProgram, Choice}
 use Rattle.flat_code.specs.Meaning.{stack_top}
 use Rattle.flat_code.specs.Legal.{Mention, ToDatum, TakesData, IsLegal}
-use Rattle.strings_in_memory.specs.Strings.{IsOffStack, place}
-use Rattle.text_memory.specs.Data.{item_key, ahead_key, item_datum, ahead_datum, HasText}
+use Rattle.runtime_proofs.specs.strings_in_memory.Strings.{IsOffStack, place}
+use Rattle.runtime_proofs.specs.text_memory.Data.{item_key, ahead_key, item_datum, ahead_datum, HasText}
 use Rattle.rt_text.specs.Unit.{text_code, HoldsTextUnit}
 
 module _ (program : FlatProgram) (choice : Choice) (R : Mention → Type 0) (legal : IsLegal program choice R) (holds : HoldsTextUnit program) where

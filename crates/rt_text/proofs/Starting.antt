@@ -8,10 +8,10 @@ use Rattle.flat_code.specs.Memory.{Cells, address_of}
 use Rattle.flat_code.specs.Program.{Key, FlatProgram, Choice, text_unit, heap_segment_key, heap_bytes_key, ovr_name_key}
 use Rattle.flat_code.specs.Meaning.{filled, start_cells}
 use Rattle.flat_code.specs.Legal.{Mention, IsLegal}
-use Rattle.strings_in_memory.specs.Strings.{HasBytes}
-use Rattle.text_memory.specs.Data.{item_key, ahead_key, item_datum, ahead_datum, blank_bytes, item_place, none, HasText}
-use Rattle.start_data.specs.Start.{FitsRuntime, FirstsFit, IsOther}
-use Rattle.start_data.proofs.Start.{start}
+use Rattle.runtime_proofs.specs.strings_in_memory.Strings.{HasBytes}
+use Rattle.runtime_proofs.specs.text_memory.Data.{item_key, ahead_key, item_datum, ahead_datum, blank_bytes, item_place, none, HasText}
+use Rattle.runtime_proofs.specs.start_data.Start.{FitsRuntime, FirstsFit, IsOther}
+use Rattle.runtime_proofs.proofs.start_data.Start.{start}
 use Rattle.rt_text.specs.Unit.{text_code, HoldsTextUnit}
 use Rattle.rt_text.specs.Specifications.{StartsText}
 

@@ -2,17 +2,17 @@
 use Rattle.std.proofs.Common.{ℕ, refl, sym}
 use Rattle.flat_code.specs.Program.{FlatProgram, Choice}
 use Rattle.flat_code.specs.Legal.{StackFits}
-use Rattle.text_memory.specs.Data.{HasText}
-use Rattle.rt_write_text.proofs.StringWriting.{writes-string}
-use Rattle.rt_write_text.proofs.MadeWriting.{writes-char, writes-boolean}
-use Rattle.rt_write_text.proofs.LineWriting.{writes-line}
-use Rattle.rt_read_text.proofs.InputReading.{tells-eof, tells-eoln, reads-char}
-use Rattle.rt_read_text.proofs.LineReading.{reads-line}
-use Rattle.rt_write_numbers.proofs.IntegerWriting.{writes-integer}
-use Rattle.rt_read_strings.proofs.StringReading.{reads-string}
-use Rattle.rt_val.proofs.Giving.{gives-value, gives-place}
-use Rattle.rt_read_numbers.proofs.NumberReading.{reads-number}
-use Rattle.rt_str.proofs.TextMaking.{makes-text}
+use Rattle.runtime_proofs.specs.text_memory.Data.{HasText}
+use Rattle.rt_text.proofs.write_text.StringWriting.{writes-string}
+use Rattle.rt_text.proofs.write_text.MadeWriting.{writes-char, writes-boolean}
+use Rattle.rt_text.proofs.write_text.LineWriting.{writes-line}
+use Rattle.rt_text.proofs.read_text.InputReading.{tells-eof, tells-eoln, reads-char}
+use Rattle.rt_text.proofs.read_text.LineReading.{reads-line}
+use Rattle.rt_text.proofs.write_numbers.IntegerWriting.{writes-integer}
+use Rattle.rt_text.proofs.read_strings.StringReading.{reads-string}
+use Rattle.rt_text.proofs.val_routines.Giving.{gives-value, gives-place}
+use Rattle.rt_text.proofs.read_numbers.NumberReading.{reads-number}
+use Rattle.rt_text.proofs.str_routines.TextMaking.{makes-text}
 use Rattle.rt_text.specs.Unit.{text_code, HoldsTextUnit}
 use Rattle.rt_text.specs.Specifications.{TextWorks}
 

@@ -1,2 +1,10 @@
 pub mod Unit
 pub mod Specifications
+pub mod numeral_steps
+pub mod read_numbers
+pub mod read_strings
+pub mod read_text
+pub mod str_routines
+pub mod val_routines
+pub mod write_numbers
+pub mod write_text

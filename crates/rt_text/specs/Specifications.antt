@@ -2,14 +2,14 @@
 use Rattle.std.specs.Prelude.{ℕ, List}
 use Rattle.flat_code.specs.Program.{FlatProgram, Choice}
 use Rattle.flat_code.specs.Meaning.{start_cells}
-use Rattle.text_memory.specs.Data.{HasItem}
-use Rattle.rt_write_text.specs.Specifications.{WritesString, WritesChar, WritesBoolean, WritesLine}
-use Rattle.rt_read_text.specs.Specifications.{AreBytes, HasInput, TellsEof, TellsEoln, ReadsChar, ReadsLine}
-use Rattle.rt_write_numbers.specs.Specifications.{WritesInteger}
-use Rattle.rt_read_strings.specs.Specifications.{ReadsString}
-use Rattle.rt_val.specs.Specifications.{GivesValue, GivesPlace}
-use Rattle.rt_read_numbers.specs.Specifications.{ReadsNumber}
-use Rattle.rt_str.specs.Specifications.{MakesText}
+use Rattle.runtime_proofs.specs.text_memory.Data.{HasItem}
+use Rattle.rt_text.specs.write_text.Specifications.{WritesString, WritesChar, WritesBoolean, WritesLine}
+use Rattle.rt_text.specs.read_text.Specifications.{AreBytes, HasInput, TellsEof, TellsEoln, ReadsChar, ReadsLine}
+use Rattle.rt_text.specs.write_numbers.Specifications.{WritesInteger}
+use Rattle.rt_text.specs.read_strings.Specifications.{ReadsString}
+use Rattle.rt_text.specs.val_routines.Specifications.{GivesValue, GivesPlace}
+use Rattle.rt_text.specs.read_numbers.Specifications.{ReadsNumber}
+use Rattle.rt_text.specs.str_routines.Specifications.{MakesText}
 
 pub record TextWorks (program : FlatProgram) (choice : Choice) (item ahead : ℕ) : Type 0 where
   pub write_string : WritesString program choice item

@@ -1,14 +1,14 @@
 -- The unit of the runtime's routines on text.
 use Rattle.std.specs.Prelude.{◌≡◌, false, List, [], ◌∷◌, ◌++◌, Some, None, codes}
 use Rattle.flat_code.specs.Program.{Routine, UnitCode, FlatProgram, text_unit}
-use Rattle.text_memory.specs.Data.{item_datum, ahead_datum}
-use Rattle.rt_write_text.specs.Routines.{write_string_routine, write_char_routine, write_boolean_routine, write_line_routine}
-use Rattle.rt_read_text.specs.Routines.{eof_routine, eoln_routine, read_char_routine, read_line_routine}
-use Rattle.rt_write_numbers.specs.Routines.{write_integer_routine}
-use Rattle.rt_read_strings.specs.Routines.{read_string_routine}
-use Rattle.rt_val.specs.Routines.{val_value_routine, val_place_routine}
-use Rattle.rt_read_numbers.specs.Routines.{read_number_routine}
-use Rattle.rt_str.specs.Routines.{str_routine}
+use Rattle.runtime_proofs.specs.text_memory.Data.{item_datum, ahead_datum}
+use Rattle.rt_text.specs.write_text.Routines.{write_string_routine, write_char_routine, write_boolean_routine, write_line_routine}
+use Rattle.rt_text.specs.read_text.Routines.{eof_routine, eoln_routine, read_char_routine, read_line_routine}
+use Rattle.rt_text.specs.write_numbers.Routines.{write_integer_routine}
+use Rattle.rt_text.specs.read_strings.Routines.{read_string_routine}
+use Rattle.rt_text.specs.val_routines.Routines.{val_value_routine, val_place_routine}
+use Rattle.rt_text.specs.read_numbers.Routines.{read_number_routine}
+use Rattle.rt_text.specs.str_routines.Routines.{str_routine}
 
 -- in the order of their numbers
 abbrev pub character_codes : List Routine

@@ -1,26 +1,35 @@
 //! The unit of the runtime's routines on text, as flat code.
 #![tactic(auto)]
 
+pub mod numeral_steps;
+pub mod read_numbers;
+pub mod read_strings;
+pub mod read_text;
+pub mod str_routines;
+pub mod val_routines;
+pub mod write_numbers;
+pub mod write_text;
+
 ghost use Rattle.std.specs.Prelude.{◌≡◌, ◌≤◌, IfOk, ℕ, Bool, true, IsTrue, Contains};
 ghost use Rattle.flat_code.specs.Program.{FlatProgram, Choice, text_unit};
 ghost use Rattle.flat_code.specs.Legal.{StackFits, Mention, ToDatum, IsLegal};
 ghost use Rattle.flat_code.specs.Plain.{view_unit, view_datum};
 ghost use Rattle.flat_code.specs.Weights.{unit_weight};
-ghost use Rattle.text_memory.specs.Data.{item_key, ahead_key, item_datum, ahead_datum, HasText};
-ghost use Rattle.start_data.specs.Start.{FirstsFit, FitsRuntime};
-ghost use Rattle.leaf_routines.specs.Leaves.{AreLeaves};
+ghost use Rattle.runtime_proofs.specs.text_memory.Data.{item_key, ahead_key, item_datum, ahead_datum, HasText};
+ghost use Rattle.runtime_proofs.specs.start_data.Start.{FirstsFit, FitsRuntime};
+ghost use Rattle.flat_code.specs.leaf_routines.Leaves.{AreLeaves};
 ghost use Rattle.rt_text.specs.Unit.{text_code, HoldsTextUnit};
 ghost use Rattle.rt_text.specs.Specifications.{TextWorks, StartsText};
 
-use flat_builders::name;
+use crate::read_numbers::read_number;
+use crate::read_strings::read_string;
+use crate::read_text::{eof, eoln, read_char, read_line};
+use crate::str_routines::str_integer;
+use crate::val_routines::{val_place, val_value};
+use crate::write_numbers::write_integer;
+use crate::write_text::{write_boolean, write_char, write_line, write_string};
+use flat_code::flat_builders::name;
 use flat_code::{FlatDatum, FlatUnit};
-use rt_read_numbers::read_number;
-use rt_read_strings::read_string;
-use rt_read_text::{eof, eoln, read_char, read_line};
-use rt_str::str_integer;
-use rt_val::{val_place, val_value};
-use rt_write_numbers::write_integer;
-use rt_write_text::{write_boolean, write_char, write_line, write_string};
 use std::alloc::{AllocError, Global};
 use type_layout::{Bytes, Names, Sequence};
 

@@ -5,8 +5,8 @@ use Rattle.std.specs.List.{list_all}
 use Rattle.std.specs.Option.{option_and_then}
 use Rattle.flat_code.specs.Program.{Name, Key, Routine, UnitCode, FlatProgram, routine_of}
 use Rattle.flat_code.specs.Legal.{IsWellFormed}
-use Rattle.leaf_routines.specs.Leaves.{is_leaf_routine, IsLeaf}
-use Rattle.leaf_routines.proofs.Leaves.{leaf-is}
+use Rattle.flat_code.specs.leaf_routines.Leaves.{is_leaf_routine, IsLeaf}
+use Rattle.flat_code.proofs.leaf_routines.Leaves.{leaf-is}
 use Rattle.rt_text.proofs.Leaves as text_leaves
 use Rattle.rt_strings.proofs.Leaves as strings_leaves
 use Rattle.heap_runtime.proofs.Leaves as heap_leaves

@@ -1,3 +1,4 @@
 pub mod Units
 pub mod Specifications
 pub mod Bounds
+pub mod numbers

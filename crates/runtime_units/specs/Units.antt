@@ -2,10 +2,10 @@
 use Rattle.std.specs.Prelude.{◌≡◌, ℕ, ◌<◌, ◌⊎◌, List, [], ◌∷◌, Contains}
 use Rattle.flat_code.specs.Program.{Name, UnitCode, FlatProgram, Choice, text_unit, strings_unit, overlay_unit}
 use Rattle.flat_code.specs.Legal.{Mention, ToDatum}
-use Rattle.text_memory.specs.Data.{item_key, ahead_key, HasText}
-use Rattle.start_data.specs.Start.{FirstsFit}
-use Rattle.rt_overlay.specs.Data.{HasOverlay}
-use Rattle.rt_heap.specs.HeapMemory.{HeapPlaces, ReachesHeapData}
+use Rattle.runtime_proofs.specs.text_memory.Data.{item_key, ahead_key, HasText}
+use Rattle.runtime_proofs.specs.start_data.Start.{FirstsFit}
+use Rattle.heap_runtime.specs.overlay.Data.{HasOverlay}
+use Rattle.heap_runtime.specs.heap.HeapMemory.{HeapPlaces, ReachesHeapData}
 use Rattle.rt_text.specs.Unit.{text_code, HoldsTextUnit}
 use Rattle.rt_strings.specs.Unit.{strings_code, HoldsStrings}
 use Rattle.heap_runtime.specs.Unit.{heap_code, HoldsHeapUnit}

@@ -1,6 +1,8 @@
 //! The three units of the runtime together: what they promise of each routine, and the room that they take.
 #![tactic(auto)]
 
+pub mod numbers;
+
 ghost use Rattle.std.specs.Prelude.{◌≡◌, ◌≤◌, ◌++◌, IfOk, ℕ, Bool, false, IsTrue, List, map};
 ghost use Rattle.flat_code.specs.Program.{Name, UnitCode, FlatProgram, Choice, text_unit, strings_unit, overlay_unit};
 ghost use Rattle.flat_code.specs.Legal.{Mention, StackFits, IsLegal, IsWellFormed};

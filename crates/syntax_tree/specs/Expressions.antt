@@ -5,7 +5,7 @@ use Rattle.pascal_grammar.specs.Lexemes.{Kept}
 use Rattle.pascal_grammar.specs.Lexemes as v
 use Rattle.pascal_grammar.specs.Productions.{Production}
 use Rattle.pascal_grammar.specs.Productions as p
-use Rattle.predictive_grammar.specs.Grammar.{Tree, nil, pair, leaf, node}
+use Rattle.ll1_grammar.specs.Grammar.{Tree, nil, pair, leaf, node}
 use Rattle.syntax_tree.specs.declared.identifier.Identifier.{Identifier}
 use Rattle.syntax_tree.specs.declared.expression.PlacedSign.{PlacedSign}
 use Rattle.syntax_tree.specs.declared.expression.IndexMark.{IndexMark}

@@ -3,7 +3,7 @@ use Rattle.std.specs.Prelude.{Bool, true, false, List, [], ◌∷◌}
 use Rattle.pascal_grammar.specs.Lexemes as v
 use Rattle.pascal_grammar.specs.Productions.{Production}
 use Rattle.pascal_grammar.specs.Productions as p
-use Rattle.predictive_grammar.specs.Grammar.{nil, leaf}
+use Rattle.ll1_grammar.specs.Grammar.{nil, leaf}
 use Rattle.syntax_tree.specs.Expressions.{Parsed, of, word, mark_at, name_of, of_expression, of_simple, of_argument, head_of, selectors}
 use Rattle.syntax_tree.specs.declared.expression.Expression.{Expression}
 use Rattle.syntax_tree.specs.declared.expression.SimpleExpression.{SimpleExpression}

@@ -2,8 +2,12 @@
 #![tactic(auto)]
 
 mod expression;
+pub mod expression_tree;
 mod identifier;
+pub mod source_tree;
 mod statement;
+pub mod statement_tree;
+pub mod type_tree;
 
 pub use expression::{
     Argument, Designator, Element, Expression, Factor, IndexMark, PlacedSign, SimpleExpression,

@@ -1,35 +1,35 @@
 -- Sources are judged lawfully.
 use Rattle.std.proofs.Common.{◌≡◌, ℕ, ◌≤◌, nat_le, true, false, not, List, [], ◌∷◌, ◌++◌, Option, Some, None, drop}
 use Rattle.std.proofs.lemmas.Bool.{leb-true, le-leb}
-use Rattle.type_layout.specs.declared.definitions.TypeDef.{TypeDef}
-use Rattle.type_layout.specs.declared.texts.Place.{Place}
-use Rattle.syntax_tree.specs.declared.identifier.Identifier.{Identifier}
-use Rattle.syntax_tree.specs.declared.statement.CompoundStatement.{CompoundStatement}
-use Rattle.source_directives.specs.declared.collected.Overlaid.{Overlaid}
-use Rattle.source_directives.specs.declared.collected.Directives.{Directives}
-use Rattle.source_tree.specs.declared.source.InterfaceDeclaration.{InterfaceDeclaration}
-use Rattle.source_tree.specs.declared.source.InterfaceDeclaration.TheVariants as i
-use Rattle.source_tree.specs.declared.source.Tree.{Tree}
-use Rattle.source_tree.specs.declared.source.Tree.TheVariants as t
-use Rattle.typed_tree.specs.declared.units.Item.{Item}
-use Rattle.scopes.specs.Environment.{Environment}
+use Rattle.unit_interface.specs.type_layout.declared.definitions.TypeDef.{TypeDef}
+use Rattle.unit_interface.specs.type_layout.declared.texts.Place.{Place}
+use Rattle.tp_check_stmt.specs.syntax_tree.declared.identifier.Identifier.{Identifier}
+use Rattle.tp_check_stmt.specs.syntax_tree.declared.statement.CompoundStatement.{CompoundStatement}
+use Rattle.tp_check_stmt.specs.tp_lexer.declared.source_directives.collected.Overlaid.{Overlaid}
+use Rattle.tp_check_stmt.specs.tp_lexer.declared.source_directives.collected.Directives.{Directives}
+use Rattle.tp_check_stmt.specs.syntax_tree.declared.source_tree.source.InterfaceDeclaration.{InterfaceDeclaration}
+use Rattle.tp_check_stmt.specs.syntax_tree.declared.source_tree.source.InterfaceDeclaration.TheVariants as i
+use Rattle.tp_check_stmt.specs.syntax_tree.declared.source_tree.source.Tree.{Tree}
+use Rattle.tp_check_stmt.specs.syntax_tree.declared.source_tree.source.Tree.TheVariants as t
+use Rattle.unit_interface.specs.typed_tree.declared.units.Item.{Item}
+use Rattle.unit_interface.specs.scopes.Environment.{Environment}
 use Rattle.unit_interface.specs.declared.interfaces.Interface.{Interface}
 use Rattle.unit_interface.specs.Resolve.{with_use}
 use Rattle.unit_interface.specs.Fitting.{use_fits}
-use Rattle.typing_rules.specs.declared.faults.Rule.TheVariants as rules
-use Rattle.typing_rules.specs.Faults.{broken, too_large}
-use Rattle.typing_rules.specs.Judgements.{Judgement, makes, part}
-use Rattle.typing_rules.specs.Selectors.{asking}
-use Rattle.typing_rules.specs.Laws.{Lawful}
-use Rattle.typing_rules.proofs.JudgementLaws.{lawful_makes, lawful_refuses, lawful_rule, lawful_part, lawful_parts}
-use Rattle.headers.proofs.HeaderLaws.{tells_not}
-use Rattle.routines.specs.declared.drafts.Announced.{Announced}
-use Rattle.routines.specs.Trees.{Works, view_declarations}
-use Rattle.routines.specs.Drafts.{Drafted, knowing, Done, Numbered, Stage, stage}
-use Rattle.routines.specs.Headings.{heading}
-use Rattle.routines.specs.Insides.{statements_of}
-use Rattle.routines.specs.Blocks.{all_judged}
-use Rattle.routines.proofs.RoutineLaws.{lawful_heading, lawful_statements, lawful_part_of, lawful_all}
+use Rattle.tp_check_stmt.specs.typing_rules.declared.faults.Rule.TheVariants as rules
+use Rattle.tp_check_stmt.specs.typing_rules.Faults.{broken, too_large}
+use Rattle.tp_check_stmt.specs.typing_rules.Judgements.{Judgement, makes, part}
+use Rattle.tp_check_stmt.specs.typing_rules.Selectors.{asking}
+use Rattle.tp_check_stmt.specs.typing_rules.Laws.{Lawful}
+use Rattle.tp_check_stmt.proofs.typing_rules_proofs.JudgementLaws.{lawful_makes, lawful_refuses, lawful_rule, lawful_part, lawful_parts}
+use Rattle.declaration_checker.proofs.headers.HeaderLaws.{tells_not}
+use Rattle.tp_check_decl.specs.declared.routines.drafts.Announced.{Announced}
+use Rattle.tp_check_decl.specs.routines.Trees.{Works, view_declarations}
+use Rattle.tp_check_decl.specs.routines.Drafts.{Drafted, knowing, Done, Numbered, Stage, stage}
+use Rattle.tp_check_decl.specs.routines.Headings.{heading}
+use Rattle.tp_check_decl.specs.routines.Insides.{statements_of}
+use Rattle.tp_check_decl.specs.routines.Blocks.{all_judged}
+use Rattle.tp_check_decl.proofs.routines.RoutineLaws.{lawful_heading, lawful_statements, lawful_part_of, lawful_all}
 use Rattle.tp_check_decl.specs.declared.fronts.Front.{Front}
 use Rattle.tp_check_decl.specs.Units.{Finished, finished, main_part, whole}
 use Rattle.tp_check_decl.specs.Limits.{own_bytes, within_limit}

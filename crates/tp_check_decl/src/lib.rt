@@ -8,6 +8,7 @@ mod interfaces;
 mod items;
 mod limits;
 mod programs;
+pub mod routines;
 mod shown;
 
 pub use checking::{check, unit_laws};

@@ -1,26 +1,26 @@
 //! Programs.
 
 ghost use Rattle.std.specs.Prelude.{◌≡◌, [], IfOk};
-ghost use Rattle.scopes.specs.declared.entries.BlockKind.TheVariants.{Part};
-ghost use Rattle.scopes.specs.Environment.{with_block};
-ghost use Rattle.typing_rules.specs.Judgements.{Gives};
-ghost use Rattle.routines.specs.Trees.{view_declarations};
-ghost use Rattle.routines.specs.Drafts.{drafted};
+ghost use Rattle.unit_interface.specs.scopes.declared.entries.BlockKind.TheVariants.{Part};
+ghost use Rattle.unit_interface.specs.scopes.Environment.{with_block};
+ghost use Rattle.tp_check_stmt.specs.typing_rules.Judgements.{Gives};
+ghost use Rattle.tp_check_decl.specs.routines.Trees.{view_declarations};
+ghost use Rattle.tp_check_decl.specs.routines.Drafts.{drafted};
 ghost use Rattle.tp_check_decl.specs.Units.{view_unit};
 ghost use Rattle.tp_check_decl.specs.Programs.{unit_site, is_free, named_freely, declarations_judged, program_judged};
 
 use crate::endings::ended;
 use crate::fronts::{front_judged, is_overlay, is_system};
-use declarations::Home;
-use routines::{Draft, Site, all_judged};
-use scopes::{BlockKind, Scope};
-use source_directives::Directives;
-use source_tree::Declaration;
+use crate::routines::{Draft, Site, all_judged};
+use declaration_checker::declarations::Home;
 use std::alloc::{AllocError, Global};
-use syntax_tree::{CompoundStatement, Identifier};
-use type_layout::{Name, Place};
-use typed_tree::{Globals, Items, Locals, Unit};
-use typing_rules::{Refusal, Rule, broken};
+use tp_check_stmt::syntax_tree::source_tree::Declaration;
+use tp_check_stmt::syntax_tree::{CompoundStatement, Identifier};
+use tp_check_stmt::tp_lexer::source_directives::Directives;
+use tp_check_stmt::typing_rules::{Refusal, Rule, broken};
+use unit_interface::scopes::{BlockKind, Scope};
+use unit_interface::type_layout::{Name, Place};
+use unit_interface::typed_tree::{Globals, Items, Locals, Unit};
 
 /// The unit's own block.
 pub(crate) fn unit_site() -> Site

@@ -6,8 +6,8 @@ use Rattle.syntax_tree.specs.declared.expression.Element.{Element}
 use Rattle.syntax_tree.specs.declared.expression.Designator.{Designator}
 use Rattle.syntax_tree.specs.declared.expression.Factor.TheVariants as f
 use Rattle.scopes.specs.Environment.{Environment}
-use Rattle.expression_tree.specs.Trees.{Tree, call, set, begins, view_factor, view_designator, view_arguments, view_elements}
-use Rattle.expression_tree.proofs.Views.{view_call, view_set}
+use Rattle.syntax_tree.specs.expression_tree.Trees.{Tree, call, set, begins, view_factor, view_designator, view_arguments, view_elements}
+use Rattle.syntax_tree.proofs.expression_tree.Views.{view_call, view_set}
 use Rattle.typed_tree.specs.declared.expressions.Expr.{Expr}
 use Rattle.typed_tree.specs.Expressions.{Expression, view_expr}
 use Rattle.typing_rules.specs.declared.faults.Fault.{Fault}

@@ -6,10 +6,10 @@ use Rattle.syntax_tree.specs.declared.expression.Argument.{Argument}
 use Rattle.syntax_tree.specs.declared.expression.Element.{Element}
 use Rattle.typed_tree.specs.Expressions.{Expression}
 use Rattle.scopes.specs.Environment.{Environment}
-use Rattle.expression_tree.specs.Trees.{view_argument, view_arguments, view_element, view_elements}
+use Rattle.syntax_tree.specs.expression_tree.Trees.{view_argument, view_arguments, view_element, view_elements}
 use Rattle.call_rules.specs.Lists.{behind}
 use Rattle.call_rules.proofs.ListLaws.{step}
-use Rattle.set_rules.specs.Sets.{Item}
+use Rattle.call_rules.specs.set_rules.Sets.{Item}
 use Rattle.tp_check_expr.specs.Typed.{first_param, rest_params, items_judged, item_judged, all_given, one_given}
 
 module _ (g : Environment) (before after : List Item) (all : List Element) (i : ℕ) (one : Element) (made : Item) where

@@ -13,7 +13,7 @@ use Rattle.scopes.specs.declared.entries.Entry.{Entry}
 use Rattle.scopes.specs.declared.entries.Entry.TheVariants as entry
 use Rattle.scopes.specs.Environment.{Environment, Meaning, named, member, find, kind_of}
 use Rattle.tp_lexer.specs.declared.token.Feature.{Feature}
-use Rattle.left_out_names.specs.Names.{feature_of}
+use Rattle.tp_lexer.specs.left_out_names.Names.{feature_of}
 use Rattle.typing_rules.specs.declared.faults.Rule.TheVariants as rules
 use Rattle.typing_rules.specs.Faults.{broken}
 use Rattle.typing_rules.specs.Judgements.{Judgement, makes, refuses, part, parts}
@@ -22,19 +22,19 @@ use Rattle.typing_rules.specs.Laws.{Lawful}
 use Rattle.typing_rules.proofs.JudgementLaws.{lawful_makes, lawful_refuses, lawful_either, lawful_part, lawful_parts}
 use Rattle.typing_rules.proofs.OperatorLaws.{lawful_combined, lawful_signed, lawful_negated}
 use Rattle.typing_rules.proofs.SelectorLaws.{lawful_selected, lawful_indexed, lawful_followed}
-use Rattle.expression_tree.specs.Trees.{Tree, Listed, Elements, single, span, no_elements, and_element, Operand, Operands, plain, wide, no_operands, and_operand, number, text, control, nil, set, call, signed, negated, combined, name, field, index, followed as followed_tree, of_sign}
+use Rattle.syntax_tree.specs.expression_tree.Trees.{Tree, Listed, Elements, single, span, no_elements, and_element, Operand, Operands, plain, wide, no_operands, and_operand, number, text, control, nil, set, call, signed, negated, combined, name, field, index, followed as followed_tree, of_sign}
 use Rattle.call_rules.proofs.CallLaws.{lawful_cast, lawful_called}
-use Rattle.standard_rules.specs.Sizes.{is_size, sized, variable_sized}
-use Rattle.standard_rules.specs.Standard.{is_special, standard}
-use Rattle.standard_rules.proofs.StandardLaws.{lawful_standard, lawful_sized}
-use Rattle.set_rules.proofs.SetLaws.{lawful_constructed}
-use Rattle.method_rules.specs.Methods.{Bound, bound}
-use Rattle.method_rules.proofs.MethodLaws.{lawful_bound, lawful_inherited}
-use Rattle.method_rules.proofs.MethodLaws as methods
-use Rattle.procedural_rules.specs.Through.{held_routine}
-use Rattle.procedural_rules.proofs.ProceduralLaws.{lawful_held_routine, lawful_called_through, lawful_settled, lawful_routine_value}
-use Rattle.allocation_rules.specs.Allocations.{constructor, blank}
-use Rattle.allocation_rules.proofs.AllocationLaws.{lawful_constructor, lawful_made, lawful_newly, lawful_blank}
+use Rattle.call_rules.specs.standard_rules.Sizes.{is_size, sized, variable_sized}
+use Rattle.call_rules.specs.standard_rules.Standard.{is_special, standard}
+use Rattle.call_rules.proofs.standard_rules.StandardLaws.{lawful_standard, lawful_sized}
+use Rattle.call_rules.proofs.set_rules.SetLaws.{lawful_constructed}
+use Rattle.call_rules.specs.method_rules.Methods.{Bound, bound}
+use Rattle.call_rules.proofs.method_rules.MethodLaws.{lawful_bound, lawful_inherited}
+use Rattle.call_rules.proofs.method_rules.MethodLaws as methods
+use Rattle.call_rules.specs.procedural_rules.Through.{held_routine}
+use Rattle.call_rules.proofs.procedural_rules.ProceduralLaws.{lawful_held_routine, lawful_called_through, lawful_settled, lawful_routine_value}
+use Rattle.call_rules.specs.allocation_rules.Allocations.{constructor, blank}
+use Rattle.call_rules.proofs.allocation_rules.AllocationLaws.{lawful_constructor, lawful_made, lawful_newly, lawful_blank}
 use Rattle.tp_check_expr.specs.declared.names.Purpose.{Purpose}
 use Rattle.tp_check_expr.specs.declared.names.Purpose.TheVariants as purpose
 use Rattle.tp_check_expr.specs.declared.owners.TypeName.{TypeName}

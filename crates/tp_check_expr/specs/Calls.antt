@@ -10,19 +10,19 @@ use Rattle.scopes.specs.declared.entries.Entry.{Entry}
 use Rattle.scopes.specs.declared.entries.Entry.TheVariants as entry
 use Rattle.scopes.specs.Environment.{Environment, Meaning, named, member, find, kind_of}
 use Rattle.tp_lexer.specs.declared.token.Feature.{Feature}
-use Rattle.left_out_names.specs.Names.{feature_of}
+use Rattle.tp_lexer.specs.left_out_names.Names.{feature_of}
 use Rattle.typing_rules.specs.declared.faults.Rule.TheVariants as rule
 use Rattle.typing_rules.specs.Faults.{broken, undeclared}
 use Rattle.typing_rules.specs.Judgements.{Judgement, makes, refuses, either, part}
 use Rattle.typing_rules.specs.Selectors.{selected}
 use Rattle.call_rules.specs.Casts.{cast}
 use Rattle.call_rules.specs.Given.{called}
-use Rattle.standard_rules.specs.Standard.{is_special, standard}
-use Rattle.method_rules.specs.Methods.{Bound, view_bound, method_in, bound}
-use Rattle.method_rules.specs.Calls.{called_on}
-use Rattle.allocation_rules.specs.Allocations.{Maker, view_maker, constructor, made}
-use Rattle.expression_tree.specs.Trees.{Tree, name}
-use Rattle.procedural_rules.specs.Through.{Held, view_held, held_routine, called_through}
+use Rattle.call_rules.specs.standard_rules.Standard.{is_special, standard}
+use Rattle.call_rules.specs.method_rules.Methods.{Bound, view_bound, method_in, bound}
+use Rattle.call_rules.specs.method_rules.Calls.{called_on}
+use Rattle.call_rules.specs.allocation_rules.Allocations.{Maker, view_maker, constructor, made}
+use Rattle.syntax_tree.specs.expression_tree.Trees.{Tree, name}
+use Rattle.call_rules.specs.procedural_rules.Through.{Held, view_held, held_routine, called_through}
 use Rattle.tp_check_expr.specs.declared.names.Purpose.{Purpose}
 use Rattle.tp_check_expr.specs.declared.names.Purpose.TheVariants as purpose
 use Rattle.tp_check_expr.specs.declared.calls.CallTarget.{CallTarget}

@@ -11,7 +11,7 @@ use Rattle.typed_tree.specs.declared.expressions.Value.{Value}
 use Rattle.typed_tree.specs.declared.expressions.Value.TheVariants as value
 use Rattle.typed_tree.specs.declared.expressions.Variable.{Variable}
 use Rattle.typed_tree.specs.Expressions.{Expression, Const, Load, Var}
-use Rattle.type_fits.specs.Fits.{definition}
+use Rattle.typed_tree.specs.type_fits.Fits.{definition}
 use Rattle.scopes.specs.declared.entries.Entry.{Entry}
 use Rattle.scopes.specs.declared.entries.Entry.TheVariants as entry
 use Rattle.scopes.specs.declared.entries.BlockKind.{BlockKind}
@@ -25,9 +25,9 @@ use Rattle.typing_rules.specs.Judgements.{Judgement, makes, refuses, either}
 use Rattle.typing_rules.specs.Wanted.{constant}
 use Rattle.typing_rules.specs.Assignments.{is_procedural}
 use Rattle.call_rules.specs.Given.{called}
-use Rattle.standard_rules.specs.Standard.{is_special, standard}
-use Rattle.procedural_rules.specs.Through.{settled}
-use Rattle.procedural_rules.specs.Values.{routine_value}
+use Rattle.call_rules.specs.standard_rules.Standard.{is_special, standard}
+use Rattle.call_rules.specs.procedural_rules.Through.{settled}
+use Rattle.call_rules.specs.procedural_rules.Values.{routine_value}
 use Rattle.tp_check_expr.specs.declared.names.Purpose.{Purpose}
 use Rattle.tp_check_expr.specs.declared.names.Purpose.TheVariants as purpose
 

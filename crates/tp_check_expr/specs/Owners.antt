@@ -10,11 +10,11 @@ use Rattle.scopes.specs.declared.entries.BlockKind.{BlockKind}
 use Rattle.scopes.specs.declared.entries.BlockKind.TheVariants as block
 use Rattle.scopes.specs.Members.{narrow}
 use Rattle.scopes.specs.Environment.{Environment, Meaning, named, find, block_count, kind_of, found_in}
-use Rattle.expression_tree.specs.Trees.{Tree, name, designator_in}
+use Rattle.syntax_tree.specs.expression_tree.Trees.{Tree, name, designator_in}
 use Rattle.typing_rules.specs.declared.faults.Rule.TheVariants as rule
 use Rattle.typing_rules.specs.Faults.{broken}
 use Rattle.typing_rules.specs.Judgements.{Judgement, refuses}
-use Rattle.method_rules.specs.Methods.{Bound, inherited}
+use Rattle.call_rules.specs.method_rules.Methods.{Bound, inherited}
 use Rattle.tp_check_expr.specs.declared.owners.Instance.{Instance as HeldInstance}
 use Rattle.tp_check_expr.specs.declared.owners.TypeName.{TypeName}
 use Rattle.tp_check_expr.specs.Names.{variable}

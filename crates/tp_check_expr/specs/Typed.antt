@@ -17,11 +17,11 @@ use Rattle.typing_rules.specs.Sorts.{char, string, number_type}
 use Rattle.typing_rules.specs.Wanted as wanted
 use Rattle.typing_rules.specs.Operators as operator
 use Rattle.typing_rules.specs.Selectors as selector
-use Rattle.set_rules.specs.Sets as sets
-use Rattle.set_rules.specs.Sets.{Item, constructed}
-use Rattle.standard_rules.specs.Sizes.{is_size, sized, variable_sized}
-use Rattle.allocation_rules.specs.Allocations.{blank, newly_made}
-use Rattle.expression_tree.specs.Trees.{Tree, Listed, Elements, single, span, no_elements, and_element, Operand, Operands, plain, wide, no_operands, and_operand, number, text, control, nil, set, call, signed, negated, combined, name, field, index, followed, of_sign}
+use Rattle.call_rules.specs.set_rules.Sets as sets
+use Rattle.call_rules.specs.set_rules.Sets.{Item, constructed}
+use Rattle.call_rules.specs.standard_rules.Sizes.{is_size, sized, variable_sized}
+use Rattle.call_rules.specs.allocation_rules.Allocations.{blank, newly_made}
+use Rattle.syntax_tree.specs.expression_tree.Trees.{Tree, Listed, Elements, single, span, no_elements, and_element, Operand, Operands, plain, wide, no_operands, and_operand, number, text, control, nil, set, call, signed, negated, combined, name, field, index, followed, of_sign}
 use Rattle.tp_check_expr.specs.declared.names.Purpose.{Purpose}
 use Rattle.tp_check_expr.specs.declared.names.Purpose.TheVariants as purpose
 use Rattle.tp_check_expr.specs.declared.owners.TypeName.{TypeName}

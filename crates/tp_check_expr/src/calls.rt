@@ -3,22 +3,22 @@
 ghost use Rattle.std.specs.Prelude.{◌≡◌, map, option_map};
 ghost use Rattle.typed_tree.specs.Expressions.{view_expr};
 ghost use Rattle.typing_rules.specs.Judgements.{Gives};
-ghost use Rattle.expression_tree.specs.Trees.{view_designator};
+ghost use Rattle.syntax_tree.specs.expression_tree.Trees.{view_designator};
 ghost use Rattle.tp_check_expr.specs.Calls.{view_callable, entered_by, member_callable, callable_entry, callable_member, callable_name, params_of_entry, params_of, special_of, target_called, constructor_at, called_with};
 
 use crate::members::is_method_of;
 use crate::names::variable;
 use crate::owners::owner_in;
-use allocation_rules::{BoundConstructor, constructor, made};
+use call_rules::allocation_rules::{BoundConstructor, constructor, made};
+use call_rules::method_rules::{BoundMethod, bound, called_on};
+use call_rules::procedural_rules::{HeldRoutine, called_through, held_routine};
+use call_rules::standard_rules::{is_special, standard};
 use call_rules::{called, cast};
-use left_out_names::feature_of;
-use method_rules::{BoundMethod, bound, called_on};
 use pascal_grammar::Position;
-use procedural_rules::{HeldRoutine, called_through, held_routine};
 use scopes::{Entry, Found, Scope};
-use standard_rules::{is_special, standard};
 use std::alloc::Global;
 use syntax_tree::Designator;
+use tp_lexer::left_out_names::feature_of;
 use type_layout::{Name, Param, Place, TypeId, Types};
 use typed_tree::{Expr, PlaceExpr};
 use typing_rules::{Refusal, Rule, broken, loaded, selected, undeclared};

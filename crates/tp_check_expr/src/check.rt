@@ -4,7 +4,7 @@ ghost use Rattle.std.specs.Prelude.{◌≡◌, IfOk, IfErr};
 ghost use Rattle.typed_tree.specs.Expressions.{Expression as TypedExpression, view_expr};
 ghost use Rattle.typing_rules.specs.Faults.{Tells, answer_of, IsAnswered};
 ghost use Rattle.typing_rules.specs.Judgements.{Gives};
-ghost use Rattle.expression_tree.specs.Trees.{view_expression};
+ghost use Rattle.syntax_tree.specs.expression_tree.Trees.{view_expression};
 ghost use Rattle.tp_check_expr.specs.Typed.{judged, IsTypedAs, FailsAt};
 ghost use Rattle.tp_check_expr.specs.Laws.{AreExact};
 

@@ -3,8 +3,8 @@
 ghost use Rattle.std.specs.Prelude.{◌≡◌, [], map, option_copied};
 ghost use Rattle.typed_tree.specs.Expressions.{view_expr};
 ghost use Rattle.typing_rules.specs.Judgements.{Gives};
-ghost use Rattle.expression_tree.specs.Trees.{set, begins, view_expression, view_simple, view_term, view_factor, view_designator, view_argument, view_arguments, view_element, view_elements};
-ghost use Rattle.set_rules.specs.Sets.{view_item};
+ghost use Rattle.syntax_tree.specs.expression_tree.Trees.{set, begins, view_expression, view_simple, view_term, view_factor, view_designator, view_argument, view_arguments, view_element, view_elements};
+ghost use Rattle.call_rules.specs.set_rules.Sets.{view_item};
 ghost use Rattle.tp_check_expr.specs.Calls.{view_callable, target_for};
 ghost use Rattle.tp_check_expr.specs.Typed.{first_param, rest_params, judged_as, judged, callable, items_judged, item_judged, all_given, one_given, misplaced, miscalled, special_given, called_for, size_of_one, made_by};
 
@@ -17,13 +17,13 @@ use crate::members::{chosen, method_wanted, named};
 use crate::names::{Purpose, as_wanted, purpose_of};
 use crate::operations::{combined, element, marked};
 use crate::owners::{inherited_from, type_at, type_in};
-use allocation_rules::{blank, newly_made};
-use expression_tree::{begins, of_adder, of_multiplier, of_relator};
+use call_rules::allocation_rules::{blank, newly_made};
+use call_rules::set_rules::constructed;
+use call_rules::standard_rules::{is_size, sized, variable_sized};
 use pascal_grammar::Position;
 use scopes::Scope;
-use set_rules::constructed;
-use standard_rules::{is_size, sized, variable_sized};
 use std::alloc::Global;
+use syntax_tree::expression_tree::{begins, of_adder, of_multiplier, of_relator};
 use syntax_tree::{Argument, Designator, Element, Expression, Factor, SimpleExpression, Term};
 use type_layout::{Param, Place, TypeId};
 use typed_tree::{Expr, SetElement};

@@ -3,17 +3,17 @@
 ghost use Rattle.std.specs.Prelude.{◌≡◌, option_map};
 ghost use Rattle.typed_tree.specs.Expressions.{view_expr};
 ghost use Rattle.typing_rules.specs.Judgements.{Gives};
-ghost use Rattle.method_rules.specs.Methods.{view_bound};
+ghost use Rattle.call_rules.specs.method_rules.Methods.{view_bound};
 ghost use Rattle.tp_check_expr.specs.Calls.{is_method_of, method_wanted, chosen, opened, constructor_named, name_judged};
 
 use crate::names::{Purpose, as_wanted, entered};
 use crate::owners::owner_in;
-use allocation_rules::{constructor, made};
-use left_out_names::feature_of;
-use method_rules::{BoundMethod, bound, called_on, method_in};
+use call_rules::allocation_rules::{constructor, made};
+use call_rules::method_rules::{BoundMethod, bound, called_on, method_in};
 use pascal_grammar::Position;
 use scopes::{Found, Scope};
 use std::alloc::Global;
+use tp_lexer::left_out_names::feature_of;
 use type_layout::{Name, Place, TypeId, Types};
 use typed_tree::Expr;
 use typing_rules::{Refusal, Rule, broken, selected, undeclared};

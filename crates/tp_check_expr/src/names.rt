@@ -6,10 +6,10 @@ ghost use Rattle.typing_rules.specs.Judgements.{Gives};
 ghost use Rattle.tp_check_expr.specs.Names.{is_of_routine, deeper, routine_depth, level_from, variable, purpose_for, purpose_of, as_wanted, routine_wanted, standard_called, standard_wanted, named_constant, entered};
 
 use call_rules::called;
+use call_rules::procedural_rules::{routine_value, settled};
+use call_rules::standard_rules::{is_special, standard};
 use pascal_grammar::Position;
-use procedural_rules::{routine_value, settled};
 use scopes::{BlockKind, Entry, Scope};
-use standard_rules::{is_special, standard};
 use std::alloc::Global;
 use type_layout::{Header, Param, Place, RoutineId, TypeId, Types};
 use typed_tree::{Expr, PlaceExpr, Value, Variable};

@@ -7,10 +7,10 @@ ghost use Rattle.typing_rules.specs.Operators.{combined};
 ghost use Rattle.typing_rules.specs.Selectors.{indexed};
 ghost use Rattle.tp_check_expr.specs.Typed.{marked};
 
-use expression_tree::of_sign;
 use pascal_grammar::Position;
 use std::alloc::Global;
 use syntax_tree::PlacedSign;
+use syntax_tree::expression_tree::of_sign;
 use type_layout::{Place, Types};
 use typed_tree::{BinaryOp, Expr};
 use typing_rules::{Refusal, indexed, signed};

@@ -11,3 +11,5 @@ pub mod Shapes
 pub mod Symbols
 pub mod Tokens
 pub mod Words
+pub mod left_out_names
+pub mod source_directives

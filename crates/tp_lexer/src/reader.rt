@@ -12,10 +12,10 @@ ghost use Rattle.tp_lexer.specs.Acting.{AreNumbers, settings_of, context_of, Act
 use crate::act::{act, pass};
 use crate::characters::before_end_len;
 use crate::condition::{Condition, innermost, is_read};
-use crate::prefix::{passed_at, shape_at};
 use crate::meaning::{passed_of, piece_of};
 use crate::numbers::number_named;
 use crate::place::moved_over;
+use crate::prefix::{passed_at, shape_at};
 use crate::shape::{Extent, Shape};
 use crate::state::State;
 use crate::token::{LexError, Text};

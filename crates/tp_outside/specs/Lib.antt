@@ -4,3 +4,4 @@ pub mod Folder
 pub mod Memory
 pub mod MemoryFolder
 pub mod Streams
+pub mod whole_input

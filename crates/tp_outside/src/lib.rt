@@ -13,6 +13,7 @@ mod real_sink;
 mod real_source;
 mod sinks;
 mod sources;
+pub mod whole_input;
 
 pub use faults::{Failed, ReadError, WriteError};
 pub use folders::Files;

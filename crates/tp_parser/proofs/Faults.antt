@@ -5,13 +5,13 @@ use Rattle.pascal_grammar.specs.Parts as n
 use Rattle.pascal_grammar.specs.Productions.{Production}
 use Rattle.pascal_grammar.specs.Rules.{grammar}
 use Rattle.pascal_grammar.proofs.Tables.{Follow}
-use Rattle.predictive_grammar.specs.Readers.{Fault}
-use Rattle.predictive_grammar.proofs.Whole.{AllMeets}
+use Rattle.ll1_grammar.specs.Readers.{Fault}
+use Rattle.ll1_grammar.proofs.Whole.{AllMeets}
 use Rattle.tp_lexer.specs.declared.token.Token.{Token}
-use Rattle.lexeme_list.specs.Lexemes.{lexemes_of}
+use Rattle.pascal_grammar.specs.lexeme_list.Lexemes.{lexemes_of}
 use Rattle.syntax_tree.specs.Expressions.{Parsed}
-use Rattle.source_tree.specs.declared.source.Tree.{Tree}
-use Rattle.source_tree.specs.Sources.{of_tree}
+use Rattle.syntax_tree.specs.declared.source_tree.source.Tree.{Tree}
+use Rattle.syntax_tree.specs.source_tree.Sources.{of_tree}
 use Rattle.expression_parser.specs.declared.error.ReadError.{ReadError}
 use Rattle.expression_parser.specs.declared.error.ReadError.TheVariants as r
 use Rattle.expression_parser.specs.Gives.{Fails}

@@ -1,3 +1,4 @@
+pub use Rattle.expression_parser.proofs as expression_parser_proofs
 pub mod Faults
 pub mod Listing
 pub mod OneFault

@@ -2,9 +2,9 @@
 use Rattle.std.proofs.Common.{◌≡◌, ℕ, ◌<◌, true, List, [], ◌∷◌, ◌++◌, length, Ok, refl, ap}
 use Rattle.pascal_grammar.specs.declared.lexeme.Lexeme.{Lexeme}
 use Rattle.syntax_tree.specs.Expressions.{Parsed}
-use Rattle.source_tree.specs.declared.source.InterfaceDeclaration.{InterfaceDeclaration}
-use Rattle.source_tree.specs.Sources.{of_interface, interface_with}
-use Rattle.parameter_parser.proofs.Loop.{with_same, Goes, starts, next}
+use Rattle.syntax_tree.specs.declared.source_tree.source.InterfaceDeclaration.{InterfaceDeclaration}
+use Rattle.syntax_tree.specs.source_tree.Sources.{of_interface, interface_with}
+use Rattle.type_parser.proofs.parameter_parser.Loop.{with_same, Goes, starts, next}
 use Rattle.tp_parser.specs.Reading.{begins_interface, declared_at, interface, interface_at}
 
 -- what was declared so far, in front of what is still read

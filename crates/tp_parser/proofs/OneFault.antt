@@ -4,10 +4,10 @@ use Rattle.type_layout.specs.declared.texts.Place.{Place}
 use Rattle.pascal_grammar.specs.Parts as n
 use Rattle.pascal_grammar.specs.Rules.{grammar}
 use Rattle.pascal_grammar.specs.Omissions.{omitted}
-use Rattle.predictive_grammar.specs.Readers as f
-use Rattle.predictive_grammar.proofs.Faults as faults
+use Rattle.ll1_grammar.specs.Readers as f
+use Rattle.ll1_grammar.proofs.Faults as faults
 use Rattle.tp_lexer.specs.declared.token.Token.{Token}
-use Rattle.lexeme_list.specs.Lexemes.{lexemes_of}
+use Rattle.pascal_grammar.specs.lexeme_list.Lexemes.{lexemes_of}
 use Rattle.syntax_tree.specs.Expressions.{Parsed}
 use Rattle.tp_parser.specs.Parsing.{limit, IsSource, place_at, IsFault, AreAlike}
 use Rattle.tp_parser.specs.declared.error.ParseError.{ParseError}

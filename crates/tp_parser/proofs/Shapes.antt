@@ -12,15 +12,15 @@ use Rattle.pascal_grammar.specs.Rules.{grammar}
 use Rattle.pascal_grammar.proofs.Somes.{joins}
 use Rattle.pascal_grammar.proofs.Tables.{Follow}
 use Rattle.pascal_grammar.proofs.Reading.{Reads, asked}
-use Rattle.predictive_grammar.specs.Grammar.{token, part, nil, pair, node, size}
-use Rattle.predictive_grammar.specs.Readers.{Fault, ◌>>=◌, through, made}
-use Rattle.predictive_grammar.proofs.Meeting.{all, Meets, then_within}
+use Rattle.ll1_grammar.specs.Grammar.{token, part, nil, pair, node, size}
+use Rattle.ll1_grammar.specs.Readers.{Fault, ◌>>=◌, through, made}
+use Rattle.ll1_grammar.proofs.Meeting.{all, Meets, then_within}
 use Rattle.syntax_tree.specs.Expressions.{Parsed, of}
 use Rattle.expression_parser.specs.Gives.{ask}
 use Rattle.expression_parser.specs.Gives as g
-use Rattle.parameter_parser.proofs.Behind.{Outcome, last_part, then_read, whole_step}
-use Rattle.declaration_parser.proofs.Shapes.{then_rest, closes}
-use Rattle.declaration_parser.proofs.Stepping.{End, past}
+use Rattle.type_parser.proofs.parameter_parser.Behind.{Outcome, last_part, then_read, whole_step}
+use Rattle.tp_parser.proofs.declaration_parser.Shapes.{then_rest, closes}
+use Rattle.tp_parser.proofs.declaration_parser.Stepping.{End, past}
 
 abbrev Makers : Type 0
 Makers = Result ((Parsed → Parsed) × List Lexeme) (Fault Production)

@@ -11,24 +11,24 @@ use Rattle.pascal_grammar.specs.Productions as p
 use Rattle.pascal_grammar.specs.Choices.{choose_by}
 use Rattle.pascal_grammar.proofs.Somes.{joins}
 use Rattle.pascal_grammar.proofs.Reading.{Reads, asked, plain, empty, left}
-use Rattle.predictive_grammar.specs.Grammar.{size}
-use Rattle.predictive_grammar.specs.Readers.{◌>>=◌}
+use Rattle.ll1_grammar.specs.Grammar.{size}
+use Rattle.ll1_grammar.specs.Readers.{◌>>=◌}
 use Rattle.syntax_tree.specs.Expressions.{of}
 use Rattle.expression_parser.specs.Gives.{ask, name_at}
 use Rattle.expression_parser.specs.Gives as g
 use Rattle.expression_parser.specs.Reading.{begins, inside}
-use Rattle.parameter_parser.specs.Reading.{parameters_at, result_at}
-use Rattle.parameter_parser.proofs.Behind.{at_kind, present, absent}
-use Rattle.parameter_parser.specs.Chains.{chain_from, chain_at}
-use Rattle.statement_parser.specs.Reading.{whole_compound_at}
-use Rattle.statement_parser.proofs.Sound.{whole_compound_reads}
-use Rattle.heading_parser.specs.Starting.{header_start}
-use Rattle.heading_parser.specs.Reading.{uses_at, heading_at, header_by, header_at}
-use Rattle.heading_parser.proofs.Sound.{uses_reads, heading_reads, header_reads}
-use Rattle.declaration_parser.specs.Reading.{constant_at, type_declaration_at, variable_at, more_constants, more_types, more_variables, constants_at, types_at, variables_at, part_by, declarations_at, nested}
-use Rattle.declaration_parser.proofs.Shapes.{words_read, then_rest}
-use Rattle.declaration_parser.proofs.Stepping.{End, words_past, some_construct}
-use Rattle.declaration_parser.proofs.Sound.{constant_reads, type_declaration_reads, variable_reads, more_constants_reads, more_types_reads, more_variables_reads, all_declarations_read}
+use Rattle.type_parser.specs.parameter_parser.Reading.{parameters_at, result_at}
+use Rattle.type_parser.proofs.parameter_parser.Behind.{at_kind, present, absent}
+use Rattle.type_parser.specs.parameter_parser.Chains.{chain_from, chain_at}
+use Rattle.expression_parser.specs.statement_parser.Reading.{whole_compound_at}
+use Rattle.expression_parser.proofs.statement_parser.Sound.{whole_compound_reads}
+use Rattle.tp_parser.specs.heading_parser.Starting.{header_start}
+use Rattle.tp_parser.specs.heading_parser.Reading.{uses_at, heading_at, header_by, header_at}
+use Rattle.tp_parser.proofs.heading_parser.Sound.{uses_reads, heading_reads, header_reads}
+use Rattle.tp_parser.specs.declaration_parser.Reading.{constant_at, type_declaration_at, variable_at, more_constants, more_types, more_variables, constants_at, types_at, variables_at, part_by, declarations_at, nested}
+use Rattle.tp_parser.proofs.declaration_parser.Shapes.{words_read, then_rest}
+use Rattle.tp_parser.proofs.declaration_parser.Stepping.{End, words_past, some_construct}
+use Rattle.tp_parser.proofs.declaration_parser.Sound.{constant_reads, type_declaration_reads, variable_reads, more_constants_reads, more_types_reads, more_variables_reads, all_declarations_read}
 use Rattle.tp_parser.specs.Starting.{interface_start, directive_start}
 use Rattle.tp_parser.specs.Reading.{directive_by, directive_at, header_then, interface_by, offers, interface, interface_at, unit_body_by, unit_body_at, source_by, source_at}
 use Rattle.tp_parser.proofs.Shapes.{header_read, header_past}

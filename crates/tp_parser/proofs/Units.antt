@@ -6,11 +6,11 @@ use Rattle.pascal_grammar.specs.declared.lexeme.Position.{Position}
 use Rattle.syntax_tree.specs.declared.identifier.Identifier.{Identifier}
 use Rattle.syntax_tree.specs.declared.statement.CompoundStatement.{CompoundStatement}
 use Rattle.syntax_tree.specs.Expressions.{of, word, mark_at, name_of}
-use Rattle.source_tree.specs.declared.declaration.Declaration.{Declaration}
-use Rattle.source_tree.specs.declared.source.InterfaceDeclaration.{InterfaceDeclaration}
-use Rattle.source_tree.specs.declared.source.Tree.TheVariants as t
-use Rattle.source_tree.specs.Declarations.{declarations_of}
-use Rattle.source_tree.specs.Sources.{uses_clause, interface_of, unit_body_of, of_tree}
+use Rattle.syntax_tree.specs.declared.source_tree.declaration.Declaration.{Declaration}
+use Rattle.syntax_tree.specs.declared.source_tree.source.InterfaceDeclaration.{InterfaceDeclaration}
+use Rattle.syntax_tree.specs.declared.source_tree.source.Tree.TheVariants as t
+use Rattle.syntax_tree.specs.source_tree.Declarations.{declarations_of}
+use Rattle.syntax_tree.specs.source_tree.Sources.{uses_clause, interface_of, unit_body_of, of_tree}
 
 -- a unit whose list has the names of the first clause and then those of the second
 pub unit_is : (here : Position) (name : Identifier) (uses : Vec Identifier Global) (interface : Vec InterfaceDeclaration Global) (all : Vec Declaration Global) (body : Option CompoundStatement) (n : ℕ) (outer inner : List Identifier)

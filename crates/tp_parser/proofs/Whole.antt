@@ -6,10 +6,10 @@ use Rattle.pascal_grammar.specs.Productions.{Production, allows}
 use Rattle.pascal_grammar.specs.Productions as p
 use Rattle.pascal_grammar.specs.Rules.{grammar}
 use Rattle.pascal_grammar.proofs.Tables.{Follow}
-use Rattle.predictive_grammar.specs.Grammar.{Has, Belongs, deep}
-use Rattle.predictive_grammar.specs.Readers.{◌>>=◌}
-use Rattle.predictive_grammar.specs.Sources.{Spells, ended}
-use Rattle.predictive_grammar.proofs.Whole.{AllMeets, all_meets, all_only}
+use Rattle.ll1_grammar.specs.Grammar.{Has, Belongs, deep}
+use Rattle.ll1_grammar.specs.Readers.{◌>>=◌}
+use Rattle.ll1_grammar.specs.Sources.{Spells, ended}
+use Rattle.ll1_grammar.proofs.Whole.{AllMeets, all_meets, all_only}
 use Rattle.syntax_tree.specs.Expressions.{Parsed}
 use Rattle.tp_parser.specs.Reading.{source_at}
 use Rattle.tp_parser.proofs.Sound.{source_reads}

@@ -3,17 +3,17 @@ use Rattle.std.specs.Prelude.{◌≡◌, ℕ, ◌-◌, ◌≤◌, List, length, 
 use Rattle.std.specs.List.{slice_get}
 use Rattle.type_layout.specs.declared.texts.Place.{Place}
 use Rattle.tp_lexer.specs.declared.token.Token.{Token}
-use Rattle.predictive_grammar.specs.Grammar.{Has, Belongs, deep}
-use Rattle.predictive_grammar.specs.Sources.{Spells, IsSyntax, IsLeftOut, IsTooDeep, place}
+use Rattle.ll1_grammar.specs.Grammar.{Has, Belongs, deep}
+use Rattle.ll1_grammar.specs.Sources.{Spells, IsSyntax, IsLeftOut, IsTooDeep, place}
 use Rattle.pascal_grammar.specs.declared.lexeme.Lexeme.{Lexeme}
 use Rattle.pascal_grammar.specs.declared.omission.Omission.{Omission}
 use Rattle.pascal_grammar.specs.Omissions.{omitted, feature}
 use Rattle.pascal_grammar.specs.Parts as n
 use Rattle.pascal_grammar.specs.Rules.{grammar}
-use Rattle.lexeme_list.specs.Lexemes.{lexemes_of}
+use Rattle.pascal_grammar.specs.lexeme_list.Lexemes.{lexemes_of}
 use Rattle.syntax_tree.specs.Expressions.{Parsed}
-use Rattle.source_tree.specs.declared.source.Tree.{Tree}
-use Rattle.source_tree.specs.Sources.{of_tree}
+use Rattle.syntax_tree.specs.declared.source_tree.source.Tree.{Tree}
+use Rattle.syntax_tree.specs.source_tree.Sources.{of_tree}
 use Rattle.expression_parser.specs.declared.error.ReadError.{ReadError}
 use Rattle.expression_parser.specs.declared.error.ReadError.TheVariants as r
 use Rattle.tp_parser.specs.declared.error.ParseError.{ParseError}

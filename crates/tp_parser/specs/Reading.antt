@@ -5,15 +5,15 @@ use Rattle.pascal_grammar.specs.declared.lexeme.Lexeme.{Lexeme}
 use Rattle.pascal_grammar.specs.Asked as q
 use Rattle.pascal_grammar.specs.Lexemes.{front_kind}
 use Rattle.pascal_grammar.specs.Productions as p
-use Rattle.predictive_grammar.specs.Readers.{Syntax, ◌>>=◌, made}
+use Rattle.ll1_grammar.specs.Readers.{Syntax, ◌>>=◌, made}
 use Rattle.syntax_tree.specs.Expressions.{Parsed, of}
-use Rattle.source_tree.specs.Declarations.{in_interface}
+use Rattle.syntax_tree.specs.source_tree.Declarations.{in_interface}
 use Rattle.expression_parser.specs.Gives.{Reads, ask, name_at}
 use Rattle.expression_parser.specs.Reading.{begins, leaves, inside}
-use Rattle.parameter_parser.specs.Chains.{ReadsTo, Chain, chain_at}
-use Rattle.statement_parser.specs.Reading.{whole_compound_at}
-use Rattle.heading_parser.specs.Reading.{uses_at, heading_at, header_at}
-use Rattle.declaration_parser.specs.Reading.{part_by, declarations_at, nested}
+use Rattle.type_parser.specs.parameter_parser.Chains.{ReadsTo, Chain, chain_at}
+use Rattle.expression_parser.specs.statement_parser.Reading.{whole_compound_at}
+use Rattle.tp_parser.specs.heading_parser.Reading.{uses_at, heading_at, header_at}
+use Rattle.tp_parser.specs.declaration_parser.Reading.{part_by, declarations_at, nested}
 use Rattle.tp_parser.specs.declared.lookahead.InterfaceStart.{InterfaceStart}
 use Rattle.tp_parser.specs.declared.lookahead.InterfaceStart.TheVariants as item
 use Rattle.tp_parser.specs.declared.lookahead.DirectiveStart.{DirectiveStart}

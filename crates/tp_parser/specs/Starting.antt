@@ -2,7 +2,7 @@
 use Rattle.std.specs.Prelude.{Option, Some}
 use Rattle.pascal_grammar.specs.declared.kind.Kind.{Kind}
 use Rattle.pascal_grammar.specs.declared.kind.Kind.TheVariants as k
-use Rattle.declaration_parser.specs.declared.lookahead.PartStart.TheVariants as part
+use Rattle.tp_parser.specs.declared.declaration_parser.lookahead.PartStart.TheVariants as part
 use Rattle.tp_parser.specs.declared.lookahead.InterfaceStart.{InterfaceStart}
 use Rattle.tp_parser.specs.declared.lookahead.InterfaceStart.TheVariants as item
 use Rattle.tp_parser.specs.declared.lookahead.DirectiveStart.{DirectiveStart}

@@ -4,8 +4,8 @@ use Rattle.pascal_grammar.specs.declared.lexeme.Lexeme.{Lexeme}
 use Rattle.pascal_grammar.specs.Parts as n
 use Rattle.pascal_grammar.specs.Productions.{Production}
 use Rattle.pascal_grammar.specs.Rules.{grammar}
-use Rattle.predictive_grammar.specs.Readers.{Fault, ◌>>=◌}
-use Rattle.predictive_grammar.specs.Sources.{ended}
+use Rattle.ll1_grammar.specs.Readers.{Fault, ◌>>=◌}
+use Rattle.ll1_grammar.specs.Sources.{ended}
 use Rattle.syntax_tree.specs.Expressions.{Parsed}
 use Rattle.tp_parser.specs.Reading.{source_at}
 

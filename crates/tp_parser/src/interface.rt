@@ -3,21 +3,21 @@
 ghost use Rattle.std.specs.Prelude.{◌≡◌, ◌≤◌, IfOk, List, [], ◌∷◌, length, suc};
 ghost use Rattle.pascal_grammar.specs.Productions.{interface_header, no_directive};
 ghost use Rattle.syntax_tree.specs.Expressions.{of, word};
-ghost use Rattle.source_tree.specs.Declarations.{of_header};
-ghost use Rattle.source_tree.specs.Sources.{of_interface, interface_of};
+ghost use Rattle.syntax_tree.specs.source_tree.Declarations.{of_header};
+ghost use Rattle.syntax_tree.specs.source_tree.Sources.{of_interface, interface_of};
 ghost use Rattle.expression_parser.specs.Gives.{Gives};
 ghost use Rattle.tp_parser.specs.Reading.{directive_at, header_then, declared_at, interface_at};
 
+use crate::declaration_parser::read_part;
+use crate::heading_parser::read_header;
 use crate::lookahead::{
     DirectiveStart, InterfaceStart, begins_interface, directive_start, interface_start,
 };
-use declaration_parser::read_part;
 use expression_parser::{ReadError, skip};
-use heading_parser::read_header;
-use parameter_parser::push;
 use pascal_grammar::{Kind, Lexeme, Omission};
-use source_tree::{InterfaceDeclaration, RoutineHeader};
 use std::alloc::Global;
+use syntax_tree::source_tree::{InterfaceDeclaration, RoutineHeader};
+use type_parser::parameter_parser::push;
 
 /// What an interface part declares, and what stands behind it, where at most `depth` constructs may be open at once.
 pub fn next_interface(

@@ -5,7 +5,7 @@ ghost use Rattle.pascal_grammar.specs.Lexemes.{front_kind};
 ghost use Rattle.tp_parser.specs.Reading.{begins_interface};
 ghost use Rattle.tp_parser.specs.Starting.{interface_start, directive_start};
 
-use declaration_parser::PartStart;
+use crate::declaration_parser::PartStart;
 use pascal_grammar::{Kind, Lexeme, front_kind};
 
 /// What the first lexeme begins in an interface part.

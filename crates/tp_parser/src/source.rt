@@ -3,20 +3,20 @@
 ghost use Rattle.std.specs.Prelude.{◌≡◌, ◌++◌, IfErr, IfOk, List, [], ◌∷◌, true, false};
 ghost use Rattle.pascal_grammar.specs.Productions.{unit};
 ghost use Rattle.syntax_tree.specs.Expressions.{of, word, mark_at, name_of};
-ghost use Rattle.source_tree.specs.Declarations.{declarations_of};
-ghost use Rattle.source_tree.specs.Sources.{uses_clause, interface_of, unit_body_of, of_tree};
+ghost use Rattle.syntax_tree.specs.source_tree.Declarations.{declarations_of};
+ghost use Rattle.syntax_tree.specs.source_tree.Sources.{uses_clause, interface_of, unit_body_of, of_tree};
 ghost use Rattle.expression_parser.specs.Gives.{Gives};
 ghost use Rattle.expression_parser.specs.declared.error.ReadError.TheVariants.{NoMemory};
 ghost use Rattle.tp_parser.specs.Reading.{unit_body_at, source_by, source_at};
 
+use crate::declaration_parser::read_declarations;
+use crate::heading_parser::{read_heading, read_uses};
 use crate::interface::next_interface;
-use declaration_parser::read_declarations;
+use expression_parser::statement_parser::read_compound;
 use expression_parser::{ReadError, begins, identifier, mark, skip};
-use heading_parser::{read_heading, read_uses};
 use pascal_grammar::{Kind, Lexeme, Position};
-use source_tree::{Declaration, InterfaceDeclaration, Tree};
-use statement_parser::read_compound;
 use std::alloc::Global;
+use syntax_tree::source_tree::{Declaration, InterfaceDeclaration, Tree};
 use syntax_tree::{CompoundStatement, Identifier};
 
 /// The source that the first lexemes spell, and what stands behind it, where at most `depth` constructs may be open at once.

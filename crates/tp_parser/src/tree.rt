@@ -3,11 +3,11 @@
 ghost use Rattle.std.specs.Prelude.{◌≡◌, IfErr, IfOk, List};
 ghost use Rattle.pascal_grammar.specs.Parts.{source};
 ghost use Rattle.pascal_grammar.specs.Rules.{grammar};
-ghost use Rattle.predictive_grammar.specs.Sources.{Spells};
+ghost use Rattle.ll1_grammar.specs.Sources.{Spells};
 ghost use Rattle.tp_lexer.specs.declared.token.Token.{Token};
-ghost use Rattle.lexeme_list.specs.Lexemes.{lexemes_of};
+ghost use Rattle.pascal_grammar.specs.lexeme_list.Lexemes.{lexemes_of};
 ghost use Rattle.syntax_tree.specs.Expressions.{Parsed};
-ghost use Rattle.source_tree.specs.Sources.{of_tree};
+ghost use Rattle.syntax_tree.specs.source_tree.Sources.{of_tree};
 ghost use Rattle.expression_parser.specs.Gives.{Gives};
 ghost use Rattle.tp_parser.specs.Parsing.{IsSource, IsReadAs, IsFault, AreAlike};
 ghost use Rattle.tp_parser.specs.declared.error.ParseError.{ParseError};
@@ -17,10 +17,10 @@ ghost use Rattle.tp_parser.specs.Whole.{whole_at};
 use crate::error::ParseError;
 use crate::source::next_source;
 use expression_parser::ReadError;
-use lexeme_list::lexemes_of;
+use pascal_grammar::lexeme_list::lexemes_of;
 use pascal_grammar::{Lexeme, grammar_laws};
-use source_tree::Tree;
 use std::alloc::Global;
+use syntax_tree::source_tree::Tree;
 use tp_lexer::Token;
 
 /// The most constructs that may be open at once.

@@ -2,8 +2,8 @@
 use Rattle.std.proofs.Common.{◌≡◌, List, [], ◌∷◌, Result, Ok, Err, refl, ◌∙◌}
 use Rattle.pascal_grammar.specs.declared.lexeme.Lexeme.{Lexeme}
 use Rattle.pascal_grammar.specs.Productions.{Production}
-use Rattle.predictive_grammar.specs.Grammar.{pair, node}
-use Rattle.predictive_grammar.specs.Readers.{Fault, ◌>>=◌, through, made}
+use Rattle.ll1_grammar.specs.Grammar.{pair, node}
+use Rattle.ll1_grammar.specs.Readers.{Fault, ◌>>=◌, through, made}
 use Rattle.syntax_tree.specs.Expressions.{Parsed, row, of}
 use Rattle.expression_parser.specs.Gives.{Reads}
 

@@ -14,18 +14,18 @@ use Rattle.pascal_grammar.specs.Rules.{grammar}
 use Rattle.pascal_grammar.proofs.Samples.{always}
 use Rattle.pascal_grammar.proofs.Tables.{Follow}
 use Rattle.pascal_grammar.proofs.Reading.{Reads, asked}
-use Rattle.predictive_grammar.specs.Grammar.{Symbol, token, part, nil, pair, node}
-use Rattle.predictive_grammar.specs.Readers.{Fault, ◌>>=◌, through, made}
-use Rattle.predictive_grammar.proofs.Meeting.{all, Meets, AllJoin, then_within}
+use Rattle.ll1_grammar.specs.Grammar.{Symbol, token, part, nil, pair, node}
+use Rattle.ll1_grammar.specs.Readers.{Fault, ◌>>=◌, through, made}
+use Rattle.ll1_grammar.proofs.Meeting.{all, Meets, AllJoin, then_within}
 use Rattle.syntax_tree.specs.Expressions.{of, word}
 use Rattle.expression_parser.specs.Gives.{ask}
 use Rattle.expression_parser.specs.Gives as g
 use Rattle.expression_parser.specs.Reading.{begins}
 use Rattle.expression_parser.proofs.Shapes.{same_kind, word_asked}
-use Rattle.parameter_parser.specs.Reading.{identifiers_at}
-use Rattle.parameter_parser.proofs.Behind.{at_kind, whole_step, known_step, last_part}
-use Rattle.parameter_parser.proofs.Shapes.{four_of, fourth, three_read}
-use Rattle.parameter_parser.proofs.Sound.{identifiers_reads}
+use Rattle.type_parser.specs.parameter_parser.Reading.{identifiers_at}
+use Rattle.type_parser.proofs.parameter_parser.Behind.{at_kind, whole_step, known_step, last_part}
+use Rattle.type_parser.proofs.parameter_parser.Shapes.{four_of, fourth, three_read}
+use Rattle.type_parser.proofs.parameter_parser.Sound.{identifiers_reads}
 use Rattle.type_parser.specs.Reading.{Group, group_at, begins_name, goes_on, groups_from, groups_at, more_groups, with_groups, grouped_at}
 use Rattle.type_parser.proofs.Each.{End, Outcome}
 

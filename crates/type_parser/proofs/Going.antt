@@ -4,13 +4,13 @@ use Rattle.pascal_grammar.specs.declared.kind.Kind.TheVariants as k
 use Rattle.pascal_grammar.specs.declared.lexeme.Lexeme.{Lexeme}
 use Rattle.pascal_grammar.specs.Productions.{Production}
 use Rattle.pascal_grammar.specs.Productions as p
-use Rattle.predictive_grammar.specs.Readers.{Fault, ◌>>=◌}
+use Rattle.ll1_grammar.specs.Readers.{Fault, ◌>>=◌}
 use Rattle.syntax_tree.specs.Expressions.{Parsed}
 use Rattle.expression_parser.specs.Gives.{Reads}
 use Rattle.expression_parser.proofs.Loop.{Goes}
-use Rattle.type_tree.specs.declared.types.FieldGroup.{FieldGroup}
-use Rattle.type_tree.specs.declared.types.TypeDenoter.{TypeDenoter}
-use Rattle.type_tree.specs.Types.{index_type_list}
+use Rattle.syntax_tree.specs.declared.type_tree.types.FieldGroup.{FieldGroup}
+use Rattle.syntax_tree.specs.declared.type_tree.types.TypeDenoter.{TypeDenoter}
+use Rattle.syntax_tree.specs.type_tree.Types.{index_type_list}
 use Rattle.type_parser.specs.Reading.{Group, groups_from, groups_at, type_at, index_list_at, typed_inside}
 use Rattle.type_parser.specs.Views.{groups_of}
 

@@ -4,7 +4,7 @@ use Rattle.pascal_grammar.specs.declared.kind.Kind.TheVariants as k
 use Rattle.pascal_grammar.specs.declared.lexeme.Lexeme.{Lexeme}
 use Rattle.pascal_grammar.specs.Productions.{Production}
 use Rattle.pascal_grammar.specs.Productions as p
-use Rattle.predictive_grammar.specs.Readers.{Fault, ◌>>=◌}
+use Rattle.ll1_grammar.specs.Readers.{Fault, ◌>>=◌}
 use Rattle.syntax_tree.specs.Expressions.{Parsed, of, word}
 use Rattle.expression_parser.specs.declared.error.ReadError.{ReadError}
 use Rattle.expression_parser.specs.declared.error.ReadError.TheVariants as errors
@@ -12,10 +12,10 @@ use Rattle.expression_parser.specs.Gives.{Fails, Reads}
 use Rattle.expression_parser.specs.Reading.{begins, tail_of, list_from}
 use Rattle.expression_parser.specs.Views.{with_front}
 use Rattle.expression_parser.proofs.Loop.{starts}
-use Rattle.parameter_parser.proofs.Listing.{again}
-use Rattle.type_tree.specs.declared.types.FieldGroup.{FieldGroup}
-use Rattle.type_tree.specs.declared.types.TypeDenoter.{TypeDenoter}
-use Rattle.type_tree.specs.Types.{of_type, next_index_types, index_type_list}
+use Rattle.type_parser.proofs.parameter_parser.Listing.{again}
+use Rattle.syntax_tree.specs.declared.type_tree.types.FieldGroup.{FieldGroup}
+use Rattle.syntax_tree.specs.declared.type_tree.types.TypeDenoter.{TypeDenoter}
+use Rattle.syntax_tree.specs.type_tree.Types.{of_type, next_index_types, index_type_list}
 use Rattle.type_parser.specs.Reading.{Group, group_at, goes_on, groups_from, groups_at, type_at, index_list_at, typed_inside}
 use Rattle.type_parser.specs.Views.{group_of, groups_of}
 use Rattle.type_parser.proofs.Going.{IndexesGo, before, Continues, GroupsGo}

@@ -19,9 +19,9 @@ use Rattle.pascal_grammar.proofs.Somes.{joins}
 use Rattle.pascal_grammar.proofs.Tables.{Follow}
 use Rattle.pascal_grammar.proofs.Reading.{Reads, asked, plain, begun, empty}
 use Rattle.pascal_grammar.specs.Rules.{grammar}
-use Rattle.predictive_grammar.proofs.Meeting.{one, Meets}
-use Rattle.predictive_grammar.specs.Grammar.{token, part, leaf}
-use Rattle.predictive_grammar.specs.Readers.{made, opened, kept_by}
+use Rattle.ll1_grammar.proofs.Meeting.{one, Meets}
+use Rattle.ll1_grammar.specs.Grammar.{token, part, leaf}
+use Rattle.ll1_grammar.specs.Readers.{made, opened, kept_by}
 use Rattle.syntax_tree.specs.declared.expression.PlacedSign.{PlacedSign}
 use Rattle.syntax_tree.specs.Expressions.{of}
 use Rattle.expression_parser.specs.declared.lookahead.FactorStart.{FactorStart}
@@ -32,7 +32,7 @@ use Rattle.expression_parser.specs.Starting.{selector_start, factor_start}
 use Rattle.expression_parser.specs.Reading.{begins, leaves, inside, adder_at, multiplier_at, placed_sign, sign_found, sign_at, field_at, index_at, dereference_at, selectors_by, selectors_at, call_by, call_at, arguments_at, argument_end_at, control_at, named_factor_at, closed_factor_at, wrapped, factor_by, factor_at, factors_by, factors_at, term_at, terms_by, terms_at, simple_at}
 use Rattle.expression_parser.proofs.Shapes.{begins_is, operator_read, adder_asked, multiplier_asked}
 use Rattle.expression_parser.proofs.Sound as expressions
-use Rattle.parameter_parser.proofs.Behind.{Outcome, at_kind, absent, left_at, opens_at, known_step, last_part}
+use Rattle.type_parser.proofs.parameter_parser.Behind.{Outcome, at_kind, absent, left_at, opens_at, known_step, last_part}
 use Rattle.type_parser.specs.Starting.{behind_name, behind_caret}
 use Rattle.type_parser.specs.Reading.{range_at, named_by, named_type_at, letter_by, letter_type_at, caret_by, caret_type_at}
 use Rattle.type_parser.proofs.Ranges.{signed, closed, selected, called, multiplied, added, bounded, control_multiplied, control_added, control_bounded}

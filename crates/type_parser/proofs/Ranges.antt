@@ -6,11 +6,11 @@ use Rattle.pascal_grammar.specs.Asked as q
 use Rattle.pascal_grammar.specs.Lexemes as v
 use Rattle.pascal_grammar.specs.Productions.{Production}
 use Rattle.pascal_grammar.specs.Productions as p
-use Rattle.predictive_grammar.specs.Grammar.{leaf}
-use Rattle.predictive_grammar.specs.Readers.{◌>>=◌, made}
+use Rattle.ll1_grammar.specs.Grammar.{leaf}
+use Rattle.ll1_grammar.specs.Readers.{◌>>=◌, made}
 use Rattle.syntax_tree.specs.declared.expression.PlacedSign.{PlacedSign}
 use Rattle.syntax_tree.specs.Expressions.{Parsed, of}
-use Rattle.type_tree.specs.Regrouped.{range_of}
+use Rattle.syntax_tree.specs.type_tree.Regrouped.{range_of}
 use Rattle.expression_parser.specs.Gives.{Reads, ask, name_at}
 use Rattle.expression_parser.specs.Reading.{tail_of, sign_found, inside, selectors_at, call_at, arguments_at, argument_end_at, closed_factor_at, control_at, named_at, named_factor_at, wrapped, factor_at, factors_at, term_at, terms_at, simple_by, simple_at}
 use Rattle.expression_parser.proofs.Shapes.{second_read, pair_read, sign_asked}

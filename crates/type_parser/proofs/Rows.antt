@@ -4,15 +4,15 @@ use Rattle.pascal_grammar.specs.declared.lexeme.Position.{Position}
 use Rattle.pascal_grammar.specs.Productions as p
 use Rattle.syntax_tree.specs.declared.identifier.Identifier.{Identifier}
 use Rattle.syntax_tree.specs.Expressions.{Parsed, of, word, mark_at}
-use Rattle.type_tree.specs.declared.parameter.Method.{Method}
-use Rattle.type_tree.specs.declared.types.FieldGroup.{FieldGroup}
-use Rattle.type_tree.specs.declared.types.FieldGroup.TheVariants as f
-use Rattle.type_tree.specs.declared.types.StructuredType.{StructuredType, Row_of-TypeDenoter, end_of-TypeDenoter, more_of-TypeDenoter, items-the_row-TypeDenoter, items_hidden-the_row-TypeDenoter-0}
-use Rattle.type_tree.specs.declared.types.StructuredType.TheVariants as s
-use Rattle.type_tree.specs.declared.types.TypeDenoter.{TypeDenoter, Row_of-FieldGroup, end_of-FieldGroup, more_of-FieldGroup, items-the_row-FieldGroup, items_hidden-the_row-FieldGroup-1}
-use Rattle.type_tree.specs.declared.types.TypeDenoter.TheVariants as t
-use Rattle.type_tree.specs.Parameters.{identifiers_of}
-use Rattle.type_tree.specs.Types.{of_type, of_structured, of_indexes, more_indexes, of_fields, more_fields, of_object, more_object, next_index_types, last_record_part, last_object_part, ancestor_of}
+use Rattle.syntax_tree.specs.declared.type_tree.parameter.Method.{Method}
+use Rattle.syntax_tree.specs.declared.type_tree.types.FieldGroup.{FieldGroup}
+use Rattle.syntax_tree.specs.declared.type_tree.types.FieldGroup.TheVariants as f
+use Rattle.syntax_tree.specs.declared.type_tree.types.StructuredType.{StructuredType, Row_of-TypeDenoter, end_of-TypeDenoter, more_of-TypeDenoter, items-the_row-TypeDenoter, items_hidden-the_row-TypeDenoter-0}
+use Rattle.syntax_tree.specs.declared.type_tree.types.StructuredType.TheVariants as s
+use Rattle.syntax_tree.specs.declared.type_tree.types.TypeDenoter.{TypeDenoter, Row_of-FieldGroup, end_of-FieldGroup, more_of-FieldGroup, items-the_row-FieldGroup, items_hidden-the_row-FieldGroup-1}
+use Rattle.syntax_tree.specs.declared.type_tree.types.TypeDenoter.TheVariants as t
+use Rattle.syntax_tree.specs.type_tree.Parameters.{identifiers_of}
+use Rattle.syntax_tree.specs.type_tree.Types.{of_type, of_structured, of_indexes, more_indexes, of_fields, more_fields, of_object, more_object, next_index_types, last_record_part, last_object_part, ancestor_of}
 use Rattle.type_parser.specs.Reading.{more_groups}
 use Rattle.type_parser.specs.Views.{indexes_of, groups_of, fields_of, object_part_of}
 

@@ -13,17 +13,17 @@ use Rattle.pascal_grammar.specs.Choices.{choose, choose_by}
 use Rattle.pascal_grammar.proofs.Somes.{joins}
 use Rattle.pascal_grammar.proofs.Tables.{Follow}
 use Rattle.pascal_grammar.proofs.Reading.{Reads, AreRead, asked, plain, empty, none}
-use Rattle.predictive_grammar.specs.Grammar.{token, part}
-use Rattle.predictive_grammar.specs.Readers.{made}
+use Rattle.ll1_grammar.specs.Grammar.{token, part}
+use Rattle.ll1_grammar.specs.Readers.{made}
 use Rattle.syntax_tree.specs.Expressions.{of}
 use Rattle.expression_parser.specs.Gives.{Inside, ask, name_at}
 use Rattle.expression_parser.specs.Starting.{names}
 use Rattle.expression_parser.specs.Reading.{begins, tail_of, leaves, inside, simple_at}
 use Rattle.expression_parser.proofs.Shapes.{same_kind}
 use Rattle.expression_parser.proofs.Sound as expressions
-use Rattle.parameter_parser.specs.Reading.{identifiers_at, result_type_at, parameters_at, methods_at}
-use Rattle.parameter_parser.proofs.Behind.{Outcome, at_kind, at_all, present, absent, left_at, opens_at, known_step, last_part, list_reads, not_begun}
-use Rattle.parameter_parser.proofs.Sound.{identifiers_reads, result_type_reads, parameters_reads, methods_reads}
+use Rattle.type_parser.specs.parameter_parser.Reading.{identifiers_at, result_type_at, parameters_at, methods_at}
+use Rattle.type_parser.proofs.parameter_parser.Behind.{Outcome, at_kind, at_all, present, absent, left_at, opens_at, known_step, last_part, list_reads, not_begun}
+use Rattle.type_parser.proofs.parameter_parser.Sound.{identifiers_reads, result_type_reads, parameters_reads, methods_reads}
 use Rattle.type_parser.specs.Starting.{type_start, structured_start}
 use Rattle.type_parser.specs.Reading.{length_by, length_at, ancestor_by, ancestor_at, string_at, enumeration_at, procedural_at, functional_at, begins_name, goes_on, fields_end_by, fields_end_at, fields_by, methods_end_at, object_end_by, object_end_at, object_part_by, object_at, index_types_by, array_at, record_at, set_at, structured_by, structured_at, packed_by, packed_at, type_by, type_at, more_index_types_at, type_parts, typed_inside}
 use Rattle.type_parser.proofs.Fields.{groups_reads}

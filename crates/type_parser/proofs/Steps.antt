@@ -11,20 +11,20 @@ use Rattle.pascal_grammar.specs.Parts as n
 use Rattle.pascal_grammar.specs.Productions.{Production}
 use Rattle.pascal_grammar.specs.Productions as p
 use Rattle.pascal_grammar.proofs.Reading.{Reads}
-use Rattle.predictive_grammar.specs.Readers.{Fault, ◌>>=◌, kept_by}
+use Rattle.ll1_grammar.specs.Readers.{Fault, ◌>>=◌, kept_by}
 use Rattle.syntax_tree.specs.Expressions.{Parsed, of, word}
 use Rattle.expression_parser.specs.declared.error.ReadError.{ReadError}
 use Rattle.expression_parser.specs.Gives.{Fails, ask}
 use Rattle.expression_parser.specs.Gives as g
 use Rattle.expression_parser.proofs.Exact.{no_longer}
 use Rattle.expression_parser.specs.Reading.{begins}
-use Rattle.parameter_parser.specs.Reading.{identifiers_at}
-use Rattle.parameter_parser.proofs.Bracketed.{closes, bracketed, bracketed_stop, bracketed_open, bracketed_end}
-use Rattle.parameter_parser.proofs.Results.{bind_ok}
-use Rattle.parameter_parser.proofs.Sound.{identifiers_reads}
-use Rattle.type_tree.specs.declared.parameter.Method.{Method}
-use Rattle.type_tree.specs.declared.types.FieldGroup.{FieldGroup}
-use Rattle.type_tree.specs.Types.{last_record_part, last_object_part}
+use Rattle.type_parser.specs.parameter_parser.Reading.{identifiers_at}
+use Rattle.type_parser.proofs.parameter_parser.Bracketed.{closes, bracketed, bracketed_stop, bracketed_open, bracketed_end}
+use Rattle.type_parser.proofs.parameter_parser.Results.{bind_ok}
+use Rattle.type_parser.proofs.parameter_parser.Sound.{identifiers_reads}
+use Rattle.syntax_tree.specs.declared.type_tree.parameter.Method.{Method}
+use Rattle.syntax_tree.specs.declared.type_tree.types.FieldGroup.{FieldGroup}
+use Rattle.syntax_tree.specs.type_tree.Types.{last_record_part, last_object_part}
 use Rattle.type_parser.specs.Reading.{Group, group_at, groups_from, groups_at, with_groups, begins_name, fields_end_at, fields_by, fields_at, object_end_at, object_part_by, object_part_at, type_at, more_index_types_at, index_list_at, index_types_by, index_types_at, typed_inside}
 use Rattle.type_parser.specs.Views.{groups_of, fields_of, object_part_of}
 use Rattle.type_parser.proofs.Each.{Outcome}

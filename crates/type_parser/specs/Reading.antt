@@ -8,14 +8,14 @@ use Rattle.pascal_grammar.specs.Parts.{Part}
 use Rattle.pascal_grammar.specs.Parts as n
 use Rattle.pascal_grammar.specs.Productions.{Production}
 use Rattle.pascal_grammar.specs.Productions as p
-use Rattle.predictive_grammar.specs.Readers.{◌>>=◌, made, opened}
+use Rattle.ll1_grammar.specs.Readers.{◌>>=◌, made, opened}
 use Rattle.syntax_tree.specs.Expressions.{Parsed, of, word}
-use Rattle.type_tree.specs.Regrouped.{range_of}
+use Rattle.syntax_tree.specs.type_tree.Regrouped.{range_of}
 use Rattle.expression_parser.specs.Gives.{Reads, Inside, ask, name_at}
 use Rattle.expression_parser.specs.Starting.{names}
 use Rattle.expression_parser.specs.Reading.{begins, tail_of, wrong, leaves, list_from, inside, simple_at}
-use Rattle.parameter_parser.specs.Chains.{ReadsTo}
-use Rattle.parameter_parser.specs.Reading.{identifiers_at, result_type_at, parameters_at, methods_at}
+use Rattle.type_parser.specs.parameter_parser.Chains.{ReadsTo}
+use Rattle.type_parser.specs.parameter_parser.Reading.{identifiers_at, result_type_at, parameters_at, methods_at}
 use Rattle.type_parser.specs.declared.lookahead.TypeStart.{TypeStart}
 use Rattle.type_parser.specs.declared.lookahead.TypeStart.TheVariants as start
 use Rattle.type_parser.specs.declared.lookahead.StructuredStart.{StructuredStart}

@@ -2,12 +2,12 @@
 use Rattle.std.specs.Prelude.{Bool, List, [], ◌∷◌}
 use Rattle.pascal_grammar.specs.Productions as p
 use Rattle.syntax_tree.specs.Expressions.{Parsed, of, word}
-use Rattle.type_tree.specs.declared.parameter.Method.{Method}
-use Rattle.type_tree.specs.declared.types.FieldGroup.{FieldGroup}
-use Rattle.type_tree.specs.declared.types.FieldGroup.TheVariants as f
-use Rattle.type_tree.specs.Parameters.{identifiers_of}
-use Rattle.type_tree.specs.declared.types.TypeDenoter.{TypeDenoter}
-use Rattle.type_tree.specs.Types.{of_type, index_type_list, last_record_part, methods_end, last_object_part}
+use Rattle.syntax_tree.specs.declared.type_tree.parameter.Method.{Method}
+use Rattle.syntax_tree.specs.declared.type_tree.types.FieldGroup.{FieldGroup}
+use Rattle.syntax_tree.specs.declared.type_tree.types.FieldGroup.TheVariants as f
+use Rattle.syntax_tree.specs.type_tree.Parameters.{identifiers_of}
+use Rattle.syntax_tree.specs.declared.type_tree.types.TypeDenoter.{TypeDenoter}
+use Rattle.syntax_tree.specs.type_tree.Types.{of_type, index_type_list, last_record_part, methods_end, last_object_part}
 use Rattle.type_parser.specs.Reading.{Group, with_groups}
 
 abbrev pub group_of : FieldGroup → Group

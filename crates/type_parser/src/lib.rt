@@ -1,10 +1,12 @@
 //! Types of Turbo Pascal, read from lexemes.
 #![tactic(auto)]
 
-mod lookahead;
+pub mod initializer_parser;
 mod lexemes;
 mod list;
+mod lookahead;
 mod object;
+pub mod parameter_parser;
 mod plain;
 mod range;
 mod read;

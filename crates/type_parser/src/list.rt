@@ -5,13 +5,13 @@ ghost use Rattle.pascal_grammar.specs.Productions.{array_type, record_type, obje
 ghost use Rattle.syntax_tree.specs.Expressions.{of, word, mark_at};
 ghost use Rattle.expression_parser.specs.declared.error.ReadError.TheVariants.{NoMemory};
 ghost use Rattle.type_parser.specs.Views.{indexes_of, fields_of, object_part_of};
-ghost use Rattle.type_tree.specs.Types.{of_type, of_structured, ancestor_of};
+ghost use Rattle.syntax_tree.specs.type_tree.Types.{of_type, of_structured, ancestor_of};
 
 use expression_parser::ReadError;
 use pascal_grammar::Position;
 use std::alloc::Global;
 use syntax_tree::Identifier;
-use type_tree::{FieldGroup, Method, StructuredType, TypeDenoter};
+use syntax_tree::type_tree::{FieldGroup, Method, StructuredType, TypeDenoter};
 
 /// The types of the indexes of an array, so far.
 #[derive(Drop)]

@@ -3,7 +3,7 @@
 ghost use Rattle.std.specs.Prelude.{◌≡◌, IfOk, suc};
 ghost use Rattle.expression_parser.specs.Gives.{Gives};
 ghost use Rattle.pascal_grammar.specs.Lexemes.{front_kind};
-ghost use Rattle.predictive_grammar.specs.Readers.{enter};
+ghost use Rattle.ll1_grammar.specs.Readers.{enter};
 ghost use Rattle.type_parser.specs.Reading.{begins_name, goes_on, type_parts, typed_inside};
 ghost use Rattle.type_parser.specs.Starting.{type_start, structured_start, behind_name, behind_caret};
 

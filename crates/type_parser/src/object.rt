@@ -2,13 +2,13 @@
 
 ghost use Rattle.expression_parser.specs.Gives.{Gives};
 ghost use Rattle.type_parser.specs.Reading.{fields_end_at, methods_end_at, object_end_at};
-ghost use Rattle.type_tree.specs.Types.{last_record_part, methods_end, last_object_part};
+ghost use Rattle.syntax_tree.specs.type_tree.Types.{last_record_part, methods_end, last_object_part};
 
+use crate::parameter_parser::read_methods;
 use expression_parser::{ReadError, begins, skip, tail};
-use parameter_parser::read_methods;
 use pascal_grammar::{Kind, Lexeme, Omission};
 use std::alloc::Global;
-use type_tree::Method;
+use syntax_tree::type_tree::Method;
 
 /// Whether a semicolon stands behind the last fields of a record, and what stands behind it. Variants are left out.
 #[tactic(auto, unfolding(crate::specs::Reading::fields_end_by))]

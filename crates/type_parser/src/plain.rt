@@ -6,14 +6,14 @@ ghost use Rattle.syntax_tree.specs.Expressions.{of, word};
 ghost use Rattle.expression_parser.specs.declared.error.ReadError.TheVariants.{NoMemory};
 ghost use Rattle.expression_parser.specs.Gives.{Gives};
 ghost use Rattle.type_parser.specs.Reading.{length_at, ancestor_at, string_at, enumeration_at, procedural_at, functional_at};
-ghost use Rattle.type_tree.specs.Types.{of_type, simple_of, length_of, ancestor_of};
+ghost use Rattle.syntax_tree.specs.type_tree.Types.{of_type, simple_of, length_of, ancestor_of};
 
+use crate::parameter_parser::{deeper, read_identifiers, read_parameters, read_result_type};
 use expression_parser::{ReadError, begins, identifier, mark, read_simple, skip};
-use parameter_parser::{deeper, read_identifiers, read_parameters, read_result_type};
 use pascal_grammar::{Kind, Lexeme};
 use std::alloc::Global;
+use syntax_tree::type_tree::TypeDenoter;
 use syntax_tree::{Identifier, SimpleExpression};
-use type_tree::TypeDenoter;
 
 // A length in brackets.
 fn length_node(

@@ -5,16 +5,16 @@ ghost use Rattle.syntax_tree.specs.Expressions.{word};
 ghost use Rattle.expression_parser.specs.declared.error.ReadError.TheVariants.{NoMemory};
 ghost use Rattle.expression_parser.specs.Gives.{Gives};
 ghost use Rattle.type_parser.specs.Reading.{range_at, named_type_at, letter_type_at, caret_type_at};
-ghost use Rattle.type_tree.specs.Regrouped.{range_of};
-ghost use Rattle.type_tree.specs.Types.{of_type, simple_of};
+ghost use Rattle.syntax_tree.specs.type_tree.Regrouped.{range_of};
+ghost use Rattle.syntax_tree.specs.type_tree.Types.{of_type, simple_of};
 
-use crate::lookahead::{BehindName, behind_caret, behind_name};
 use crate::lexemes::long_identifier;
+use crate::lookahead::{BehindName, behind_caret, behind_name};
 use expression_parser::{ReadError, begins, identifier, letter, mark, read_simple, skip, tail};
 use pascal_grammar::{Kind, Lexeme, Omission};
 use std::alloc::Global;
 use syntax_tree::SimpleExpression;
-use type_tree::{PointerTarget, TypeDenoter};
+use syntax_tree::type_tree::{PointerTarget, TypeDenoter};
 
 // A subrange.
 fn range_node(

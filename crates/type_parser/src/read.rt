@@ -9,13 +9,13 @@ ghost use Rattle.syntax_tree.specs.Expressions.{Parsed};
 ghost use Rattle.expression_parser.specs.Gives.{Gives};
 ghost use Rattle.expression_parser.specs.Spelled.{Spelled};
 ghost use Rattle.type_parser.specs.Reading.{type_at, typed_inside};
-ghost use Rattle.type_tree.specs.Types.{of_type};
+ghost use Rattle.syntax_tree.specs.type_tree.Types.{of_type};
 
 use crate::types::next_type;
 use expression_parser::ReadError;
 use pascal_grammar::Lexeme;
 use std::alloc::Global;
-use type_tree::TypeDenoter;
+use syntax_tree::type_tree::TypeDenoter;
 
 /// The type that the first lexemes spell, and what stands behind it, where at most `depth` constructs may be open at once. An
 /// error is out of memory, or the first lexeme at fault.

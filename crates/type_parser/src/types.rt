@@ -2,25 +2,25 @@
 
 ghost use Rattle.std.specs.Prelude.{◌≡◌, List, [], ◌∷◌};
 ghost use Rattle.pascal_grammar.specs.Productions.{structured_type, packed_structured, no_index_types};
-ghost use Rattle.predictive_grammar.specs.Readers.{made};
+ghost use Rattle.ll1_grammar.specs.Readers.{made};
 ghost use Rattle.syntax_tree.specs.Expressions.{of};
 ghost use Rattle.expression_parser.specs.Gives.{Gives};
 ghost use Rattle.type_parser.specs.Reading.{typed_inside, type_at, packed_at, structured_at, array_at, record_at, set_at, object_at, index_types_at, index_list_at, fields_at, object_part_at, groups_at, group_at};
 ghost use Rattle.type_parser.specs.Views.{indexes_of, fields_of, object_part_of, groups_of, group_of};
-ghost use Rattle.type_tree.specs.Types.{of_type, of_structured, index_type_list};
+ghost use Rattle.syntax_tree.specs.type_tree.Types.{of_type, of_structured, index_type_list};
 
+use crate::list::{Groups, IndexTypes, ObjectPart, set_of};
 use crate::lookahead::{
     StructuredStart, TypeStart, begins_name, deeper, goes_on, structured_start, type_start,
 };
-use crate::list::{Groups, IndexTypes, ObjectPart, set_of};
 use crate::object::{fields_end, methods_end, object_end};
+use crate::parameter_parser::read_identifiers;
 use crate::plain::{ancestor, enumeration_type, functional_type, procedural_type, string_type};
 use crate::range::{caret_type, named_type, range};
 use expression_parser::{ReadError, begins, mark, skip, tail};
-use parameter_parser::read_identifiers;
 use pascal_grammar::{Kind, Lexeme, Omission};
 use std::alloc::Global;
-use type_tree::{FieldGroup, StructuredType, TypeDenoter};
+use syntax_tree::type_tree::{FieldGroup, StructuredType, TypeDenoter};
 
 #[cycle(types)]
 #[tactic(auto, unfolding(crate::specs::Reading::type_by))]

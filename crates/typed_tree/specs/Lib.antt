@@ -6,3 +6,4 @@ pub mod Needs
 pub mod Stacks
 pub mod Weights
 pub mod Frames
+pub mod type_fits

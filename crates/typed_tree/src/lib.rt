@@ -9,6 +9,7 @@ pub mod standard;
 mod statement_needs;
 mod statement_weights;
 mod statements;
+pub mod type_fits;
 mod units;
 mod weights;
 

@@ -4,7 +4,7 @@ use Rattle.std.proofs.lemmas.Bool.Decides.{Decides-and, Decides-or, Decides-eqb}
 use Rattle.type_layout.specs.declared.definitions.TypeId.{TypeId}
 use Rattle.type_layout.specs.declared.definitions.TypeDef.{TypeDef}
 use Rattle.type_layout.specs.declared.definitions.TypeDef.TheVariants as type
-use Rattle.type_fits.specs.Fits.{definition, parent_of, ancestor, IsObject}
+use Rattle.typed_tree.specs.type_fits.Fits.{definition, parent_of, ancestor, IsObject}
 use Rattle.scopes.specs.Predeclared.{type_id}
 use Rattle.typing_rules.specs.declared.sorts.Sort.{Sort}
 use Rattle.typing_rules.specs.declared.sorts.Sort.TheVariants as sort

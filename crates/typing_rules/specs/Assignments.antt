@@ -8,7 +8,7 @@ use Rattle.type_layout.specs.declared.texts.Place.{Place}
 use Rattle.type_layout.specs.Storage.{storage_of, holds}
 use Rattle.typed_tree.specs.declared.expressions.Value.TheVariants as value
 use Rattle.typed_tree.specs.Expressions.{Expression, Const, Range, type_of}
-use Rattle.type_fits.specs.Fits.{definition}
+use Rattle.typed_tree.specs.type_fits.Fits.{definition}
 use Rattle.typing_rules.specs.declared.faults.Rule.TheVariants as rules
 use Rattle.typing_rules.specs.declared.sorts.Sort.{Sort}
 use Rattle.typing_rules.specs.declared.sorts.Sort.TheVariants as sort

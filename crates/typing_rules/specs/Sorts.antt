@@ -9,7 +9,7 @@ use Rattle.type_layout.specs.Storage.{least_of, greatest_of, storage_of, holds}
 use Rattle.typed_tree.specs.declared.expressions.Value.{Value}
 use Rattle.typed_tree.specs.declared.expressions.Value.TheVariants as value
 use Rattle.typed_tree.specs.Expressions.{Expression, Elements, Const, SetOf, NoElements, type_of}
-use Rattle.type_fits.specs.Fits.{definition, stored_as}
+use Rattle.typed_tree.specs.type_fits.Fits.{definition, stored_as}
 use Rattle.scopes.specs.Predeclared.{type_id}
 use Rattle.typing_rules.specs.declared.sorts.Range.{Range}
 use Rattle.typing_rules.specs.declared.sorts.SetBase.{SetBase}

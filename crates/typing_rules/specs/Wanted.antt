@@ -10,7 +10,7 @@ use Rattle.type_layout.specs.declared.definitions.TypeDef.TheVariants as type
 use Rattle.type_layout.specs.Storage.{storage_of, holds}
 use Rattle.typed_tree.specs.declared.expressions.Value.TheVariants as value
 use Rattle.typed_tree.specs.Expressions.{Expression, Const, Convert, type_of}
-use Rattle.type_fits.specs.Fits.{definition, stored_as}
+use Rattle.typed_tree.specs.type_fits.Fits.{definition, stored_as}
 use Rattle.scopes.specs.Predeclared.{type_id}
 use Rattle.typing_rules.specs.Sorts.{string, number_type, sort_of_type}
 use Rattle.typing_rules.specs.declared.sorts.Sort.{Sort}

@@ -1,7 +1,7 @@
 //! Pointers and objects by the lines of object types.
 
 ghost use Rattle.std.specs.Prelude.{◌≡◌, option_copied};
-ghost use Rattle.type_fits.specs.Fits.{parent_of};
+ghost use Rattle.typed_tree.specs.type_fits.Fits.{parent_of};
 ghost use Rattle.typing_rules.specs.Joins.{reaches, descends, is_object, is_line, is_below_by, is_below, is_of_type, is_nil_for, is_address, are_pointers, takes_pointer, are_pointers_joined};
 
 use crate::sorts::{Sort, definition};

@@ -3,7 +3,7 @@
 ghost use Rattle.std.specs.Prelude.{◌≡◌, Ok, option_copied, position};
 ghost use Rattle.type_layout.specs.Words.{same_bytes};
 ghost use Rattle.typed_tree.specs.Expressions.{view_expr, view_place, Index};
-ghost use Rattle.type_fits.specs.Fits.{definition};
+ghost use Rattle.typed_tree.specs.type_fits.Fits.{definition};
 ghost use Rattle.typing_rules.specs.Judgements.{Gives};
 ghost use Rattle.typing_rules.specs.Selectors.{loaded, field_at, field_in, declared_field, own_field, member_named, selected_by, selected, indexed_by, indexed, target_of, followed};
 

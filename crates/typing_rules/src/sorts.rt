@@ -3,7 +3,7 @@
 ghost use Rattle.std.specs.Prelude.{◌≡◌, ◌+◌, Some, option_copied};
 ghost use Rattle.typed_tree.specs.Expressions.{view_expr, view_elements, type_of};
 ghost use Rattle.scopes.specs.Predeclared.{type_id};
-ghost use Rattle.type_fits.specs.Fits.{definition};
+ghost use Rattle.typed_tree.specs.type_fits.Fits.{definition};
 ghost use Rattle.typing_rules.specs.Sorts.{range_of, only, is_within, are_within, holding_type, common_type, number_type, set_base, is_enumeration, host_by, host_in, sort_stored, base_stored, base_of, sort_by, sort_of_type, known, sort_of_constant, sort_of_set, sort_of_result, sort_of};
 
 use scopes::{INTEGER, LONG_INT, WORD};

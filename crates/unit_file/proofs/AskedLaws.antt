@@ -5,7 +5,7 @@ use Rattle.std.proofs.lemmas.List.Elements.{All-from_recursion}
 use Rattle.std.specs.List.{AllByRecursion}
 use Rattle.typed_tree.specs.declared.units.Item.{Item}
 use Rattle.typed_tree.specs.declared.units.Item.TheVariants as item
-use Rattle.object_unit.specs.declared.object.ObjectUnit.{ObjectUnit}
+use Rattle.object_file.specs.declared.object_unit.object.ObjectUnit.{ObjectUnit}
 use Rattle.unit_file.specs.Format.{IsNumbered}
 use Rattle.unit_file.specs.Reading.{globals_asked, routines_asked, most}
 

@@ -4,17 +4,17 @@ use Rattle.std.specs.Prelude.{All, IsTrue, IfSome, IsSome, IfOk, nat_le, â—Œ==â—
 use Rattle.std.proofs.lemmas.Bool.{eqb-true}
 use Rattle.std.proofs.lemmas.Bool.Decides.{nat_tests}
 use Rattle.type_layout.specs.Words.{IsName}
-use Rattle.object_unit.specs.declared.object.ObjectUnit.{ObjectUnit}
+use Rattle.object_file.specs.declared.object_unit.object.ObjectUnit.{ObjectUnit}
 use Rattle.unit_interface.specs.declared.interfaces.Interface.{Interface}
-use Rattle.file_parts.specs.Spelling.{word_text, long_text, truth_text, name_text, option_text, list_text, FitEach, IsLong, IsLongOption}
-use Rattle.file_parts.proofs.Laws.{IsBytes, Meets, MadeOf, fits_as, ruled_meets, followed_meets, then_meets, made_meets, record_meets, spelled_once}
-use Rattle.file_parts.proofs.PartLaws.{byte_text, IsByte, IsWord, byte_meets, word_meets, long_meets}
-use Rattle.file_parts.proofs.ValueLaws.{both, and, truth_meets, option_meets, name_meets}
-use Rattle.type_file.proofs.HeaderLaws.{list_of_meets}
+use Rattle.object_file.specs.file_parts.Spelling.{word_text, long_text, truth_text, name_text, option_text, list_text, FitEach, IsLong, IsLongOption}
+use Rattle.object_file.proofs.file_parts.Laws.{IsBytes, Meets, MadeOf, fits_as, ruled_meets, followed_meets, then_meets, made_meets, record_meets, spelled_once}
+use Rattle.object_file.proofs.file_parts.PartLaws.{byte_text, IsByte, IsWord, byte_meets, word_meets, long_meets}
+use Rattle.object_file.proofs.file_parts.ValueLaws.{both, and, truth_meets, option_meets, name_meets}
+use Rattle.unit_file.proofs.type_file.HeaderLaws.{list_of_meets}
 use Rattle.object_file.specs.Text.{object_text, IsObjectUnit}
 use Rattle.object_file.proofs.ObjectLaws.{object_meets}
-use Rattle.interface_file.specs.Text.{interface_text, IsInterface}
-use Rattle.interface_file.proofs.ItemLaws.{interface_meets}
+use Rattle.unit_file.specs.interface_file.Text.{interface_text, IsInterface}
+use Rattle.unit_file.proofs.interface_file.ItemLaws.{interface_meets}
 use Rattle.unit_file.specs.declared.error.UnitFileError.{UnitFileError}
 use Rattle.unit_file.specs.declared.tail.Tail.{Tail}
 use Rattle.unit_file.specs.declared.unit.UnitRecord.{UnitRecord}

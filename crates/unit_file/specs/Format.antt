@@ -3,10 +3,10 @@ use Rattle.std.specs.Prelude.{All, ◌≡◌, ℕ, ◌<◌, ◌≤◌, true, Lis
 use Rattle.type_layout.specs.Words.{IsName}
 use Rattle.typed_tree.specs.declared.units.Item.{Item}
 use Rattle.typed_tree.specs.declared.units.Item.TheVariants as item
-use Rattle.object_unit.specs.declared.object.ObjectUnit.{ObjectUnit}
-use Rattle.file_parts.specs.Spelling.{word_text, long_text, truth_text, name_text, option_text, list_text, FitEach, IsLong}
+use Rattle.object_file.specs.declared.object_unit.object.ObjectUnit.{ObjectUnit}
+use Rattle.object_file.specs.file_parts.Spelling.{word_text, long_text, truth_text, name_text, option_text, list_text, FitEach, IsLong}
 use Rattle.object_file.specs.Text.{object_text, IsObjectUnit}
-use Rattle.interface_file.specs.Text.{interface_text, IsInterface}
+use Rattle.unit_file.specs.interface_file.Text.{interface_text, IsInterface}
 use Rattle.unit_file.specs.declared.unit.UnitRecord.{UnitRecord}
 
 -- TPW1, and the version

@@ -1,12 +1,12 @@
 -- Reading a unit file from its front: the unit, or the place of damage.
 use Rattle.std.specs.Prelude.{◌≡◌, ℕ, ◌+◌, ◌-◌, max, ◌==◌, ◌&&◌, not, Bool, nat_lt, nat_le, List, [], ◌∷◌, length, Option, Some, None, Result, Ok, Err}
-use Rattle.object_unit.specs.declared.object.ObjectUnit.{ObjectUnit}
+use Rattle.object_file.specs.declared.object_unit.object.ObjectUnit.{ObjectUnit}
 use Rattle.typed_tree.specs.declared.units.Item.{Item}
 use Rattle.typed_tree.specs.declared.units.Item.TheVariants as item
 use Rattle.unit_interface.specs.declared.interfaces.Interface.{Interface}
-use Rattle.file_parts.specs.Parts.{Reader, ◌▷◌, ruled, followed, made, byte_at, word_at, long_at, truth_at, option_at, list_of, name_at}
+use Rattle.object_file.specs.file_parts.Parts.{Reader, ◌▷◌, ruled, followed, made, byte_at, word_at, long_at, truth_at, option_at, list_of, name_at}
 use Rattle.object_file.specs.Reading.{object_at}
-use Rattle.interface_file.specs.Reading.{interface_at}
+use Rattle.unit_file.specs.interface_file.Reading.{interface_at}
 use Rattle.unit_file.specs.declared.error.UnitFileError.{UnitFileError}
 use Rattle.unit_file.specs.declared.error.UnitFileError.TheVariants as error
 use Rattle.unit_file.specs.declared.unit.UnitRecord.{UnitRecord}

@@ -2,9 +2,11 @@
 #![tactic(auto)]
 
 mod error;
+pub mod interface_file;
 mod laws;
 mod reading;
 mod tail;
+pub mod type_file;
 mod unit;
 mod writing;
 

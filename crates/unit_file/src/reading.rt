@@ -1,20 +1,22 @@
 //! Reading a unit file.
 
 ghost use Rattle.std.specs.Prelude.{◌≡◌, ◌==◌, ◌-◌, Ok, IfOk};
-ghost use Rattle.file_parts.specs.Parts.{Gives as PartGives, ruled, each, list_of, name_at, word_at, long_at, option_at};
-ghost use Rattle.interface_file.specs.Reading.{interface_at};
+ghost use Rattle.object_file.specs.file_parts.Parts.{Gives as PartGives, ruled, each, list_of, name_at, word_at, long_at, option_at};
+ghost use Rattle.unit_file.specs.interface_file.Reading.{interface_at};
 ghost use Rattle.unit_file.specs.declared.unit.UnitRecord.{UnitRecord};
 ghost use Rattle.unit_file.specs.Format.{IsUnit, spelling};
 ghost use Rattle.unit_file.specs.Reading.{letter, front_at, is_stack, is_heap, globals_asked, routines_asked, most, is_start, code_at, tail_at, unit_at, unit_of, reading, Gives};
 ghost use Rattle.unit_file.specs.declared.error.UnitFileError.{UnitFileError};
 
 use crate::error::UnitFileError;
+use crate::interface_file::interface_of;
 use crate::tail::Tail;
 use crate::unit::{Interfaces, UnitRecord};
-use file_parts::{PartError, byte_of, damaged, long_of, name_of, option_of, truth_of, word_of};
-use interface_file::interface_of;
+use object_file::file_parts::{
+    PartError, byte_of, damaged, long_of, name_of, option_of, truth_of, word_of,
+};
 use object_file::object_of;
-use object_unit::ObjectUnit;
+use object_file::object_unit::ObjectUnit;
 use std::alloc::Global;
 use type_layout::Names;
 use typed_tree::Item;

@@ -1,7 +1,7 @@
 //! What stands behind the interface of a unit.
 
 use crate::unit::Interfaces;
-use object_unit::ObjectUnit;
+use object_file::object_unit::ObjectUnit;
 use type_layout::Names;
 
 /// What stands behind the interface of a unit.

@@ -1,6 +1,6 @@
 //! What a unit file holds.
 
-use object_unit::ObjectUnit;
+use object_file::object_unit::ObjectUnit;
 use type_layout::{Name, Names, Sequence};
 use unit_interface::Interface;
 

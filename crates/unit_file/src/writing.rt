@@ -2,16 +2,18 @@
 
 ghost use Rattle.std.specs.Prelude.{◌≡◌, ◌++◌, All, OnOk, IfOk};
 ghost use Rattle.std.specs.List.{flat_map};
-ghost use Rattle.file_parts.specs.Spelling.{name_text, option_text, list_text, IsLongOption};
+ghost use Rattle.object_file.specs.file_parts.Spelling.{name_text, option_text, list_text, IsLongOption};
 ghost use Rattle.object_file.specs.Text.{object_text};
-ghost use Rattle.interface_file.specs.Text.{interface_text, IsInterface};
+ghost use Rattle.unit_file.specs.interface_file.Text.{interface_text, IsInterface};
 ghost use Rattle.unit_file.specs.Format.{front, tail_text, spelling, IsUnit};
 
+use crate::interface_file::push_interface;
 use crate::unit::UnitRecord;
-use file_parts::{push_count, push_long, push_name, push_option, push_truth, push_word};
-use interface_file::push_interface;
+use object_file::file_parts::{
+    push_count, push_long, push_name, push_option, push_truth, push_word,
+};
+use object_file::object_unit::ObjectUnit;
 use object_file::push_object;
-use object_unit::ObjectUnit;
 use std::alloc::{AllocError, Global};
 use type_layout::{Bytes, Name};
 use unit_interface::Interface;

@@ -1,3 +1,4 @@
+pub use Rattle.type_layout.proofs as type_layout_proofs
 pub mod CircleLaws
 pub mod VisitLaws
 pub mod OrderLaws

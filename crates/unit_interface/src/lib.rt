@@ -21,3 +21,6 @@ pub use keys::Key;
 pub use merge::MergeError;
 pub use order::{Order, OrderError, initial_order};
 pub use resolving::{ResolveError, resolve, use_unit};
+pub use scopes;
+pub use type_layout;
+pub use typed_tree;

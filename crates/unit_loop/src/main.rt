@@ -1,7 +1,9 @@
 //! Reads a unit file with so many references and types, so many times over: to time the reader.
 #![tactic(auto)]
 
-use file_parts::{push_count, push_long, push_name, push_option, push_truth, push_word};
+use object_file::file_parts::{
+    push_count, push_long, push_name, push_option, push_truth, push_word,
+};
 use std::alloc::{AllocError, Global};
 use std::{env, io};
 use type_layout::{Bytes, Name};

@@ -3,16 +3,16 @@ use Rattle.std.proofs.Common.{◌≡◌, ◌⊎◌, inl, inr, ℕ, zero, suc, �
 use Rattle.std.specs.Prelude.{slice_get}
 use Rattle.std.specs.List.{list_any}
 use Rattle.std.proofs.lemmas.Option.{option_and_then_some}
-use Rattle.type_layout.specs.declared.definitions.TypeId.{TypeId}
-use Rattle.type_layout.specs.declared.definitions.Field.{Field}
-use Rattle.type_layout.specs.declared.definitions.Method.{Method}
-use Rattle.type_layout.specs.declared.definitions.TypeDef.{TypeDef}
-use Rattle.type_layout.specs.declared.definitions.TypeDef.TheVariants as type
-use Rattle.type_layout.specs.Words.{same_bytes}
-use Rattle.type_layout.specs.Layouts.{given_by}
-use Rattle.object_vmt.specs.Members.{Members, no_members, inherited, members_by, members_rule, members_of, members_in, nearest}
-use Rattle.object_vmt.specs.Slots.{with_slot, slots_from, slots_of, method_at}
-use Rattle.meaning.specs.Shapes.{Part, FieldPart, ClassPart, has_class_part, field_parts, class_parts, object_parts, parts_in, parts_by, parts_of, parts_at, class_place}
+use Rattle.type_soundness.specs.type_layout.declared.definitions.TypeId.{TypeId}
+use Rattle.type_soundness.specs.type_layout.declared.definitions.Field.{Field}
+use Rattle.type_soundness.specs.type_layout.declared.definitions.Method.{Method}
+use Rattle.type_soundness.specs.type_layout.declared.definitions.TypeDef.{TypeDef}
+use Rattle.type_soundness.specs.type_layout.declared.definitions.TypeDef.TheVariants as type
+use Rattle.type_soundness.specs.type_layout.Words.{same_bytes}
+use Rattle.type_soundness.specs.type_layout.Layouts.{given_by}
+use Rattle.type_soundness.specs.object_vmt.Members.{Members, no_members, inherited, members_by, members_rule, members_of, members_in, nearest}
+use Rattle.type_soundness.specs.object_vmt.Slots.{with_slot, slots_from, slots_of, method_at}
+use Rattle.type_soundness.specs.tp_meaning.Shapes.{Part, FieldPart, ClassPart, has_class_part, field_parts, class_parts, object_parts, parts_in, parts_by, parts_of, parts_at, class_place}
 use Rattle.unit_references.specs.Units.{AreMarked}
 
 -- ---- where the class lies

@@ -2,18 +2,18 @@
 use Rattle.std.proofs.Common.{◌≡◌, ◌∙◌, Bool, true, false, cond, List, [], ◌∷◌, Option, Some, None, refl, sym, ap, subst}
 use Rattle.std.specs.Prelude.{ℤ, option_and_then}
 use Rattle.std.specs.Option.{option_map}
-use Rattle.type_layout.specs.declared.definitions.TypeId.{TypeId}
-use Rattle.type_layout.specs.declared.definitions.Host.{Host}
-use Rattle.type_layout.specs.declared.definitions.Host.TheVariants as host
-use Rattle.type_layout.specs.declared.definitions.Param.{Param}
-use Rattle.type_layout.specs.declared.definitions.TypeDef.{TypeDef}
-use Rattle.type_layout.specs.declared.definitions.TypeDef.TheVariants as type
-use Rattle.type_layout.specs.Storage.{holds, integer_storage}
-use Rattle.typed_tree.specs.Expressions.{type_of, Arguments, NoArguments, ByValue, ByPlace}
-use Rattle.type_fits.specs.Fits.{definition, stored_as, family, family_of, IsSome, IsInteger, IsString, IsPointer, Descends, JoinBy}
-use Rattle.type_fits.specs.Standard.{Slot, Integer, Ordinal, Char, Text, Pointer, IntegerVariable, OrdinalVariable, TextVariable, PointerVariable, Variable, FitsValue}
-use Rattle.well_formed.specs.Scopes.{Scope}
-use Rattle.well_formed.specs.Typed.{TakeEach, FillEach, JoinsSome}
+use Rattle.type_soundness.specs.type_layout.declared.definitions.TypeId.{TypeId}
+use Rattle.type_soundness.specs.type_layout.declared.definitions.Host.{Host}
+use Rattle.type_soundness.specs.type_layout.declared.definitions.Host.TheVariants as host
+use Rattle.type_soundness.specs.type_layout.declared.definitions.Param.{Param}
+use Rattle.type_soundness.specs.type_layout.declared.definitions.TypeDef.{TypeDef}
+use Rattle.type_soundness.specs.type_layout.declared.definitions.TypeDef.TheVariants as type
+use Rattle.type_soundness.specs.type_layout.Storage.{holds, integer_storage}
+use Rattle.type_soundness.specs.typed_tree.Expressions.{type_of, Arguments, NoArguments, ByValue, ByPlace}
+use Rattle.type_soundness.specs.typed_tree.type_fits.Fits.{definition, stored_as, family, family_of, IsSome, IsInteger, IsString, IsPointer, Descends, JoinBy}
+use Rattle.type_soundness.specs.typed_tree.type_fits.Standard.{Slot, Integer, Ordinal, Char, Text, Pointer, IntegerVariable, OrdinalVariable, TextVariable, PointerVariable, Variable, FitsValue}
+use Rattle.type_soundness.specs.well_formed.Scopes.{Scope}
+use Rattle.type_soundness.specs.well_formed.Typed.{TakeEach, FillEach, JoinsSome}
 use Rattle.unit_references.specs.Held.{AreSlotsOf}
 
 -- ---- families

@@ -2,30 +2,30 @@
 use Rattle.std.proofs.Common.{◌≡◌, ℕ, true, List, [], Option, Some, None, is_some, refl, sym, ap, subst, ◌∙◌}
 use Rattle.std.specs.Prelude.{slice_get}
 use Rattle.std.proofs.lemmas.Option.{same_Some}
-use Rattle.type_layout.specs.declared.definitions.TypeId.{TypeId}
-use Rattle.type_layout.specs.declared.definitions.RoutineId.{RoutineId}
-use Rattle.type_layout.specs.declared.definitions.TypeDef.{TypeDef}
-use Rattle.type_layout.specs.declared.definitions.TypeDef.TheVariants as type
-use Rattle.type_layout.specs.Table.{IsObject, AllDefined}
-use Rattle.typed_tree.specs.declared.units.Unit.{Unit as TypedUnit}
-use Rattle.typed_tree.specs.declared.units.Program.{Program}
-use Rattle.type_fits.specs.Fits.{Descends}
-use Rattle.type_fits.specs.Fits.{IsObject as IsObjectType}
-use Rattle.well_formed.specs.Scopes.{Prototype}
-use Rattle.well_formed.specs.WellFormed.{IsOwner, scope_of}
-use Rattle.meaning.specs.Shapes.{Part, parts_at, class_place}
-use Rattle.meaning.specs.Programs.{sort_in}
-use Rattle.meaning.specs.Activations.{Callee}
-use Rattle.declared_types.specs.Declared.{declared}
-use Rattle.declared_types.specs.Agreement.{IsUnit, IsKnown}
-use Rattle.declared_types.proofs.Lines.{begins}
-use Rattle.sound_stores.proofs.Seen.{object_seen}
-use Rattle.typed_programs.specs.Outcomes.{world}
-use Rattle.typed_programs.specs.References.{IsOwned}
-use Rattle.typed_programs.specs.WellTyped.{NeedsClass, HasClassPart}
-use Rattle.sound_activations.proofs.Shared.{known_shared}
-use Rattle.sound_activations.proofs.Called.{callee_numbered}
-use Rattle.sound_activations.proofs.Classes.{place_shared}
+use Rattle.type_soundness.specs.type_layout.declared.definitions.TypeId.{TypeId}
+use Rattle.type_soundness.specs.type_layout.declared.definitions.RoutineId.{RoutineId}
+use Rattle.type_soundness.specs.type_layout.declared.definitions.TypeDef.{TypeDef}
+use Rattle.type_soundness.specs.type_layout.declared.definitions.TypeDef.TheVariants as type
+use Rattle.type_soundness.specs.type_layout.Table.{IsObject, AllDefined}
+use Rattle.type_soundness.specs.typed_tree.declared.units.Unit.{Unit as TypedUnit}
+use Rattle.type_soundness.specs.typed_tree.declared.units.Program.{Program}
+use Rattle.type_soundness.specs.typed_tree.type_fits.Fits.{Descends}
+use Rattle.type_soundness.specs.typed_tree.type_fits.Fits.{IsObject as IsObjectType}
+use Rattle.type_soundness.specs.well_formed.Scopes.{Prototype}
+use Rattle.type_soundness.specs.well_formed.WellFormed.{IsOwner, scope_of}
+use Rattle.type_soundness.specs.tp_meaning.Shapes.{Part, parts_at, class_place}
+use Rattle.type_soundness.specs.tp_meaning.Programs.{sort_in}
+use Rattle.type_soundness.specs.tp_meaning.Activations.{Callee}
+use Rattle.type_soundness.specs.store_typing.types.Declared.{declared}
+use Rattle.type_soundness.specs.store_typing.types.Agreement.{IsUnit, IsKnown}
+use Rattle.type_soundness.proofs.store_typing_proofs.types.Lines.{begins}
+use Rattle.type_soundness.proofs.store_typing_proofs.stores.Seen.{object_seen}
+use Rattle.type_soundness.specs.program_typing.programs.Outcomes.{world}
+use Rattle.type_soundness.specs.program_typing.programs.References.{IsOwned}
+use Rattle.type_soundness.specs.program_typing.programs.WellTyped.{NeedsClass, HasClassPart}
+use Rattle.type_soundness.proofs.activations.Shared.{known_shared}
+use Rattle.type_soundness.proofs.activations.Called.{callee_numbered}
+use Rattle.type_soundness.proofs.activations.Classes.{place_shared}
 use Rattle.unit_references.specs.Held.{declared_owner}
 use Rattle.unit_references.specs.Units.{HasSoundUnits}
 use Rattle.unit_references.specs.Laws.{site_in}

@@ -3,31 +3,31 @@ use Rattle.std.proofs.Common.{◌≡◌, ◌⊎◌, inl, inr, ℕ, zero, suc, Bo
 use Rattle.std.specs.Prelude.{Option, Ok, slice_get, option_and_then, if◌then◌else◌}
 use Rattle.std.specs.Option.{option_map}
 use Rattle.std.proofs.lemmas.Option.{same_Some}
-use Rattle.type_layout.specs.declared.definitions.TypeId.{TypeId}
-use Rattle.type_layout.specs.declared.definitions.RoutineId.{RoutineId}
-use Rattle.type_layout.specs.declared.definitions.Header.{Header}
-use Rattle.type_layout.specs.declared.definitions.TypeDef.{TypeDef}
-use Rattle.typed_tree.specs.declared.expressions.Variable.{Variable}
-use Rattle.typed_tree.specs.declared.units.Global.{Global}
-use Rattle.typed_tree.specs.declared.units.Routine.{Routine}
-use Rattle.typed_tree.specs.declared.units.Unit.{Unit as TypedUnit}
-use Rattle.typed_tree.specs.declared.units.Program.{Program}
-use Rattle.type_fits.specs.Fits.{definition, IsSome}
-use Rattle.well_formed.specs.Scopes.{Prototype, prototype, Scope, HasVariable, IsVariableAt, IsGlobal, IsRoutineAt, HasRoutine, IsWithin, with_outer, around_from}
-use Rattle.well_formed.specs.Scopes.{IsOfSource as IsSourced}
-use Rattle.well_formed.specs.Typed.{IsRoutineValue}
-use Rattle.meaning.specs.Trees.{Key}
-use Rattle.meaning.specs.Found.{◌>>=◌, known}
-use Rattle.meaning.specs.Programs.{sort_in, key_of, routine_key, unit_named, is_overlay, global_in, global_sort, integer_sort}
-use Rattle.meaning.specs.Activations.{Callee, callee_of}
-use Rattle.declared_types.specs.Declared.{declared_header}
-use Rattle.declared_types.specs.Agreement.{IsUnit, IsKnown}
-use Rattle.sound_stores.specs.Places.{Shared}
-use Rattle.sound_stores.proofs.Seen.{header_same}
-use Rattle.sound_places.specs.Frames.{IsGlobalOf, NamesGlobal}
-use Rattle.sound_calls.specs.Laws.{IsRound, Here, Outside}
-use Rattle.typed_programs.specs.Outcomes.{world}
-use Rattle.typed_programs.specs.References.{Site, IsVisible, Names, CallsNumber, NamesCode}
+use Rattle.type_soundness.specs.type_layout.declared.definitions.TypeId.{TypeId}
+use Rattle.type_soundness.specs.type_layout.declared.definitions.RoutineId.{RoutineId}
+use Rattle.type_soundness.specs.type_layout.declared.definitions.Header.{Header}
+use Rattle.type_soundness.specs.type_layout.declared.definitions.TypeDef.{TypeDef}
+use Rattle.type_soundness.specs.typed_tree.declared.expressions.Variable.{Variable}
+use Rattle.type_soundness.specs.typed_tree.declared.units.Global.{Global}
+use Rattle.type_soundness.specs.typed_tree.declared.units.Routine.{Routine}
+use Rattle.type_soundness.specs.typed_tree.declared.units.Unit.{Unit as TypedUnit}
+use Rattle.type_soundness.specs.typed_tree.declared.units.Program.{Program}
+use Rattle.type_soundness.specs.typed_tree.type_fits.Fits.{definition, IsSome}
+use Rattle.type_soundness.specs.well_formed.Scopes.{Prototype, prototype, Scope, HasVariable, IsVariableAt, IsGlobal, IsRoutineAt, HasRoutine, IsWithin, with_outer, around_from}
+use Rattle.type_soundness.specs.well_formed.Scopes.{IsOfSource as IsSourced}
+use Rattle.type_soundness.specs.well_formed.Typed.{IsRoutineValue}
+use Rattle.type_soundness.specs.tp_meaning.Trees.{Key}
+use Rattle.type_soundness.specs.tp_meaning.Found.{◌>>=◌, known}
+use Rattle.type_soundness.specs.tp_meaning.Programs.{sort_in, key_of, routine_key, unit_named, is_overlay, global_in, global_sort, integer_sort}
+use Rattle.type_soundness.specs.tp_meaning.Activations.{Callee, callee_of}
+use Rattle.type_soundness.specs.store_typing.types.Declared.{declared_header}
+use Rattle.type_soundness.specs.store_typing.types.Agreement.{IsUnit, IsKnown}
+use Rattle.type_soundness.specs.store_typing.stores.Places.{Shared}
+use Rattle.type_soundness.proofs.store_typing_proofs.stores.Seen.{header_same}
+use Rattle.type_soundness.specs.program_typing.lvalues.Frames.{IsGlobalOf, NamesGlobal}
+use Rattle.type_soundness.specs.program_typing.calls.Laws.{IsRound, Here, Outside}
+use Rattle.type_soundness.specs.program_typing.programs.Outcomes.{world}
+use Rattle.type_soundness.specs.program_typing.programs.References.{Site, IsVisible, Names, CallsNumber, NamesCode}
 use Rattle.unit_references.specs.Held.{declared_owner, IsOfSource, IsOfOverlay, IsRoutineHeld}
 use Rattle.unit_references.specs.Units.{HasSoundUnits}
 use Rattle.unit_references.specs.Laws.{site_in, scope_at}

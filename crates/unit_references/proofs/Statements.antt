@@ -2,24 +2,24 @@
 use Rattle.std.proofs.Common.{◌≡◌, ◌⊎◌, inl, inr, ℕ, true, List, [], ◌∷◌, ◌++◌, Option, Some, None, is_some, sym, ap, subst, ◌∙◌}
 use Rattle.std.specs.Prelude.{All, slice_get}
 use Rattle.std.proofs.lemmas.List.Elements.{All-nil, All-head, All-tail, All-cons}
-use Rattle.type_layout.specs.declared.definitions.TypeId.{TypeId}
-use Rattle.type_layout.specs.declared.definitions.RoutineId.{RoutineId}
-use Rattle.type_layout.specs.Table.{IsObject}
-use Rattle.typed_tree.specs.declared.statements.Destructor.{Destructor}
-use Rattle.typed_tree.specs.declared.statements.Destructor.TheVariants as destructor
-use Rattle.typed_tree.specs.declared.units.Unit.{Unit as TypedUnit}
-use Rattle.typed_tree.specs.declared.units.Program.{Program}
-use Rattle.typed_tree.specs.Expressions.{Expression, Arguments}
-use Rattle.typed_tree.specs.Statements.{Statement, Statements, Arms, Written, Taken, Assign, CopyAll, Run, If, While, Repeat, Block, Case, For, With, WriteItems, ReadItems, Halt, Exit, Unmake, NoStatements, Then, NoArms, Branch}
-use Rattle.well_formed.specs.Scopes.{Prototype, Scope}
-use Rattle.well_formed.specs.Typed.{TakeEach}
-use Rattle.well_formed.specs.WellFormed.{IsStatement, AreStatements, AreArms, IsWidth, IsWritten, IsTaken, IsDestructor, IsDestructorOf}
-use Rattle.meaning.specs.Shapes.{parts_at, class_place}
-use Rattle.declared_types.specs.Declared.{DeclaredHeader}
-use Rattle.declared_types.specs.Agreement.{IsUnit}
-use Rattle.typed_programs.specs.References.{Site, IsOwned}
-use Rattle.typed_programs.specs.Statements.{RefersWidth, RefersWritten, RefersRead, TakesAll, RefersDestructor, RefersStatement, RefersStatements, RefersArms}
-use Rattle.typed_programs.specs.WellTyped.{NeedsClass}
+use Rattle.type_soundness.specs.type_layout.declared.definitions.TypeId.{TypeId}
+use Rattle.type_soundness.specs.type_layout.declared.definitions.RoutineId.{RoutineId}
+use Rattle.type_soundness.specs.type_layout.Table.{IsObject}
+use Rattle.type_soundness.specs.typed_tree.declared.statements.Destructor.{Destructor}
+use Rattle.type_soundness.specs.typed_tree.declared.statements.Destructor.TheVariants as destructor
+use Rattle.type_soundness.specs.typed_tree.declared.units.Unit.{Unit as TypedUnit}
+use Rattle.type_soundness.specs.typed_tree.declared.units.Program.{Program}
+use Rattle.type_soundness.specs.typed_tree.Expressions.{Expression, Arguments}
+use Rattle.type_soundness.specs.typed_tree.Statements.{Statement, Statements, Arms, Written, Taken, Assign, CopyAll, Run, If, While, Repeat, Block, Case, For, With, WriteItems, ReadItems, Halt, Exit, Unmake, NoStatements, Then, NoArms, Branch}
+use Rattle.type_soundness.specs.well_formed.Scopes.{Prototype, Scope}
+use Rattle.type_soundness.specs.well_formed.Typed.{TakeEach}
+use Rattle.type_soundness.specs.well_formed.WellFormed.{IsStatement, AreStatements, AreArms, IsWidth, IsWritten, IsTaken, IsDestructor, IsDestructorOf}
+use Rattle.type_soundness.specs.tp_meaning.Shapes.{parts_at, class_place}
+use Rattle.type_soundness.specs.store_typing.types.Declared.{DeclaredHeader}
+use Rattle.type_soundness.specs.store_typing.types.Agreement.{IsUnit}
+use Rattle.type_soundness.specs.program_typing.programs.References.{Site, IsOwned}
+use Rattle.type_soundness.specs.program_typing.programs.Statements.{RefersWidth, RefersWritten, RefersRead, TakesAll, RefersDestructor, RefersStatement, RefersStatements, RefersArms}
+use Rattle.type_soundness.specs.program_typing.programs.WellTyped.{NeedsClass}
 use Rattle.unit_references.specs.Units.{HasSoundUnits}
 use Rattle.unit_references.specs.Laws.{site_in, scope_at}
 use Rattle.unit_references.proofs.Classes.{slot_class}

@@ -1,18 +1,18 @@
 -- Expressions and places refer to what they say.
 use Rattle.std.proofs.Common.{◌≡◌, ◌⊎◌, inl, inr, ℕ, List, [], ◌∷◌, Option, Some, None, refl, sym, ap, subst, ◌∙◌}
-use Rattle.type_layout.specs.declared.definitions.TypeId.{TypeId}
-use Rattle.type_layout.specs.declared.definitions.RoutineId.{RoutineId}
-use Rattle.type_layout.specs.declared.definitions.Param.{Param}
-use Rattle.type_layout.specs.declared.definitions.Header.{Header}
-use Rattle.typed_tree.specs.declared.units.Unit.{Unit as TypedUnit}
-use Rattle.typed_tree.specs.declared.units.Program.{Program}
-use Rattle.typed_tree.specs.Expressions.{Expression, Place, Receiver, Elements, Arguments, Const, RoutineValue, Load, Unary, Binary, Convert, Range, SetOf, Call, CallVirtual, CallThrough, Std, Make, Var, Deref, Index, FieldOf, NoReceiver, Own, NoElements, One, Span, NoArguments, ByValue, ByPlace}
-use Rattle.type_fits.specs.Fits.{definition}
-use Rattle.type_fits.specs.Standard.{Slot}
-use Rattle.well_formed.specs.Scopes.{Prototype, Scope, IsWithin}
-use Rattle.well_formed.specs.Typed.{IsTyped, HasPlace, IsOwn, TakeEach, FillEach, AreTypedElements, IsConstructorOf}
-use Rattle.declared_types.specs.Agreement.{IsUnit}
-use Rattle.typed_programs.specs.References.{Site, IsOwned, CallsNumber, CallsOverlay, Refers, RefersPlace, RefersInstance, RefersElements, RefersTaken, RefersFilled}
+use Rattle.type_soundness.specs.type_layout.declared.definitions.TypeId.{TypeId}
+use Rattle.type_soundness.specs.type_layout.declared.definitions.RoutineId.{RoutineId}
+use Rattle.type_soundness.specs.type_layout.declared.definitions.Param.{Param}
+use Rattle.type_soundness.specs.type_layout.declared.definitions.Header.{Header}
+use Rattle.type_soundness.specs.typed_tree.declared.units.Unit.{Unit as TypedUnit}
+use Rattle.type_soundness.specs.typed_tree.declared.units.Program.{Program}
+use Rattle.type_soundness.specs.typed_tree.Expressions.{Expression, Place, Receiver, Elements, Arguments, Const, RoutineValue, Load, Unary, Binary, Convert, Range, SetOf, Call, CallVirtual, CallThrough, Std, Make, Var, Deref, Index, FieldOf, NoReceiver, Own, NoElements, One, Span, NoArguments, ByValue, ByPlace}
+use Rattle.type_soundness.specs.typed_tree.type_fits.Fits.{definition}
+use Rattle.type_soundness.specs.typed_tree.type_fits.Standard.{Slot}
+use Rattle.type_soundness.specs.well_formed.Scopes.{Prototype, Scope, IsWithin}
+use Rattle.type_soundness.specs.well_formed.Typed.{IsTyped, HasPlace, IsOwn, TakeEach, FillEach, AreTypedElements, IsConstructorOf}
+use Rattle.type_soundness.specs.store_typing.types.Agreement.{IsUnit}
+use Rattle.type_soundness.specs.program_typing.programs.References.{Site, IsOwned, CallsNumber, CallsOverlay, Refers, RefersPlace, RefersInstance, RefersElements, RefersTaken, RefersFilled}
 use Rattle.unit_references.specs.Held.{declared_owner}
 use Rattle.unit_references.specs.Units.{HasSoundUnits}
 use Rattle.unit_references.specs.Laws.{site_in, scope_at}

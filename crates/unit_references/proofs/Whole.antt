@@ -1,10 +1,10 @@
 -- Sound units are a well-typed program.
 use Rattle.std.proofs.Common.{[]}
-use Rattle.typed_tree.specs.declared.units.Unit.{Unit as TypedUnit}
-use Rattle.typed_tree.specs.declared.units.Program.{Program}
-use Rattle.typed_tree.specs.Statements.{view_stmt}
-use Rattle.declared_types.specs.Agreement.{IsUnit}
-use Rattle.typed_programs.specs.WellTyped.{IsSoundUnit}
+use Rattle.type_soundness.specs.typed_tree.declared.units.Unit.{Unit as TypedUnit}
+use Rattle.type_soundness.specs.typed_tree.declared.units.Program.{Program}
+use Rattle.type_soundness.specs.typed_tree.Statements.{view_stmt}
+use Rattle.type_soundness.specs.store_typing.types.Agreement.{IsUnit}
+use Rattle.type_soundness.specs.program_typing.programs.WellTyped.{IsSoundUnit}
 use Rattle.unit_references.specs.Units.{HasSoundUnits}
 use Rattle.unit_references.specs.Laws.{StatementsRefer, UnitsAreWellTyped}
 use Rattle.unit_references.proofs.Statements.{statement_refers}

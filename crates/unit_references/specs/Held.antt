@@ -1,22 +1,22 @@
 -- What a unit supposes of others, where it is so in a program.
 use Rattle.std.specs.Prelude.{◌≡◌, ◌⊎◌, ◌≤◌, true, false, List, [], ◌∷◌, Option, Some, None, Ok, slice_get}
 use Rattle.std.specs.Option.{option_map}
-use Rattle.type_layout.specs.declared.definitions.TypeId.{TypeId}
-use Rattle.type_layout.specs.declared.definitions.Param.{Param}
-use Rattle.type_layout.specs.declared.definitions.TypeDef.{TypeDef}
-use Rattle.type_layout.specs.Table.{Table}
-use Rattle.typed_tree.specs.declared.units.Unit.{Unit as TypedUnit}
-use Rattle.typed_tree.specs.declared.units.Program.{Program}
-use Rattle.type_fits.specs.Fits.{definition}
-use Rattle.type_fits.specs.Standard.{Slot, FitsValue}
-use Rattle.well_formed.specs.Scopes.{IsOneOf, Prototype, OtherUnit, OtherGlobal, OtherRoutine, Others}
-use Rattle.meaning.specs.Trees.{Key}
-use Rattle.meaning.specs.Programs.{routine_key, is_overlay}
-use Rattle.meaning.specs.Activations.{Callee, callee_of}
-use Rattle.declared_types.specs.Declared.{declared, declared_header}
-use Rattle.declared_types.specs.Agreement.{IsUnit}
-use Rattle.sound_places.specs.Frames.{IsGlobalOf}
-use Rattle.typed_programs.specs.References.{IsOverlayRoutine}
+use Rattle.type_soundness.specs.type_layout.declared.definitions.TypeId.{TypeId}
+use Rattle.type_soundness.specs.type_layout.declared.definitions.Param.{Param}
+use Rattle.type_soundness.specs.type_layout.declared.definitions.TypeDef.{TypeDef}
+use Rattle.type_soundness.specs.type_layout.Table.{Table}
+use Rattle.type_soundness.specs.typed_tree.declared.units.Unit.{Unit as TypedUnit}
+use Rattle.type_soundness.specs.typed_tree.declared.units.Program.{Program}
+use Rattle.type_soundness.specs.typed_tree.type_fits.Fits.{definition}
+use Rattle.type_soundness.specs.typed_tree.type_fits.Standard.{Slot, FitsValue}
+use Rattle.type_soundness.specs.well_formed.Scopes.{IsOneOf, Prototype, OtherUnit, OtherGlobal, OtherRoutine, Others}
+use Rattle.type_soundness.specs.tp_meaning.Trees.{Key}
+use Rattle.type_soundness.specs.tp_meaning.Programs.{routine_key, is_overlay}
+use Rattle.type_soundness.specs.tp_meaning.Activations.{Callee, callee_of}
+use Rattle.type_soundness.specs.store_typing.types.Declared.{declared, declared_header}
+use Rattle.type_soundness.specs.store_typing.types.Agreement.{IsUnit}
+use Rattle.type_soundness.specs.program_typing.lvalues.Frames.{IsGlobalOf}
+use Rattle.type_soundness.specs.program_typing.programs.References.{IsOverlayRoutine}
 
 -- ---- routines
 

@@ -1,17 +1,17 @@
 -- Where what units suppose of others is so, their trees refer to what they say.
 use Rattle.std.specs.Prelude.{ℕ, List, All}
-use Rattle.type_layout.specs.declared.definitions.TypeId.{TypeId}
-use Rattle.typed_tree.specs.declared.units.Unit.{Unit as TypedUnit}
-use Rattle.typed_tree.specs.declared.units.Program.{Program}
-use Rattle.typed_tree.specs.Statements.{Statement}
-use Rattle.well_formed.specs.Scopes.{Scope}
-use Rattle.well_formed.specs.WellFormed.{IsStatement}
-use Rattle.declared_types.specs.Agreement.{IsUnit}
-use Rattle.sound_standards.specs.Laws.{HasClasses}
-use Rattle.typed_programs.specs.References.{Site}
-use Rattle.typed_programs.specs.Statements.{RefersStatement}
-use Rattle.typed_programs.specs.WellTyped.{HasMethods, IsWellTyped}
-use Rattle.typed_programs.specs.Tasks.{scope_with}
+use Rattle.type_soundness.specs.type_layout.declared.definitions.TypeId.{TypeId}
+use Rattle.type_soundness.specs.typed_tree.declared.units.Unit.{Unit as TypedUnit}
+use Rattle.type_soundness.specs.typed_tree.declared.units.Program.{Program}
+use Rattle.type_soundness.specs.typed_tree.Statements.{Statement}
+use Rattle.type_soundness.specs.well_formed.Scopes.{Scope}
+use Rattle.type_soundness.specs.well_formed.WellFormed.{IsStatement}
+use Rattle.type_soundness.specs.store_typing.types.Agreement.{IsUnit}
+use Rattle.type_soundness.specs.store_typing.standard.Laws.{HasClasses}
+use Rattle.type_soundness.specs.program_typing.programs.References.{Site}
+use Rattle.type_soundness.specs.program_typing.programs.Statements.{RefersStatement}
+use Rattle.type_soundness.specs.program_typing.programs.WellTyped.{HasMethods, IsWellTyped}
+use Rattle.type_soundness.specs.program_typing.programs.Tasks.{scope_with}
 use Rattle.unit_references.specs.Units.{IsSupported, HasSoundUnits}
 
 abbrev pub site_in : Program → TypedUnit → ℕ → Site

@@ -1,17 +1,17 @@
 -- What a well-typed program asks of each unit beside that it is well-formed.
 use Rattle.std.specs.Prelude.{◌≡◌, ℕ, Bool, true, false, All, List, Option, Some, slice_get}
-use Rattle.type_layout.specs.declared.definitions.TypeId.{TypeId}
-use Rattle.type_layout.specs.declared.definitions.Field.{Field}
-use Rattle.type_layout.specs.declared.definitions.Method.{Method}
-use Rattle.type_layout.specs.declared.definitions.TypeDef.{TypeDef}
-use Rattle.type_layout.specs.declared.definitions.TypeDef.TheVariants as type
-use Rattle.typed_tree.specs.declared.units.Routine.{Routine}
-use Rattle.typed_tree.specs.declared.units.Unit.{Unit as TypedUnit}
-use Rattle.typed_tree.specs.declared.units.Program.{Program}
-use Rattle.well_formed.specs.WellFormed.{IsWellFormed}
-use Rattle.meaning.specs.Programs.{is_overlay}
-use Rattle.declared_types.specs.Agreement.{IsUnit, AreConsistent}
-use Rattle.typed_programs.specs.WellTyped.{IsSoundRoutine, HasFirst}
+use Rattle.type_soundness.specs.type_layout.declared.definitions.TypeId.{TypeId}
+use Rattle.type_soundness.specs.type_layout.declared.definitions.Field.{Field}
+use Rattle.type_soundness.specs.type_layout.declared.definitions.Method.{Method}
+use Rattle.type_soundness.specs.type_layout.declared.definitions.TypeDef.{TypeDef}
+use Rattle.type_soundness.specs.type_layout.declared.definitions.TypeDef.TheVariants as type
+use Rattle.type_soundness.specs.typed_tree.declared.units.Routine.{Routine}
+use Rattle.type_soundness.specs.typed_tree.declared.units.Unit.{Unit as TypedUnit}
+use Rattle.type_soundness.specs.typed_tree.declared.units.Program.{Program}
+use Rattle.type_soundness.specs.well_formed.WellFormed.{IsWellFormed}
+use Rattle.type_soundness.specs.tp_meaning.Programs.{is_overlay}
+use Rattle.type_soundness.specs.store_typing.types.Agreement.{IsUnit, AreConsistent}
+use Rattle.type_soundness.specs.program_typing.programs.WellTyped.{IsSoundRoutine, HasFirst}
 use Rattle.unit_references.specs.Held.{AreHeld}
 
 -- It has not the name of the unit Overlay; its globals begin with bytes, and with no object; its methods are declared in no other routine,

@@ -1,8 +1,8 @@
-use values::bits::{
+use common_values::bits::{
     absolute, bitwise_and, bitwise_not, bitwise_or, bitwise_xor, first_byte, second_byte, squared,
     swapped,
 };
-use values::ordinals::IntegerType;
+use common_values::ordinals::IntegerType;
 
 #[test]
 fn operators_work_on_the_bits_of_the_type(rt: HostRuntime) {

@@ -1,4 +1,4 @@
-use values::blocks::{AddError, Blocks, rounded};
+use common_values::blocks::{AddError, Blocks, rounded};
 
 #[test]
 fn sizes_are_rounded_to_eights(rt: HostRuntime) {

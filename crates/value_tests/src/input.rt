@@ -1,4 +1,4 @@
-use values::input::{after_line, is_eof, is_eoln, read_char, read_number, read_string};
+use common_values::input::{after_line, is_eof, is_eoln, read_char, read_number, read_string};
 
 #[test]
 fn ends_of_lines_and_of_input(rt: HostRuntime) {

@@ -17,5 +17,6 @@ mod sets;
 mod store;
 #[cfg(test)]
 mod strings;
+pub mod value_operators_tests;
 #[cfg(test)]
 mod written;

@@ -1,4 +1,4 @@
-use values::numerals::{numeral_of, val_of};
+use common_values::numerals::{numeral_of, val_of};
 
 #[test]
 fn numerals_and_their_faults(rt: HostRuntime) {

@@ -1,4 +1,4 @@
-use values::ordinals::{
+use common_values::ordinals::{
     IntegerType, is_within, kept, left_shift, quotient, remainder, right_shift,
 };
 

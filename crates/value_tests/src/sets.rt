@@ -1,8 +1,8 @@
-use std::test::Fail;
-use values::sets::{
+use common_values::sets::{
     assigned, contains, difference, intersection, is_member, is_same, is_subset, set_byte,
     set_bytes, set_size, union, with_range,
 };
+use std::test::Fail;
 
 #[test]
 fn operators_on_elements(rt: HostRuntime) -> Result<(), Fail> {

@@ -1,6 +1,6 @@
 //! Cells, texts, variables and blocks.
 
-use cell_store::{Key, Spot, Stop, Store, Trap, Tree, Value};
+use interpreter_store::cell_store::{Key, Spot, Stop, Store, Trap, Tree, Value};
 use std::alloc::{AllocError, Global};
 use std::test::Fail;
 use type_layout::{Name, Sequence};

@@ -1,6 +1,8 @@
+use common_values::strings::{
+    compared, copied, cut, deleted, inserted, joined, position_of, upper,
+};
 use std::cmp::Ordering;
 use std::test::Fail;
-use values::strings::{compared, copied, cut, deleted, inserted, joined, position_of, upper};
 
 #[test]
 fn pieces_within_and_past_the_ends(rt: HostRuntime) -> Result<(), Fail> {

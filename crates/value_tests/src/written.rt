@@ -1,6 +1,6 @@
+use common_values::numerals::numeral_of;
+use common_values::written::{boolean_text, error_text, integer_text, padded, str_text};
 use std::test::Fail;
-use values::numerals::numeral_of;
-use values::written::{boolean_text, error_text, integer_text, padded, str_text};
 
 #[test]
 fn fields_are_filled_and_never_cut(rt: HostRuntime) -> Result<(), Fail> {

@@ -2,7 +2,7 @@
 use Rattle.std.proofs.Common.{◌≡◌, inl, inr, ℕ, Option, Some, None, refl, ap, arith}
 use Rattle.type_layout.specs.declared.definitions.TypeId.{TypeId}
 use Rattle.typed_tree.specs.Expressions.{Load, Var}
-use Rattle.type_fits.specs.Fits.{definition, IsStructured}
+use Rattle.typed_tree.specs.type_fits.Fits.{definition, IsStructured}
 use Rattle.well_formed.specs.Scopes.{IsVariableAt}
 use Rattle.well_formed.specs.Typed.{IsTyped}
 use Rattle.well_formed.specs.Example.{counting, counter, integer, boolean, IsExample}

@@ -14,8 +14,8 @@ use Rattle.typed_tree.specs.declared.expressions.BinaryOp.{BinaryOp}
 use Rattle.typed_tree.specs.declared.expressions.BinaryOp.TheVariants.{Add, Subtract, Multiply, Divide, Modulo, ShiftLeft, ShiftRight, And, Or, Xor, Equal, NotEqual, Less, LessOrEqual, Greater, GreaterOrEqual, In}
 use Rattle.typed_tree.specs.Expressions.{type_of, Expression, Const, RoutineValue, Load, Unary, Binary, Convert, Range, SetOf, Call, CallVirtual, CallThrough, Std, Make, Var, Deref, Index, FieldOf}
 use Rattle.typed_tree.specs.Slots.{slot_of_definition, slot_of_constant, slot_of}
-use Rattle.type_fits.specs.Fits.{definition, stored_as, IsSome, IsValue}
-use Rattle.type_fits.specs.Operators.{FitsUnary, FitsBinary, IsConversion}
+use Rattle.typed_tree.specs.type_fits.Fits.{definition, stored_as, IsSome, IsValue}
+use Rattle.typed_tree.specs.type_fits.Operators.{FitsUnary, FitsBinary, IsConversion}
 use Rattle.well_formed.specs.Typed.{sort_of}
 use Rattle.well_formed.specs.Laws.{IsSlot, HaveTypes, HaveSlots, PlacesHaveTypes}
 

@@ -3,7 +3,7 @@ use Rattle.std.specs.Prelude.{◌≡◌, ◌⊎◌, ℕ}
 use Rattle.type_layout.specs.declared.definitions.TypeId.{TypeId}
 use Rattle.typed_tree.specs.Expressions.{Expression, Place, type_of}
 use Rattle.typed_tree.specs.Slots.{slot_of}
-use Rattle.type_fits.specs.Fits.{IsSome}
+use Rattle.typed_tree.specs.type_fits.Fits.{IsSome}
 use Rattle.well_formed.specs.Scopes.{Scope, HasType}
 use Rattle.well_formed.specs.Typed.{IsTyped, HasPlace, sort_of}
 

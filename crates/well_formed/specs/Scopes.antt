@@ -7,8 +7,8 @@ use Rattle.type_layout.specs.declared.definitions.TypeDef.{TypeDef}
 use Rattle.type_layout.specs.Words.{same_bytes}
 use Rattle.typed_tree.specs.declared.expressions.Variable.{Variable}
 use Rattle.typed_tree.specs.declared.units.Routine.{Routine}
-use Rattle.type_fits.specs.Fits.{IsSome, definition}
-use Rattle.type_fits.specs.Routines.{variables_of}
+use Rattle.typed_tree.specs.type_fits.Fits.{IsSome, definition}
+use Rattle.typed_tree.specs.type_fits.Routines.{variables_of}
 
 -- one of the members of a list
 abbrev pub IsOneOf : {A : Type 0} → A → List A → Type 0

@@ -9,10 +9,10 @@ use Rattle.type_layout.specs.declared.definitions.Kind.TheVariants as kind
 use Rattle.type_layout.specs.declared.definitions.TypeDef.{TypeDef}
 use Rattle.type_layout.specs.declared.definitions.TypeDef.TheVariants as type
 use Rattle.typed_tree.specs.Expressions.{type_of, Expression, Place, Receiver, Elements, Arguments, Const, RoutineValue, Load, Unary, Binary, Convert, Range, SetOf, Call, CallVirtual, CallThrough, Std, Make, Var, Deref, Index, FieldOf, NoReceiver, Own, NoElements, One, Span, NoArguments, ByValue, ByPlace}
-use Rattle.type_fits.specs.Fits.{definition, stored_as, IsSome, IsInteger, IsChar, AreOfOneFamily, IsObject, Descends, field_type, AreSameHeaders, Joins, IsValue}
-pub use Rattle.type_fits.specs.Standard.{sort_of}
-use Rattle.type_fits.specs.Standard.{Slot, FitsValue, FitsVariable, Outcome, Gives, IsStandard}
-use Rattle.type_fits.specs.Operators.{FitsUnary, FitsBinary, MayBeEarly, IsConversion}
+use Rattle.typed_tree.specs.type_fits.Fits.{definition, stored_as, IsSome, IsInteger, IsChar, AreOfOneFamily, IsObject, Descends, field_type, AreSameHeaders, Joins, IsValue}
+pub use Rattle.typed_tree.specs.type_fits.Standard.{sort_of}
+use Rattle.typed_tree.specs.type_fits.Standard.{Slot, FitsValue, FitsVariable, Outcome, Gives, IsStandard}
+use Rattle.typed_tree.specs.type_fits.Operators.{FitsUnary, FitsBinary, MayBeEarly, IsConversion}
 use Rattle.object_vmt.specs.Members.{members_of, members_in}
 use Rattle.object_vmt.specs.Slots.{method_at}
 use Rattle.well_formed.specs.Scopes.{Prototype, Scope, HasType, HasResult, IsOfSource, HasVariable, HasRoutine, IsWithin}

@@ -19,8 +19,8 @@ use Rattle.typed_tree.specs.declared.units.Routine.{Routine}
 use Rattle.typed_tree.specs.declared.units.Unit.{Unit as TypedUnit}
 use Rattle.typed_tree.specs.Expressions.{Expression, Place, Arguments, Call, CallVirtual, CallThrough, Std}
 use Rattle.typed_tree.specs.Statements.{Statement, Statements, Arms, Written, Taken, Assign, CopyAll, Run, If, While, Repeat, Block, Case, For, With, WriteItems, ReadItems, Halt, Exit, Unmake, NoStatements, Then, NoArms, Branch, view_stmt}
-use Rattle.type_fits.specs.Fits.{definition, family_of, IsSome, IsInteger, IsBoolean, IsObject, IsRecord, IsStructured, IsReadable, IsWritable, AreStoredAlike, AreSameHeaders, Descends, IsValue}
-use Rattle.type_fits.specs.Routines.{HasInitial}
+use Rattle.typed_tree.specs.type_fits.Fits.{definition, family_of, IsSome, IsInteger, IsBoolean, IsObject, IsRecord, IsStructured, IsReadable, IsWritable, AreStoredAlike, AreSameHeaders, Descends, IsValue}
+use Rattle.typed_tree.specs.type_fits.Routines.{HasInitial}
 use Rattle.well_formed.specs.Scopes.{Prototype, Others, Scope, HasType, HasResult, HasVariable, HasRoutine, around_from, levels_from}
 use Rattle.well_formed.specs.Typed.{IsTyped, HasPlace, Takes, TakeEach, SlotFits, sort_of}
 

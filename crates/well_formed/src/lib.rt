@@ -2,5 +2,8 @@
 #![tactic(auto)]
 
 mod laws;
+pub mod weakening;
 
 pub use laws::typed_laws;
+pub use type_layout;
+pub use typed_tree;

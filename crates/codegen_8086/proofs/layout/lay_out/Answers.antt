@@ -1,8 +1,8 @@
 use Rattle.std.proofs.Common.{◌≡◌, ◌++◌, length, sym, ap, subst, ◌∙◌}
 use Rattle.x86_table.specs.Lines.{ShortJumpsReach, Shortens}
 use Rattle.flat_code.specs.Plain.{view_routine, view_unit}
-use Rattle.code_references.specs.Marks.{lines_of}
-use Rattle.code_references.specs.Marked.{marked_routine}
+use Rattle.code_templates.specs.code_references.Marks.{lines_of}
+use Rattle.code_templates.specs.code_references.Marked.{marked_routine}
 use Rattle.codegen_8086.proofs.Reach.{marked-reaches}
 use Rattle.codegen_8086.proofs.layout.lay_out.Goals as goal
 

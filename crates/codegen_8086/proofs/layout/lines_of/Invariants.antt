@@ -1,5 +1,5 @@
 use Rattle.std.proofs.Common.{◌≡◌, ◌++◌, drop}
-use Rattle.code_references.specs.Marks.{lines_of}
+use Rattle.code_templates.specs.code_references.Marks.{lines_of}
 use Rattle.codegen_8086.proofs.layout.lines_of.Given as goal
 
 abbrev pub invariant-loop-line : goal.invariant-loop-line

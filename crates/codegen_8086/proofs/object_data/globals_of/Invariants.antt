@@ -1,5 +1,5 @@
 use Rattle.std.proofs.Common.{◌≡◌, ◌++◌, map, drop}
-use Rattle.object_code.specs.Objects.{global_of, pointer_of}
+use Rattle.codegen_8086.specs.object_code.Objects.{global_of, pointer_of}
 use Rattle.codegen_8086.proofs.object_data.globals_of.Given as goal
 
 abbrev pub invariant-loop-datum : goal.invariant-loop-datum

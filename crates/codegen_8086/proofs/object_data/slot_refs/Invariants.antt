@@ -1,5 +1,5 @@
 use Rattle.std.proofs.Common.{◌≡◌, ◌++◌, drop}
-use Rattle.object_code.specs.Objects.{slot_refs}
+use Rattle.codegen_8086.specs.object_code.Objects.{slot_refs}
 use Rattle.codegen_8086.proofs.object_data.slot_refs.Given as goal
 
 abbrev pub invariant-loop-routine : goal.invariant-loop-routine

@@ -1,5 +1,5 @@
 use Rattle.std.proofs.Common.{◌≡◌, ◌++◌, map, drop}
-use Rattle.object_code.specs.Objects.{vmt_of}
+use Rattle.codegen_8086.specs.object_code.Objects.{vmt_of}
 use Rattle.codegen_8086.proofs.object_data.vmts_of.Given as goal
 
 abbrev pub invariant-loop-vmt : goal.invariant-loop-vmt

@@ -1,5 +1,5 @@
 use Rattle.std.proofs.Common.{◌∙◌}
-use Rattle.object_code.specs.References.{refs_at}
+use Rattle.codegen_8086.specs.object_code.References.{refs_at}
 use Rattle.codegen_8086.proofs.Refs.{refs-some, refs-none}
 use Rattle.codegen_8086.proofs.references.refs_at.Goals.{in-Some+in_ok-ref_of+in_ok-push, in_default}
 use Rattle.codegen_8086.proofs.references.refs_at.Goals as goal

@@ -1,5 +1,5 @@
 use Rattle.std.proofs.Common.{◌≡◌, ◌++◌, drop}
-use Rattle.object_code.specs.References.{refs_at}
+use Rattle.codegen_8086.specs.object_code.References.{refs_at}
 use Rattle.codegen_8086.proofs.references.refs_at.Given as goal
 
 abbrev pub invariant-loop-number : goal.invariant-loop-number

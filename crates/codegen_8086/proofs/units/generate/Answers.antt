@@ -1,7 +1,7 @@
 use Rattle.std.proofs.Common.{◌+◌, ◌<◌, [], ◌∷◌, ◌++◌, length, get_or, ap, subst, ◌∙◌}
 use Rattle.x86_table.specs.Lines.{code_size}
 use Rattle.flat_code.specs.Plain.{view_unit}
-use Rattle.object_code.specs.Objects.{code_of}
+use Rattle.codegen_8086.specs.object_code.Objects.{code_of}
 use Rattle.codegen_8086.proofs.Laid.{progress-next}
 use Rattle.codegen_8086.proofs.units.generate.Goals as goal
 

@@ -1,5 +1,5 @@
 use Rattle.std.proofs.Common.{Err, ap}
-use Rattle.opened_program.specs.declared.error.OpenError.{OpenError}
+use Rattle.dos_runner.specs.declared.opened_program.error.OpenError.{OpenError}
 use Rattle.commands.specs.declared.names.FileKind.TheVariants.{Overlays}
 use Rattle.commands.specs.Files.{file_of}
 use Rattle.commands.proofs.BuildLaws.{not_opened_as, prepared_by, why_by}

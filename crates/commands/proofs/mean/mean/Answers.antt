@@ -1,6 +1,6 @@
 use Rattle.std.proofs.Common.{ℕ, Err, inl, inr, refl, ap, subst}
-use Rattle.outcomes.specs.declared.outcome.Outcome.{Outcome}
-use Rattle.mean_program.specs.Shown.{Shows}
+use Rattle.checked_front_end.specs.front_end.declared.outcomes.outcome.Outcome.{Outcome}
+use Rattle.commands.specs.mean_program.Shown.{Shows}
 use Rattle.commands.specs.Mean.{sinks_of}
 use Rattle.commands.specs.World.{World, world}
 use Rattle.commands.proofs.HeldLaws.{none_found, program_in}

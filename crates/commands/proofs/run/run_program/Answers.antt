@@ -1,5 +1,5 @@
 use Rattle.std.proofs.Common.{inr, ap, ◌∙◌}
-use Rattle.overlay_runner.specs.declared.runner.Runner.{Runner}
+use Rattle.dos_runner.specs.declared.overlay_runner.runner.Runner.{Runner}
 use Rattle.commands.specs.World.{World, world}
 use Rattle.commands.proofs.RanLaws.{ran_from, rises_behind}
 use Rattle.commands.proofs.run.run_program.Goals as goal

@@ -1,5 +1,5 @@
 use Rattle.std.proofs.Common.{◌≡◌}
-use Rattle.outcomes.specs.declared.outcome.Outcome.TheVariants as outcome
+use Rattle.front_end.specs.declared.outcomes.outcome.Outcome.TheVariants as outcome
 use Rattle.front_end.proofs.Whys.{untyped_declines, untyped_not, ungathered}
 use Rattle.front_end.proofs.program.typed_sources.Goals as goal
 

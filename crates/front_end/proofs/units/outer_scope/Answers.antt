@@ -1,6 +1,6 @@
 use Rattle.std.proofs.Common.{subst}
 use Rattle.std.proofs.lemmas.Result.{on_ok_weaker}
-use Rattle.source_interfaces.specs.Scopes.{AreThere}
+use Rattle.front_end.specs.source_interfaces.Scopes.{AreThere}
 use Rattle.front_end.proofs.units.outer_scope.Goals as goal
 
 pub returns-then-outer-uses-clause-there : goal.returns-then-outer-uses-clause-there

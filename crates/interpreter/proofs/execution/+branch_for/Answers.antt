@@ -1,8 +1,8 @@
 use Rattle.std.proofs.Common.{◌≡◌, true, false, refl, sym, ap, ◌∙◌, w32}
 use Rattle.std.specs.List.{list_any}
 use Rattle.std.proofs.lemmas.Int.{to_z-of_z}
-use Rattle.meaning.specs.Statements.{covers}
-use Rattle.interpreter_frames.proofs.Lists.{nil_of, cons_of}
+use Rattle.tp_meaning.specs.Statements.{covers}
+use Rattle.interpreter_steps.proofs.interpreter_frames.Lists.{nil_of, cons_of}
 use Rattle.interpreter.proofs.execution.+branch_for.Goals as goal
 
 pub returns-in-empty : goal.returns-in-empty

@@ -1,4 +1,4 @@
-use Rattle.interpreter_frames.proofs.Moves.{moves3}
+use Rattle.interpreter_steps.proofs.interpreter_frames.Moves.{moves3}
 use Rattle.interpreter.proofs.Binds.{two_binds, three_binds, four_binds}
 use Rattle.interpreter.proofs.loops.test_while.Goals as goal
 

@@ -1,5 +1,5 @@
 use Rattle.std.proofs.Common.{sym, ap, ◌∙◌}
-use Rattle.meaning.specs.Meaning.{seen_of}
+use Rattle.tp_meaning.specs.Meaning.{seen_of}
 use Rattle.interpreter.proofs.Starts.{start_is}
 use Rattle.interpreter.proofs.program.mean.Goals as goal
 

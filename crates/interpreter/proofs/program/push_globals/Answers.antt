@@ -1,5 +1,5 @@
 use Rattle.std.proofs.Common.{arith}
-use Rattle.cell_store.specs.Views.{view_store, view_tree}
+use Rattle.interpreter_store.specs.cell_store.Views.{view_store, view_tree}
 use Rattle.interpreter.proofs.Starts.{none_made, global_made}
 use Rattle.interpreter.proofs.program.push_globals.Goals as goal
 

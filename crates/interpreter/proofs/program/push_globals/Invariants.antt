@@ -1,7 +1,7 @@
 -- The globals so far are made.
 use Rattle.std.proofs.Common.{◌≡◌, take}
-use Rattle.meaning.specs.Store.{with_new}
-use Rattle.cell_store.specs.Views.{view_store}
+use Rattle.tp_meaning.specs.Store.{with_new}
+use Rattle.interpreter_store.specs.cell_store.Views.{view_store}
 use Rattle.interpreter.specs.Whole.{global_objects}
 use Rattle.interpreter.proofs.program.push_globals.Given as goal
 

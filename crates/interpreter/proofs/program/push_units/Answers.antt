@@ -1,8 +1,8 @@
 use Rattle.std.proofs.Common.{arith, List, ap, ◌∙◌}
 use Rattle.typed_tree.specs.declared.units.Global.{Global}
-use Rattle.meaning.specs.Store.{with_new}
+use Rattle.tp_meaning.specs.Store.{with_new}
 use Rattle.interpreter.specs.Whole.{global_objects}
-use Rattle.cell_store.specs.Views.{view_store}
+use Rattle.interpreter_store.specs.cell_store.Views.{view_store}
 use Rattle.interpreter.proofs.Starts.{none_made, unit_made}
 use Rattle.interpreter.proofs.program.push_units.Goals as goal
 

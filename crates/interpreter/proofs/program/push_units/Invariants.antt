@@ -1,9 +1,9 @@
 -- The globals of the units so far are made.
 use Rattle.std.proofs.Common.{◌≡◌, take}
 use Rattle.std.specs.List.{flat_map}
-use Rattle.meaning.specs.Store.{with_new}
-use Rattle.meaning.specs.Meaning.{unit_objects}
-use Rattle.cell_store.specs.Views.{view_store}
+use Rattle.tp_meaning.specs.Store.{with_new}
+use Rattle.tp_meaning.specs.Meaning.{unit_objects}
+use Rattle.interpreter_store.specs.cell_store.Views.{view_store}
 use Rattle.interpreter.proofs.program.push_units.Given as goal
 
 abbrev pub invariant-units : goal.invariant-units

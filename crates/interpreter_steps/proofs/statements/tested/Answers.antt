@@ -3,8 +3,8 @@ use Rattle.std.proofs.lemmas.Int.{ints, to_z-of_z}
 use Rattle.std.proofs.lemmas.Result.{err_from_is_err_and}
 use Rattle.std.specs.Option.{option_copied}
 use Rattle.type_layout.specs.Layouts.{bounds_of}
-use Rattle.cell_store.specs.Finding.{view_trap}
-use Rattle.meaning.specs.Operators.{within}
+use Rattle.interpreter_store.specs.cell_store.Finding.{view_trap}
+use Rattle.tp_meaning.specs.Operators.{within}
 use Rattle.interpreter_steps.proofs.Ends.{trap_ends}
 use Rattle.interpreter_steps.proofs.statements.tested.Goals as goal
 

@@ -3,8 +3,8 @@ use Rattle.std.specs.Prelude.{ℤ}
 use Rattle.std.specs.Option.{option_copied}
 use Rattle.std.proofs.lemmas.Int.{to_z-of_z}
 use Rattle.type_layout.specs.declared.definitions.TypeDef.{TypeDef}
-use Rattle.meaning.specs.Programs.{definition, sort_in}
-use Rattle.meaning.specs.Statements.{tested}
+use Rattle.tp_meaning.specs.Programs.{definition, sort_in}
+use Rattle.tp_meaning.specs.Statements.{tested}
 use Rattle.interpreter_steps.specs.Running.{Comes}
 use Rattle.interpreter_steps.proofs.statements.tested_in.Goals as goal
 

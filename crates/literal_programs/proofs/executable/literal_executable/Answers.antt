@@ -1,5 +1,5 @@
 use Rattle.std.proofs.Common.{◌≡◌, Some, None, sym, ◌∙◌}
-use Rattle.literal_code.specs.LiteralProgram.{statements_of}
+use Rattle.literal_programs.specs.literal_code.LiteralProgram.{statements_of}
 use Rattle.literal_programs.specs.Literals.{Says}
 use Rattle.literal_programs.specs.Reading.{said_by}
 use Rattle.literal_programs.proofs.Read.{says_from_read, read_from_says}

@@ -1,6 +1,6 @@
 use Rattle.std.proofs.Common.{◌≡◌, drop}
 use Rattle.typed_tree.specs.Statements.{view_stmts}
-use Rattle.literal_code.specs.LiteralProgram.{statements_of, IsFull}
+use Rattle.literal_programs.specs.literal_code.LiteralProgram.{statements_of, IsFull}
 use Rattle.literal_programs.specs.Reading.{with_statements}
 use Rattle.literal_programs.proofs.reading.+statements.Given as goal
 

@@ -1,8 +1,8 @@
 use Rattle.std.proofs.Common.{◌≡◌, ℕ, ◌+◌, ◌-◌, List, [], ◌∷◌, ◌++◌, sym, subst}
 use Rattle.std.proofs.lemmas.Result.{err_from_is_err_and}
-use Rattle.object_unit.specs.declared.object.Code8086.{Code8086}
-use Rattle.file_parts.specs.Parts.{in_turn}
-use Rattle.file_parts.proofs.LoopLaws.{with_front, loop-next, loop-stop, loop-end}
+use Rattle.object_file.specs.declared.object_unit.object.Code8086.{Code8086}
+use Rattle.object_file.specs.file_parts.Parts.{in_turn}
+use Rattle.object_file.proofs.file_parts.LoopLaws.{with_front, loop-next, loop-stop, loop-end}
 use Rattle.object_file.specs.Text.{room_behind}
 use Rattle.object_file.specs.Reading.{code_at}
 use Rattle.object_file.proofs.reading.codes_in_turn.Goals as goal

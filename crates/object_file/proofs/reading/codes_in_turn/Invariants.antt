@@ -1,6 +1,6 @@
 use Rattle.std.proofs.Common.{◌≡◌, ◌-◌}
-use Rattle.file_parts.specs.Parts.{in_turn}
-use Rattle.file_parts.proofs.LoopLaws.{with_front}
+use Rattle.object_file.specs.file_parts.Parts.{in_turn}
+use Rattle.object_file.proofs.file_parts.LoopLaws.{with_front}
 use Rattle.object_file.specs.Text.{room_behind}
 use Rattle.object_file.specs.Reading.{code_at}
 use Rattle.object_file.proofs.reading.codes_in_turn.Given as goal

@@ -1,8 +1,8 @@
 use Rattle.std.proofs.Common.{◌≡◌, ◌+◌, ◌-◌, List, sym, subst}
 use Rattle.std.proofs.lemmas.Result.{err_from_is_err_and}
-use Rattle.object_unit.specs.declared.object.Datum.{Datum}
-use Rattle.file_parts.specs.Parts.{Reader, each}
-use Rattle.file_parts.proofs.LoopLaws.{with_front, loop-next, loop-stop, loop-end}
+use Rattle.object_file.specs.declared.object_unit.object.Datum.{Datum}
+use Rattle.object_file.specs.file_parts.Parts.{Reader, each}
+use Rattle.object_file.proofs.file_parts.LoopLaws.{with_front, loop-next, loop-stop, loop-end}
 use Rattle.object_file.specs.Reading.{datum_at}
 use Rattle.object_file.proofs.reading.data_in_turn.Goals as goal
 

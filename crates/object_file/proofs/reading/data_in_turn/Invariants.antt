@@ -1,6 +1,6 @@
 use Rattle.std.proofs.Common.{◌≡◌, ◌-◌}
-use Rattle.file_parts.specs.Parts.{each}
-use Rattle.file_parts.proofs.LoopLaws.{with_front}
+use Rattle.object_file.specs.file_parts.Parts.{each}
+use Rattle.object_file.proofs.file_parts.LoopLaws.{with_front}
 use Rattle.object_file.specs.Reading.{datum_at}
 use Rattle.object_file.proofs.reading.data_in_turn.Given as goal
 

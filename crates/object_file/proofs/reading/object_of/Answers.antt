@@ -1,6 +1,6 @@
 use Rattle.std.proofs.Common.{ℕ, List, Result, ap, subst, ◌∙◌, arith}
-use Rattle.object_unit.specs.declared.object.ObjectUnit.{ObjectUnit}
-use Rattle.file_parts.specs.Parts.{Gives}
+use Rattle.object_file.specs.declared.object_unit.object.ObjectUnit.{ObjectUnit}
+use Rattle.object_file.specs.file_parts.Parts.{Gives}
 use Rattle.object_file.specs.Reading.{object_at}
 use Rattle.object_file.proofs.ObjectLaws.{object_meets, object-found}
 use Rattle.object_file.proofs.reading.object_of.Goals as goal

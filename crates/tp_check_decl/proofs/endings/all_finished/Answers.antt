@@ -2,8 +2,8 @@ use Rattle.std.proofs.Common.{◌≡◌, ◌∙◌, List, [], ◌∷◌, length,
 use Rattle.std.proofs.lemmas.List.{map-append}
 use Rattle.std.proofs.lemmas.Result.{err_from_is_err_and}
 use Rattle.std.specs.Vec.Iter.{into_iter_items}
-use Rattle.routines.specs.declared.drafts.Slot.{Slot}
-use Rattle.routines.specs.Drafts.{view_slot}
+use Rattle.tp_check_decl.specs.declared.routines.drafts.Slot.{Slot}
+use Rattle.tp_check_decl.specs.routines.Drafts.{view_slot}
 use Rattle.tp_check_decl.specs.Units.{view_routine}
 use Rattle.tp_check_decl.specs.Endings.{all_finished}
 use Rattle.tp_check_decl.proofs.Finishing.{nothing_left, finished_more, finished_fails, finished_all}

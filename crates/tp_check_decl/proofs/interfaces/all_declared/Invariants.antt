@@ -1,5 +1,5 @@
 use Rattle.std.proofs.Common.{◌≡◌, drop}
-use Rattle.routines.specs.Drafts.{drafted, stage}
+use Rattle.tp_check_decl.specs.routines.Drafts.{drafted, stage}
 use Rattle.tp_check_decl.specs.Interfaces.{all_declared}
 use Rattle.tp_check_decl.proofs.interfaces.all_declared.Given as goal
 

@@ -1,8 +1,8 @@
 use Rattle.std.proofs.Common.{drop}
 use Rattle.std.specs.Prelude.{option_copied}
 use Rattle.std.proofs.lemmas.Result.{err_from_is_err_and}
-use Rattle.routines.specs.Trees.{view_declarations}
-use Rattle.routines.specs.Drafts.{drafted, knowing}
+use Rattle.tp_check_decl.specs.routines.Trees.{view_declarations}
+use Rattle.tp_check_decl.specs.routines.Drafts.{drafted, knowing}
 use Rattle.tp_check_decl.specs.Interfaces.{items_of, interface_judged, unit_front, all_used, implemented}
 use Rattle.tp_check_decl.proofs.UsedLaws.{fails_behind}
 use Rattle.tp_check_decl.proofs.interfaces.unit_judged.Goals as goal

@@ -1,6 +1,6 @@
 use Rattle.typed_tree.specs.Expressions.{view_expr}
 use Rattle.typing_rules.proofs.JudgementLaws.{typed_answer, complete_answer, fails_answer}
-use Rattle.expression_tree.specs.Trees.{view_expression}
+use Rattle.syntax_tree.specs.expression_tree.Trees.{view_expression}
 use Rattle.tp_check_expr.specs.Typed.{judged}
 use Rattle.tp_check_expr.proofs.TypedLaws.{lawful}
 use Rattle.tp_check_expr.proofs.check.check_expr.Goals as goal

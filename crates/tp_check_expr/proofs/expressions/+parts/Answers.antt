@@ -6,10 +6,10 @@ use Rattle.syntax_tree.specs.declared.expression.Argument.{Argument}
 use Rattle.syntax_tree.specs.declared.expression.Argument.TheVariants as argument
 use Rattle.syntax_tree.specs.declared.expression.Element.{Element}
 use Rattle.syntax_tree.specs.declared.expression.Factor.{Factor}
-use Rattle.expression_tree.specs.Trees.{set, view_factor, view_elements, view_expression}
+use Rattle.syntax_tree.specs.expression_tree.Trees.{set, view_factor, view_elements, view_expression}
 use Rattle.typed_tree.specs.Expressions.{view_expr}
-use Rattle.set_rules.specs.Sets.{view_item}
-use Rattle.standard_rules.specs.Sizes.{is_size}
+use Rattle.call_rules.specs.set_rules.Sets.{view_item}
+use Rattle.call_rules.specs.standard_rules.Sizes.{is_size}
 use Rattle.tp_check_expr.specs.Owners.{type_in}
 use Rattle.tp_check_expr.specs.Calls.{view_callable}
 use Rattle.tp_check_expr.specs.Typed.{judged_as}

@@ -1,8 +1,8 @@
 use Rattle.std.proofs.Common.{◌≡◌, drop, map}
 use Rattle.typed_tree.specs.Expressions.{view_expr}
 use Rattle.call_rules.specs.Lists.{behind}
-use Rattle.set_rules.specs.Sets.{view_item}
-use Rattle.expression_tree.specs.Trees.{view_arguments, view_elements}
+use Rattle.call_rules.specs.set_rules.Sets.{view_item}
+use Rattle.syntax_tree.specs.expression_tree.Trees.{view_arguments, view_elements}
 use Rattle.tp_check_expr.specs.Typed.{all_given, items_judged}
 use Rattle.tp_check_expr.proofs.expressions.+parts.Given as goal
 

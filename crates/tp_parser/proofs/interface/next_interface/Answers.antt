@@ -1,8 +1,8 @@
 use Rattle.std.proofs.Common.{◌<◌, length, refl, sym, ◌∙◌, arith}
 use Rattle.std.proofs.lemmas.Result.{err_from_is_err_and}
 use Rattle.syntax_tree.specs.Expressions.{Parsed}
-use Rattle.source_tree.specs.Sources.{interface_with}
-use Rattle.parameter_parser.proofs.Loop.{fails, ends}
+use Rattle.syntax_tree.specs.source_tree.Sources.{interface_with}
+use Rattle.type_parser.proofs.parameter_parser.Loop.{fails, ends}
 use Rattle.tp_parser.specs.Reading.{interface, interface_at}
 use Rattle.tp_parser.proofs.Listing.{interface_start, interface_next}
 use Rattle.tp_parser.proofs.interface.next_interface.Goals as goal

@@ -4,7 +4,7 @@ use Rattle.pascal_grammar.specs.declared.kind.Kind.TheVariants as k
 use Rattle.pascal_grammar.specs.Productions as p
 use Rattle.syntax_tree.specs.Expressions.{Parsed, of}
 use Rattle.expression_parser.proofs.Loop.{fails, ends, falls as comma_falls}
-use Rattle.type_tree.specs.Types.{of_type, index_type_list}
+use Rattle.syntax_tree.specs.type_tree.Types.{of_type, index_type_list}
 use Rattle.type_parser.specs.Reading.{type_at, typed_inside, index_list_at, groups_at}
 use Rattle.type_parser.specs.Views.{group_of, groups_of}
 use Rattle.type_parser.proofs.Listing.{indexes_start, indexes_next, groups_start, groups_next, groups_fail, groups_end, falls}

@@ -1,5 +1,5 @@
 use Rattle.std.proofs.Common.{◌≡◌, ◌+◌, ◌*◌, List, ◌∷◌, length}
-use Rattle.type_tree.specs.declared.types.TypeDenoter.{TypeDenoter}
+use Rattle.syntax_tree.specs.declared.type_tree.types.TypeDenoter.{TypeDenoter}
 use Rattle.type_parser.proofs.Going.{IndexesGo, GroupsGo}
 use Rattle.type_parser.proofs.types.+types.Given as goal
 

@@ -1,9 +1,9 @@
 use Rattle.std.proofs.Common.{◌≡◌, ◌+◌, ◌-◌, List, sym, subst}
 use Rattle.std.proofs.lemmas.Result.{err_from_is_err_and}
 use Rattle.unit_interface.specs.declared.interfaces.Interface.{Interface}
-use Rattle.file_parts.specs.Parts.{Reader, each}
-use Rattle.file_parts.proofs.LoopLaws.{with_front, loop-next, loop-stop, loop-end}
-use Rattle.interface_file.specs.Reading.{interface_at}
+use Rattle.object_file.specs.file_parts.Parts.{Reader, each}
+use Rattle.object_file.proofs.file_parts.LoopLaws.{with_front, loop-next, loop-stop, loop-end}
+use Rattle.unit_file.specs.interface_file.Reading.{interface_at}
 use Rattle.unit_file.proofs.reading.imports_in_turn.Goals as goal
 
 abbrev read : Unit {0} → Reader Interface

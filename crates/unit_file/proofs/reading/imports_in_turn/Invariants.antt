@@ -1,7 +1,7 @@
 use Rattle.std.proofs.Common.{◌≡◌, ◌-◌}
-use Rattle.file_parts.specs.Parts.{each}
-use Rattle.file_parts.proofs.LoopLaws.{with_front}
-use Rattle.interface_file.specs.Reading.{interface_at}
+use Rattle.object_file.specs.file_parts.Parts.{each}
+use Rattle.object_file.proofs.file_parts.LoopLaws.{with_front}
+use Rattle.unit_file.specs.interface_file.Reading.{interface_at}
 use Rattle.unit_file.proofs.reading.imports_in_turn.Given as goal
 
 -- what was read and what is left decide

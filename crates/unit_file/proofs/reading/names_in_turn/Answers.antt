@@ -1,7 +1,7 @@
 use Rattle.std.proofs.Common.{◌≡◌, ℕ, ◌+◌, ◌-◌, List, sym, subst}
 use Rattle.std.proofs.lemmas.Result.{err_from_is_err_and}
-use Rattle.file_parts.specs.Parts.{Reader, each, name_at}
-use Rattle.file_parts.proofs.LoopLaws.{with_front, loop-next, loop-stop, loop-end}
+use Rattle.object_file.specs.file_parts.Parts.{Reader, each, name_at}
+use Rattle.object_file.proofs.file_parts.LoopLaws.{with_front, loop-next, loop-stop, loop-end}
 use Rattle.unit_file.proofs.reading.names_in_turn.Goals as goal
 
 abbrev read : Unit {0} → Reader (List ℕ)

@@ -1,6 +1,6 @@
 use Rattle.std.proofs.Common.{◌≡◌, ◌-◌}
-use Rattle.file_parts.specs.Parts.{each, name_at}
-use Rattle.file_parts.proofs.LoopLaws.{with_front}
+use Rattle.object_file.specs.file_parts.Parts.{each, name_at}
+use Rattle.object_file.proofs.file_parts.LoopLaws.{with_front}
 use Rattle.unit_file.proofs.reading.names_in_turn.Given as goal
 
 -- what was read and what is left decide

@@ -1,5 +1,5 @@
 use Rattle.std.proofs.Common.{sym, subst, arith}
-use Rattle.interface_file.specs.Text.{IsInterface}
+use Rattle.unit_file.specs.interface_file.Text.{IsInterface}
 use Rattle.unit_file.proofs.writing.push_each_import.Goals as goal
 
 pub push_interface-requires : goal.push_interface-requires

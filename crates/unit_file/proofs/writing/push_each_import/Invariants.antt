@@ -1,6 +1,6 @@
 use Rattle.std.proofs.Common.{◌≡◌, ◌++◌, drop}
 use Rattle.std.specs.List.{flat_map}
-use Rattle.interface_file.specs.Text.{interface_text}
+use Rattle.unit_file.specs.interface_file.Text.{interface_text}
 use Rattle.unit_file.proofs.writing.push_each_import.Given as goal
 
 -- what is written and what is left are all

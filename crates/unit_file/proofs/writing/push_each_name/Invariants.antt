@@ -1,6 +1,6 @@
 use Rattle.std.proofs.Common.{◌≡◌, ◌++◌, drop}
 use Rattle.std.specs.List.{flat_map}
-use Rattle.file_parts.specs.Spelling.{name_text}
+use Rattle.object_file.specs.file_parts.Spelling.{name_text}
 use Rattle.unit_file.proofs.writing.push_each_name.Given as goal
 
 -- what is written and what is left are all

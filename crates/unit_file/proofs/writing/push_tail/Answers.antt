@@ -1,9 +1,9 @@
 use Rattle.std.proofs.Common.{◌≡◌, ℕ, List, ◌++◌, Result, Ok, Err, sym, ap, subst, ◌∙◌, append_assoc}
 use Rattle.std.specs.Prelude.{All, OnOk}
-use Rattle.file_parts.specs.Spelling.{name_text, list_text}
-use Rattle.type_file.proofs.EntryLaws.{all-from_each}
+use Rattle.object_file.specs.file_parts.Spelling.{name_text, list_text}
+use Rattle.unit_file.proofs.type_file.EntryLaws.{all-from_each}
 use Rattle.unit_interface.specs.declared.interfaces.Interface.{Interface}
-use Rattle.interface_file.specs.Text.{interface_text, IsInterface}
+use Rattle.unit_file.specs.interface_file.Text.{interface_text, IsInterface}
 use Rattle.unit_file.specs.Format.{tail_text}
 use Rattle.unit_file.proofs.UnitLaws.{start-long}
 use Rattle.unit_file.proofs.writing.push_tail.Goals as goal

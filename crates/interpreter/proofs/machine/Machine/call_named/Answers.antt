@@ -1,11 +1,11 @@
 use Rattle.std.proofs.Common.{◌≡◌, map, sym, ap, ◌∙◌}
 use Rattle.std.proofs.lemmas.Result.{err_from_is_err_and}
-use Rattle.meaning.specs.Standard.{handed}
-use Rattle.cell_store.specs.Views.{view_key, view_value}
-use Rattle.standard_effects.specs.Operands.{view_operand}
+use Rattle.tp_meaning.specs.Standard.{handed}
+use Rattle.interpreter_store.specs.cell_store.Views.{view_key, view_value}
+use Rattle.interpreter_effects.specs.standard_effects.Operands.{view_operand}
 use Rattle.interpreter_steps.specs.Running.{view_run, view_instance, program_of}
 use Rattle.interpreter_steps.proofs.Ends.{ends_bind}
-use Rattle.interpreter_frames.proofs.Moves.{moves1, moves2, moves_found, moves_spent, ends_spent, ends_after, ends_two, expected}
+use Rattle.interpreter_steps.proofs.interpreter_frames.Moves.{moves1, moves2, moves_found, moves_spent, ends_spent, ends_after, ends_two, expected}
 use Rattle.interpreter.proofs.machine.Machine.call_named.Goals as goal
 
 pub returns-in_err-key : goal.returns-in_err-key

@@ -1,8 +1,8 @@
 -- What is left gives what the whole gives.
 use Rattle.std.proofs.Common.{◌≡◌}
-use Rattle.activations.specs.Views.{view_activation}
+use Rattle.interpreter_effects.specs.activations.Views.{view_activation}
 use Rattle.interpreter_steps.specs.Running.{view_run, program_of}
-use Rattle.interpreter_frames.specs.Frames.{rest_of, next_of}
+use Rattle.interpreter_steps.specs.interpreter_frames.Frames.{rest_of, next_of}
 use Rattle.interpreter.proofs.machine.Machine.finish.Given as goal
 
 abbrev pub invariant-steps : goal.invariant-steps

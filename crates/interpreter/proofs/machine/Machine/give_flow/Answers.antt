@@ -2,11 +2,11 @@ use Rattle.std.proofs.Common.{◌≡◌, List, Vec, Global, sym, ap, ◌∙◌}
 use Rattle.std.proofs.Common.{rules, w32, to_z, of_z}
 use Rattle.std.proofs.lemmas.Int.{to_z-of_z}
 use Rattle.interpreter_steps.specs.Running.{view_run, view_flow, program_of}
-use Rattle.meaning.specs.Activations.{Activation}
-use Rattle.activations.specs.Views.{view_activation}
-use Rattle.interpreter_frames.specs.declared.frames.Frame.{Frame}
-use Rattle.interpreter_frames.specs.Frames.{rest_of, frames_over, nothing_left}
-use Rattle.interpreter_frames.proofs.Moves.{moves1, moves2, moves3}
+use Rattle.tp_meaning.specs.Activations.{Activation}
+use Rattle.interpreter_effects.specs.activations.Views.{view_activation}
+use Rattle.interpreter_steps.specs.declared.interpreter_frames.frames.Frame.{Frame}
+use Rattle.interpreter_steps.specs.interpreter_frames.Frames.{rest_of, frames_over, nothing_left}
+use Rattle.interpreter_steps.proofs.interpreter_frames.Moves.{moves1, moves2, moves3}
 use Rattle.interpreter.proofs.machine.Machine.give_flow.Goals as goal
 
 pub returns-in-Block : goal.returns-in-Block

@@ -1,6 +1,6 @@
 use Rattle.std.proofs.Common.{◌≡◌, sym, ap, ◌∙◌}
 use Rattle.interpreter_steps.specs.Running.{view_run, program_of}
-use Rattle.interpreter_frames.proofs.Moves.{moves1, moves2, moves3}
+use Rattle.interpreter_steps.proofs.interpreter_frames.Moves.{moves1, moves2, moves3}
 use Rattle.interpreter.proofs.Binds.{two_binds, three_binds, four_binds}
 use Rattle.interpreter.proofs.machine.Machine.give_place.Goals as goal
 

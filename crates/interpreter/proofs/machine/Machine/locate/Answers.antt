@@ -4,7 +4,7 @@ use Rattle.typed_tree.specs.Statements.{Assign, CopyAll, Run, If, While, Repeat,
 use Rattle.typed_tree.proofs.Views.{view_set, view_call, view_call_virtual, view_call_through, view_std, view_make}
 use Rattle.typed_tree.proofs.StatementViews.{view_block, view_case}
 use Rattle.interpreter_steps.specs.Running.{view_run, program_of}
-use Rattle.interpreter_frames.proofs.Moves.{moves1, moves2, moves3}
+use Rattle.interpreter_steps.proofs.interpreter_frames.Moves.{moves1, moves2, moves3}
 use Rattle.interpreter.proofs.Binds.{two_binds, three_binds, four_binds}
 use Rattle.interpreter.proofs.machine.Machine.locate.Goals as goal
 

@@ -1,6 +1,6 @@
 -- The units that are left begin from here.
 use Rattle.std.proofs.Common.{◌≡◌, drop}
-use Rattle.meaning.specs.Meaning.{run, all_started}
+use Rattle.tp_meaning.specs.Meaning.{run, all_started}
 use Rattle.interpreter_steps.specs.Running.{view_run, program_of}
 use Rattle.interpreter.proofs.machine.Machine.start_all.Given as goal
 

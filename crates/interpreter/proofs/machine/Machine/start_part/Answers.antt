@@ -1,10 +1,10 @@
 use Rattle.std.proofs.Common.{◌≡◌, List, ℕ, ap}
 use Rattle.std.proofs.lemmas.Result.{err_from_is_err_and}
-use Rattle.meaning.specs.Trees.{Key}
-use Rattle.meaning.specs.Activations.{Activation}
-use Rattle.meaning.specs.Meaning.{start_activation}
-use Rattle.cell_store.specs.Views.{view_key, view_value}
-use Rattle.activations.specs.Views.{view_activation}
+use Rattle.tp_meaning.specs.Trees.{Key}
+use Rattle.tp_meaning.specs.Activations.{Activation}
+use Rattle.tp_meaning.specs.Meaning.{start_activation}
+use Rattle.interpreter_store.specs.cell_store.Views.{view_key, view_value}
+use Rattle.interpreter_effects.specs.activations.Views.{view_activation}
 use Rattle.interpreter_steps.specs.Running.{view_run, program_of}
 use Rattle.interpreter.proofs.Starts.{starts, start_ends}
 use Rattle.interpreter.proofs.machine.Machine.start_part.Goals as goal

@@ -5,22 +5,22 @@ use Rattle.std.proofs.lemmas.Int.{to_z-of_z}
 use Rattle.std.proofs.lemmas.Result.{err_from_is_err_and}
 use Rattle.typed_tree.specs.Expressions.{view_expr, view_place, view_args}
 use Rattle.typed_tree.specs.Statements.{Statement, view_stmt, view_written}
-use Rattle.meaning.specs.Trees.{Key, Spot, Value}
-use Rattle.meaning.specs.Programs.{Sort}
-use Rattle.meaning.specs.Outcomes.{Does}
-use Rattle.meaning.specs.Activations.{Activation, Reached, Callee}
-use Rattle.meaning.specs.Calls.{Flow, entered}
-use Rattle.meaning.specs.Standard.{Operand, handed}
-use Rattle.meaning.specs.Expressions.{Instance, operands, called}
-use Rattle.meaning.specs.Meaning.{run}
-use Rattle.cell_store.specs.Views.{view_key, view_spot, view_value}
-use Rattle.typed_cells.specs.Sorts.{view_sort, view_reached}
-use Rattle.activations.specs.Views.{view_activation, view_callee}
-use Rattle.standard_effects.specs.Operands.{view_operand}
+use Rattle.tp_meaning.specs.Trees.{Key, Spot, Value}
+use Rattle.tp_meaning.specs.Programs.{Sort}
+use Rattle.tp_meaning.specs.Outcomes.{Does}
+use Rattle.tp_meaning.specs.Activations.{Activation, Reached, Callee}
+use Rattle.tp_meaning.specs.Calls.{Flow, entered}
+use Rattle.tp_meaning.specs.Standard.{Operand, handed}
+use Rattle.tp_meaning.specs.Expressions.{Instance, operands, called}
+use Rattle.tp_meaning.specs.Meaning.{run}
+use Rattle.interpreter_store.specs.cell_store.Views.{view_key, view_spot, view_value}
+use Rattle.interpreter_store.specs.typed_cells.Sorts.{view_sort, view_reached}
+use Rattle.interpreter_effects.specs.activations.Views.{view_activation, view_callee}
+use Rattle.interpreter_effects.specs.standard_effects.Operands.{view_operand}
 use Rattle.interpreter_steps.specs.Running.{view_run, view_flow, view_instance, program_of}
 use Rattle.interpreter_steps.proofs.Ends.{ends_bind}
-use Rattle.interpreter_frames.specs.Frames.{rest_of}
-use Rattle.interpreter_frames.proofs.Moves.{ends_spent, ends_after, ends_two, ends_three, ends_found, ends_spent_two, ends_after_two, expected, moves_found, moves_found2}
+use Rattle.interpreter_steps.specs.interpreter_frames.Frames.{rest_of}
+use Rattle.interpreter_steps.proofs.interpreter_frames.Moves.{ends_spent, ends_after, ends_two, ends_three, ends_found, ends_spent_two, ends_after_two, expected, moves_found, moves_found2}
 use Rattle.std.specs.Ordering.{int_eq}
 use Rattle.interpreter.proofs.Counting.{goes_over, goes_stepped}
 use Rattle.interpreter.proofs.machine.Machine.step_for.Goals as goal

@@ -1,8 +1,8 @@
 use Rattle.std.proofs.Common.{refl, subst, w32}
 use Rattle.std.specs.Prelude.{ℤ}
 use Rattle.std.proofs.lemmas.Int.{to_z-of_z}
-use Rattle.typed_cells.specs.Sorts.{view_sort, view_reached}
-use Rattle.meaning.specs.Expressions.{element_between}
+use Rattle.interpreter_store.specs.typed_cells.Sorts.{view_sort, view_reached}
+use Rattle.tp_meaning.specs.Expressions.{element_between}
 use Rattle.interpreter_steps.specs.Running.{Comes}
 use Rattle.interpreter_steps.proofs.state.Interpreter.array_element.Goals as goal
 

@@ -1,7 +1,7 @@
 use Rattle.std.proofs.Common.{◌≡◌, rules, w32, to_z, of_z}
 use Rattle.std.proofs.lemmas.Int.{to_z-of_z}
 use Rattle.std.proofs.lemmas.Result.{err_from_is_err_and}
-use Rattle.activations.specs.Views.{view_activation}
+use Rattle.interpreter_effects.specs.activations.Views.{view_activation}
 use Rattle.interpreter_steps.specs.Running.{view_run, program_of}
 use Rattle.interpreter_steps.proofs.Ends.{ends_bind, ends_behind}
 use Rattle.interpreter_steps.proofs.Begun.{begun_comes, begun_ends}

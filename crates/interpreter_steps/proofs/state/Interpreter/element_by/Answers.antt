@@ -2,8 +2,8 @@ use Rattle.std.proofs.Common.{◌≡◌, subst, sym, w32}
 use Rattle.std.proofs.lemmas.Int.{to_z-of_z}
 use Rattle.type_layout.specs.Layouts.{bounds_at}
 use Rattle.type_layout.specs.declared.table.Types.{Types}
-use Rattle.typed_cells.specs.Sorts.{view_reached}
-use Rattle.meaning.specs.Expressions.{element_between}
+use Rattle.interpreter_store.specs.typed_cells.Sorts.{view_reached}
+use Rattle.tp_meaning.specs.Expressions.{element_between}
 use Rattle.interpreter_steps.specs.Running.{Comes}
 use Rattle.interpreter_steps.proofs.state.Interpreter.element_by.Goals as goal
 

@@ -2,8 +2,8 @@ use Rattle.std.proofs.Common.{◌≡◌, Option, Some, refl, subst, w32}
 use Rattle.std.specs.Prelude.{ℤ}
 use Rattle.std.proofs.lemmas.Int.{to_z-of_z}
 use Rattle.type_layout.specs.declared.definitions.TypeDef.{TypeDef}
-use Rattle.typed_cells.specs.Sorts.{view_reached}
-use Rattle.meaning.specs.Expressions.{element_in}
+use Rattle.interpreter_store.specs.typed_cells.Sorts.{view_reached}
+use Rattle.tp_meaning.specs.Expressions.{element_in}
 use Rattle.interpreter_steps.specs.declared.state.Over.TheVariants as over
 use Rattle.interpreter_steps.specs.Running.{Comes, Ends}
 use Rattle.interpreter_steps.proofs.state.Interpreter.element_of.Goals as goal

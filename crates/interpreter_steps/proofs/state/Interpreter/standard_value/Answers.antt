@@ -1,11 +1,11 @@
 use Rattle.std.proofs.Common.{◌≡◌, Option, ap, ◌∙◌}
 use Rattle.std.specs.Option.{option_map, option_copied}
 use Rattle.std.proofs.lemmas.Result.{err_from_is_err_and}
-use Rattle.cell_store.specs.Views.{view_value, view_store}
-use Rattle.cell_store.specs.declared.contents.Value.{Value}
-use Rattle.typed_cells.specs.Sorts.{view_sort}
-use Rattle.activations.specs.Views.{view_activation}
-use Rattle.standard_effects.specs.Effects.{view_standard}
+use Rattle.interpreter_store.specs.cell_store.Views.{view_value, view_store}
+use Rattle.interpreter_store.specs.declared.cell_store.contents.Value.{Value}
+use Rattle.interpreter_store.specs.typed_cells.Sorts.{view_sort}
+use Rattle.interpreter_effects.specs.activations.Views.{view_activation}
+use Rattle.interpreter_effects.specs.standard_effects.Effects.{view_standard}
 use Rattle.interpreter_steps.specs.Running.{view_run, program_of}
 use Rattle.interpreter_steps.proofs.Effects.{performed_comes, performed_ends}
 use Rattle.interpreter_steps.proofs.state.Interpreter.standard_value.Goals as goal

@@ -2,9 +2,9 @@ use Rattle.std.proofs.Common.{◌≡◌, sym, ap, subst, arith, rules, w32, w64,
 use Rattle.std.specs.Prelude.{ℤ}
 use Rattle.std.proofs.lemmas.Int.{ints, to_z-of_z}
 use Rattle.std.proofs.lemmas.Result.{err_from_is_err_and}
-use Rattle.typed_cells.specs.Sorts.{view_reached}
-use Rattle.meaning.specs.Outcomes.{Outcome, and_then, changed}
-use Rattle.meaning.specs.Standard.{number_assigned}
+use Rattle.interpreter_store.specs.typed_cells.Sorts.{view_reached}
+use Rattle.tp_meaning.specs.Outcomes.{Outcome, and_then, changed}
+use Rattle.tp_meaning.specs.Standard.{number_assigned}
 use Rattle.interpreter_steps.specs.Running.{view_run, Comes}
 use Rattle.interpreter_steps.proofs.Ends.{ends_bind}
 use Rattle.interpreter_steps.proofs.state.Interpreter.store_tested.Goals as goal

@@ -1,9 +1,9 @@
 use Rattle.std.proofs.Common.{◌≡◌, refl, subst, arith, rules, w32, to_z, of_z, pos}
 use Rattle.std.specs.Prelude.{ℤ}
 use Rattle.std.proofs.lemmas.Int.{ints, to_z-of_z}
-use Rattle.typed_cells.specs.Sorts.{view_sort, view_reached}
-use Rattle.meaning.specs.Programs.{Sort}
-use Rattle.meaning.specs.Expressions.{element_between}
+use Rattle.interpreter_store.specs.typed_cells.Sorts.{view_sort, view_reached}
+use Rattle.tp_meaning.specs.Programs.{Sort}
+use Rattle.tp_meaning.specs.Expressions.{element_between}
 use Rattle.interpreter_steps.specs.Running.{Comes}
 use Rattle.interpreter_steps.proofs.state.Interpreter.string_element.Goals as goal
 

@@ -1,6 +1,0 @@
--- The list gets shorter.
-use Rattle.std.proofs.Common.{length}
-use Rattle.activations.proofs.calls.+around.Given as goal
-
-abbrev pub decreases-around : goal.decreases-around
-decreases-around l = length l.levels.now

@@ -1,6 +1,0 @@
--- The list gets shorter.
-use Rattle.std.proofs.Common.{length}
-use Rattle.activations.proofs.opening.+append_arguments.Given as goal
-
-abbrev pub decreases-append_arguments : goal.decreases-append_arguments
-decreases-append_arguments l = length l.params.now

@@ -1,8 +1,0 @@
--- The trees of the variables so far are appended.
-use Rattle.std.proofs.Common.{◌≡◌, ◌++◌, map, take}
-use Rattle.meaning.specs.Shapes.{new_tree}
-use Rattle.cell_store.specs.Views.{view_tree}
-use Rattle.activations.proofs.opening.append_locals.Given as goal
-
-abbrev pub invariant-locals : goal.invariant-locals
-invariant-locals l = map view_tree l.to.items ≡ map view_tree l.fn.to.items ++ map (new_tree l.types.types) (take l.ty-index l.locals)

@@ -1,0 +1,9 @@
+//! And bodies.
+#![tactic(auto)]
+
+pub mod expressions;
+pub mod other_units;
+pub mod statements;
+
+pub use rules_well_formed::well_formed;
+pub use tp_check_stmt::{syntax_tree, tp_lexer};

@@ -1,8 +1,0 @@
--- The bytes so far are appended.
-use Rattle.std.proofs.Common.{◌≡◌, ◌++◌, map, take}
-use Rattle.cell_store.specs.Views.{view_tree}
-use Rattle.cell_store.specs.Parts.{byte_cell}
-use Rattle.cell_store.proofs.cells.append_bytes.Given as goal
-
-abbrev pub invariant-bytes : goal.invariant-bytes
-invariant-bytes l = map view_tree l.to.items ≡ map view_tree l.fn.to.items ++ map byte_cell (take l.byte-index l.text)

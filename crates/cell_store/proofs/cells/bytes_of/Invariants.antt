@@ -1,9 +1,0 @@
--- The bytes so far, and those of the cells that are left.
-use Rattle.std.proofs.Common.{◌≡◌}
-use Rattle.meaning.specs.Store.{bytes_in}
-use Rattle.cell_store.specs.Views.{view_parts}
-use Rattle.cell_store.proofs.Texts.{after_prefix, bytes_from}
-use Rattle.cell_store.proofs.cells.bytes_of.Given as goal
-
-abbrev pub invariant-cells : goal.invariant-cells
-invariant-cells l = bytes_in l.count (view_parts l.cells) ≡ after_prefix l.bytes.items (bytes_from l.i l.count l.cells)

@@ -1,8 +1,0 @@
-//! The law, the contract of a function that does nothing.
-
-ghost use Rattle.checked_expressions.specs.Laws.{ExpressionLaw};
-
-/// Where what is known agrees with what trees may name, the node of an expression is typed, or nil.
-pub fn checked_expression_law()
-    ensures { ExpressionLaw }
-{}

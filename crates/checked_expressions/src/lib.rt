@@ -1,6 +1,0 @@
-//! Each expression that is typed by the rules has a typed node.
-#![tactic(auto)]
-
-mod laws;
-
-pub use laws::checked_expression_law;

@@ -1,0 +1,10 @@
+//! From the files of a program to its typed program, of which all units are well formed.
+#![tactic(auto)]
+
+mod known;
+mod numbers;
+mod sources;
+mod variables;
+
+pub use programs_well_typed::{front_end, tp_lexer, type_soundness};
+pub use sources::formed_sources;

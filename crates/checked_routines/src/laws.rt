@@ -1,8 +1,0 @@
-//! The law, the contract of a function that does nothing.
-
-ghost use Rattle.checked_routines.specs.Laws.{RoutineLaw};
-
-/// Where what parts of declarations add is well formed, so is each routine that a block declares, with what is declared inside it.
-pub fn checked_routine_law()
-    ensures { RoutineLaw }
-{}

@@ -1,6 +1,0 @@
-//! Each statement that is typed by the rules has a node that is well formed.
-#![tactic(auto)]
-
-mod laws;
-
-pub use laws::checked_statement_law;

@@ -1,2 +1,0 @@
--- The same for names that stand in Below already, of other modules.
-pub use Rattle.checked_parts.proofs.Below.{plain_at}

@@ -1,8 +1,0 @@
-//! The laws on types that blocks name.
-
-ghost use Rattle.closed_routines.specs.Leaving.{LeaveWellScoped};
-
-/// Over a closed scope, the header of a routine and the declarations of a block leave a closed scope.
-pub fn leaving_laws()
-    ensures { LeaveWellScoped }
-{}

@@ -1,6 +1,0 @@
-//! The induction over calls: the code of a placed program does what the flat program means.
-#![tactic(auto)]
-
-mod laws;
-
-pub use laws::body_law;

@@ -1,5 +1,0 @@
-use Rattle.code_copies.proofs.Copies.{copy_flows}
-use Rattle.code_copies.proofs.laws.copy_law.Goals as goal
-
-pub returns : goal.returns
-returns c = λ w site live bound pointer fits ends. copy_flows w site live fits bound pointer ends

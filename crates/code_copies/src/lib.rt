@@ -1,6 +1,0 @@
-//! The code of Copy moves bytes one by one, as flat code does.
-#![tactic(auto)]
-
-mod laws;
-
-pub use laws::copy_law;

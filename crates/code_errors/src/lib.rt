@@ -1,6 +1,0 @@
-//! The routine to which runtime errors come: its code and what it does.
-#![tactic(auto)]
-
-mod laws;
-
-pub use laws::error_law;

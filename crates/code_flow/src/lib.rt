@@ -1,6 +1,0 @@
-//! The code of statements does what they mean: tests, loops, and lists of statements.
-#![tactic(auto)]
-
-mod laws;
-
-pub use laws::{flow_law, step_law};

@@ -1,5 +1,0 @@
-use Rattle.code_frames.proofs.Deeper.{chained_deeper}
-use Rattle.code_frames.proofs.laws.chain_law.Goals as goal
-
-pub returns : goal.returns
-returns c = λ w caller live fits name unit r back deep top inside far. chained_deeper w caller live fits name unit r back deep top inside far

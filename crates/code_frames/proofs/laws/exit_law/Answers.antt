@@ -1,5 +1,0 @@
-use Rattle.code_frames.proofs.Exit.{exit_run}
-use Rattle.code_frames.proofs.laws.exit_law.Goals as goal
-
-pub returns : goal.returns
-returns c = λ w caller site live fits name unit r back s r0 a room deep inner chained. exit_run w caller site live fits name unit r back s r0 a room deep inner chained

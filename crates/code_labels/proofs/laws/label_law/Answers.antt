@@ -1,8 +1,0 @@
-use Rattle.code_labels.proofs.Labels.{routine_once, routine_range}
-use Rattle.code_labels.proofs.laws.label_law.Goals as goal
-
-pub returns-clause-once : goal.returns-clause-once
-returns-clause-once c = routine_once
-
-pub returns-clause-range : goal.returns-clause-range
-returns-clause-range c = routine_range

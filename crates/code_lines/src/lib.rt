@@ -1,6 +1,0 @@
-//! The lines of 8086 code of each node of flat code.
-#![tactic(auto)]
-
-mod laws;
-
-pub use laws::{example_law, weight_law};

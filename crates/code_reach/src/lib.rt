@@ -1,6 +1,0 @@
-//! The short jumps of a routine's code reach their labels.
-#![tactic(auto)]
-
-mod laws;
-
-pub use laws::reach_law;

@@ -1,9 +1,0 @@
-use Rattle.code_services.proofs.Clearing.{clear_flows}
-use Rattle.code_services.proofs.Setting.{flag_flows}
-use Rattle.code_services.proofs.laws.service_law.Goals as goal
-
-pub returns-clause-clear : goal.returns-clause-clear
-returns-clause-clear c = clear_flows
-
-pub returns-clause-flag : goal.returns-clause-flag
-returns-clause-flag c = flag_flows

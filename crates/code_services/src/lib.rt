@@ -1,6 +1,0 @@
-//! The two effects of the machine that are routines: overlays are cleared, and the installed flag is set.
-#![tactic(auto)]
-
-mod laws;
-
-pub use laws::service_law;

@@ -1,0 +1,2 @@
+pub mod bodies
+pub mod start

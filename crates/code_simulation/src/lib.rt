@@ -1,0 +1,5 @@
+//! And whole programs.
+#![tactic(auto)]
+
+pub mod bodies;
+pub mod start;

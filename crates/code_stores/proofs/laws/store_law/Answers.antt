@@ -1,8 +1,0 @@
-use Rattle.code_stores.proofs.Stores.{store_word_runs, store_byte_runs}
-use Rattle.code_stores.proofs.laws.store_law.Goals as goal
-
-pub returns-clause-word : goal.returns-clause-word
-returns-clause-word c = store_word_runs
-
-pub returns-clause-byte : goal.returns-clause-byte
-returns-clause-byte c = store_byte_runs

@@ -1,5 +1,0 @@
-use Rattle.code_stubs.proofs.Stubs.{stub_callable}
-use Rattle.code_stubs.proofs.laws.stub_law.Goals as goal
-
-pub returns : goal.returns
-returns c = λ w site live fits key callee unit r pointer bound most has_unit has_routine made ends all_far stack short body. stub_callable w site live fits key callee unit r pointer bound most has_unit has_routine made ends all_far stack short body

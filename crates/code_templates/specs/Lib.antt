@@ -1,0 +1,2 @@
+pub mod code_lines
+pub mod code_references

@@ -1,0 +1,8 @@
+-- From 16 places on nothing is left.
+use Rattle.std.proofs.Common.{sym, arith}
+use Rattle.common_values.specs.integers.Words.{w16}
+use Rattle.common_values.proofs.integers.WordLaws.{shifted_left-out}
+use Rattle.common_values.proofs.integers.shifted_left.Goals as goal
+
+pub returns-else-places-lt16 : goal.returns-else-places-lt16
+returns-else-places-lt16 c = sym (shifted_left-out w16 c.args.word c.args.places (omega arith))

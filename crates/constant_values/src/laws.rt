@@ -1,8 +1,0 @@
-//! The law on the values that constant expressions have.
-
-ghost use Rattle.constant_values.specs.Laws.{ConstantLaw};
-
-/// What a constant expression gives is a value of its type, where the names of constants mean such values.
-pub fn constant_value_law()
-    ensures { ConstantLaw }
-{}

@@ -1,0 +1,4 @@
+pub mod declarations
+pub mod headers
+pub mod type_denoters
+pub mod type_parts

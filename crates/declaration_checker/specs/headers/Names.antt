@@ -1,0 +1,38 @@
+-- Types by their names.
+use Rattle.std.specs.Prelude.{ℕ, List, Option, Some, None}
+use Rattle.constant_checker.specs.type_layout.declared.definitions.TypeId.{TypeId}
+use Rattle.constant_checker.specs.type_layout.declared.texts.Place.{Place}
+use Rattle.constant_checker.specs.tp_lexer.declared.token.Feature.{Feature}
+use Rattle.constant_checker.specs.tp_lexer.left_out_names.Names.{feature_of}
+use Rattle.constant_checker.specs.syntax_tree.declared.type_tree.parameter.NamedType.{NamedType}
+use Rattle.constant_checker.specs.syntax_tree.declared.type_tree.parameter.NamedType.TheVariants as t
+use Rattle.constant_checker.specs.scopes.declared.entries.Entry.{Entry}
+use Rattle.constant_checker.specs.scopes.declared.entries.Entry.TheVariants as entry
+use Rattle.constant_checker.specs.scopes.Environment.{Environment, Meaning, named, member, find}
+use Rattle.constant_checker.specs.typing_rules.declared.faults.Rule.TheVariants as rules
+use Rattle.constant_checker.specs.typing_rules.Faults.{broken, undeclared}
+use Rattle.constant_checker.specs.typing_rules.Judgements.{Judgement, makes, refuses}
+use Rattle.constant_checker.specs.typing_rules.Sorts.{string}
+
+-- a type as it stands, for `Gives`
+abbrev pub itself : TypeId → TypeId
+itself ty = ty
+
+-- what is no type can't stand where a type is due
+abbrev pub of_entry : Place → Entry → Judgement TypeId
+of_entry place (entry.Ty ty) = makes ty
+of_entry place _ = refuses (broken place rules.Stands)
+
+abbrev pub of_meaning : Place → Option Feature → Option Meaning → Judgement TypeId
+of_meaning place feature None = refuses (undeclared place feature)
+of_meaning place feature (Some (named n one)) = of_entry place one
+of_meaning place feature (Some (member n one)) = refuses (broken place rules.Stands)
+
+-- the type that a name at a place means
+unfoldable pub type_named : Environment → Place → List ℕ → Judgement TypeId
+type_named g place name = of_meaning place (feature_of name) (find g name)
+
+-- the type of a parameter or of a result
+abbrev pub named_type : Environment → NamedType → Judgement TypeId
+named_type g (t.Name i) = type_named g i.position.place i.name
+named_type g (t.String here) = makes string

@@ -1,9 +1,0 @@
-//! Declarations that their reader takes or refuses, with places worked out by hand.
-#![tactic(auto)]
-
-#[cfg(test)]
-mod declarations;
-#[cfg(test)]
-mod outcome;
-#[cfg(test)]
-mod trees;

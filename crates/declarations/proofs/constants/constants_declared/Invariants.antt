@@ -1,9 +1,0 @@
-use Rattle.std.proofs.Common.{◌≡◌, drop}
-use Rattle.declarations.specs.Progress.{progress}
-use Rattle.declarations.specs.Constants.{constants_declared}
-use Rattle.declarations.proofs.constants.constants_declared.Given as goal
-
-abbrev pub invariant-loop-one : goal.invariant-loop-one
-invariant-loop-one l =
-    (constants_declared l.unit (progress l.scope l.globals l.locals) (drop l.one-index l.all)).run
-    ≡ (constants_declared l.unit (progress l.fn.scope l.fn.globals l.fn.locals) l.all).run

@@ -1,9 +1,0 @@
-use Rattle.std.proofs.Common.{◌≡◌, drop}
-use Rattle.declarations.specs.Progress.{progress}
-use Rattle.declarations.specs.Variables.{names_declared}
-use Rattle.declarations.proofs.variables.names_declared.Given as goal
-
-abbrev pub invariant-loop-one : goal.invariant-loop-one
-invariant-loop-one l =
-    (names_declared l.home l.ty (progress l.scope l.globals l.locals) (drop l.one-index l.names)).run
-    ≡ (names_declared l.home l.ty (progress l.fn.scope l.fn.globals l.fn.locals) l.names).run

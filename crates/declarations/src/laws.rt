@@ -1,8 +1,0 @@
-//! The law on parts of declarations.
-
-ghost use Rattle.declarations.specs.Laws.{AreExact};
-
-/// A part of declarations is typed exactly where no rule fails in it, and then it leaves one scope alone, and the same variables.
-pub fn declaration_laws()
-    ensures { AreExact }
-{}

@@ -1,0 +1,10 @@
+pub use Rattle.bodies_well_formed.proofs as bodies_well_formed_proofs
+pub use Rattle.bodies_well_formed.proofs.constant_checker_proofs as constant_checker_proofs
+pub use Rattle.imported_types_agree.proofs as imported_types_agree_proofs
+pub use Rattle.bodies_well_formed.proofs.rules_well_formed_proofs as rules_well_formed_proofs
+pub use Rattle.imported_types_agree.proofs.tables_closed_proofs as tables_closed_proofs
+pub use Rattle.imported_types_agree.proofs.tp_check_decl_proofs as tp_check_decl_proofs
+pub use Rattle.bodies_well_formed.proofs.type_layout_proofs as type_layout_proofs
+pub use Rattle.bodies_well_formed.proofs.typing_rules_proofs as typing_rules_proofs
+pub use Rattle.imported_types_agree.proofs.unit_interface_proofs as unit_interface_proofs
+pub use Rattle.bodies_well_formed.proofs.well_formed_proofs as well_formed_proofs

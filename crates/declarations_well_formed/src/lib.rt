@@ -1,0 +1,12 @@
+//! And declarations.
+#![tactic(auto)]
+
+pub mod constants;
+pub mod exported_constants;
+pub mod names;
+pub mod parts;
+pub mod tables;
+pub mod values;
+
+pub use bodies_well_formed::{syntax_tree, tp_lexer, well_formed};
+pub use imported_types_agree;

@@ -1,0 +1,5 @@
+//! The law on what parts of declarations declare.
+
+mod laws;
+
+pub use laws::declared_value_law;

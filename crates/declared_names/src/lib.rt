@@ -1,6 +1,0 @@
-//! Declarations of types add types, and names of types and of values.
-#![tactic(auto)]
-
-mod laws;
-
-pub use laws::type_name_laws;

@@ -1,5 +1,0 @@
-use Rattle.declared_types.proofs.Lines.{agreement_laws}
-use Rattle.declared_types.proofs.declared_type_laws.Goals as goal
-
-pub returns : goal.returns
-returns c = agreement_laws

@@ -1,8 +1,0 @@
-//! Expressions of the grammar as operators and operands.
-#![tactic(auto)]
-
-mod designators;
-mod operators;
-
-pub use designators::{designator_in, sole_designator};
-pub use operators::{begins, of_adder, of_multiplier, of_relator, of_sign};

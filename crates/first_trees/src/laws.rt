@@ -1,8 +1,0 @@
-//! The law.
-
-ghost use Rattle.first_trees.specs.Laws.{AreTreesOfInitializers};
-
-/// The tree that a variable begins with, which the meaning reads of its bytes, is that of its first value; it does nothing.
-pub fn first_tree_laws()
-    ensures { AreTreesOfInitializers }
-{}

@@ -1,6 +1,0 @@
-//! The meaning reads the initializers of typed constants as the sources say them.
-#![tactic(auto)]
-
-mod laws;
-
-pub use laws::first_tree_laws;

@@ -1,6 +1,0 @@
--- The list gets shorter.
-use Rattle.std.proofs.Common.{length}
-use Rattle.first_values.proofs.cells.+word_of_bytes.Given as goal
-
-abbrev pub decreases-word_of_bytes : goal.decreases-word_of_bytes
-decreases-word_of_bytes l = length l.bytes.now

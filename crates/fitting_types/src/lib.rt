@@ -1,6 +1,0 @@
-//! The laws on types of used units that fit those of a scope.
-#![tactic(auto)]
-
-mod laws;
-
-pub use laws::fitting_laws;

@@ -1,6 +1,0 @@
-//! The work that a run of flat code counts is counted apart from all else.
-#![tactic(auto)]
-
-mod laws;
-
-pub use laws::work_law;

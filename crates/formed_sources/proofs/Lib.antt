@@ -1,3 +1,0 @@
-mod Lines
-mod Methods
-mod Founds

@@ -1,8 +1,0 @@
-use Rattle.std.proofs.Common.{◌≡◌, ℕ, ◌<◌, Some}
-use Rattle.std.specs.Prelude.{slice_get}
-use Rattle.type_layout.specs.declared.definitions.TypeDef.{TypeDef}
-use Rattle.declared_types.specs.Agreement.{IsShort}
-use Rattle.formed_sources.proofs.known.is_kept_table.Given as goal
-
-abbrev pub invariant-loop-number : goal.invariant-loop-number
-invariant-loop-number l = (k : ℕ) (one : TypeDef) → k < l.number → slice_get l.types.types k ≡ Some one → IsShort one

@@ -1,5 +1,0 @@
-use Rattle.formed_sources.proofs.Founds.{formed}
-use Rattle.formed_sources.proofs.sources.formed_law.Goals as goal
-
-pub returns : goal.returns
-returns c = formed c.written_source_laws.ensures.sources c.numbered_method_laws.ensures c.formed_program_laws.ensures.whole c.well_typed_program_laws.ensures

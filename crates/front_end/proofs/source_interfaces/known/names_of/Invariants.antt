@@ -1,0 +1,6 @@
+use Rattle.std.proofs.Common.{◌≡◌, take}
+use Rattle.source_graph.specs.source_order.Orders.{names_of}
+use Rattle.front_end.proofs.source_interfaces.known.names_of.Given as goal
+
+abbrev pub invariant-loop-unit : goal.invariant-loop-unit
+invariant-loop-unit l = l.names ≡ names_of (take l.unit-index l.uses)

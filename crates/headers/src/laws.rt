@@ -1,9 +1,0 @@
-//! The law on headers.
-
-ghost use Rattle.headers.specs.Laws.{AreLawful};
-
-/// The judgement of a type's name or of a header answers the one type or header that holds, and then no rule fails; or a fault
-/// that is there, and then none holds.
-pub fn header_laws()
-    ensures { AreLawful }
-{}

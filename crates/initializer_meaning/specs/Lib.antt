@@ -1,0 +1,2 @@
+pub mod initializer_trees
+pub mod stored_value_laws

@@ -1,9 +1,0 @@
--- What was read, as the readers give it.
-use Rattle.syntax_tree.specs.Expressions.{Parsed, word, name_of}
-use Rattle.type_tree.specs.declared.initializer.FieldValue.{FieldValue}
-use Rattle.type_tree.specs.declared.initializer.FieldValue.TheVariants as f
-use Rattle.type_tree.specs.Initializers.{of_initializer}
-
--- a field, its colon and its value
-abbrev pub field_of : FieldValue → Parsed × Parsed × Parsed
-field_of (f.Field name x) = (name_of name, word, of_initializer x)

@@ -1,8 +1,0 @@
--- From 16 places on nothing is left.
-use Rattle.std.proofs.Common.{sym, arith}
-use Rattle.integers.specs.Words.{w16}
-use Rattle.integers.proofs.WordLaws.{shifted_left-out}
-use Rattle.integers.proofs.shifted_left.Goals as goal
-
-pub returns-else-places-lt16 : goal.returns-else-places-lt16
-returns-else-places-lt16 c = sym (shifted_left-out w16 c.args.word c.args.places (omega arith))

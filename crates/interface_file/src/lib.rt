@@ -1,8 +1,0 @@
-//! Interfaces as bytes of a unit file: read from the front of what is left, and written.
-#![tactic(auto)]
-
-mod items;
-mod writing;
-
-pub use items::interface_of;
-pub use writing::push_interface;

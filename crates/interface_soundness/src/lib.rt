@@ -1,0 +1,9 @@
+//! The interface of a unit is that of its interface part.
+#![tactic(auto)]
+
+pub mod interfaces;
+pub mod programs;
+pub mod tables;
+
+pub use front_end;
+pub use front_end::tp_outside;

@@ -1,0 +1,5 @@
+//! Laws of typed programs.
+
+mod laws;
+
+pub use laws::program_laws;

@@ -1,0 +1,3 @@
+pub use Rattle.interface_soundness.proofs.front_end_proofs as front_end_proofs
+pub use Rattle.interface_soundness.proofs as interface_soundness_proofs
+pub use Rattle.interface_soundness.proofs.source_graph_proofs as source_graph_proofs

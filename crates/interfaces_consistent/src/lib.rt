@@ -1,0 +1,8 @@
+//! Interfaces of one program fit; one folder, one program.
+#![tactic(auto)]
+
+pub mod determinism;
+pub mod interfaces;
+
+pub use interface_soundness;
+pub use interface_soundness::{front_end, tp_outside};

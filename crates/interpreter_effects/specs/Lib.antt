@@ -1,0 +1,4 @@
+pub mod activations
+pub mod initializers
+pub mod program_names
+pub mod standard_effects

@@ -1,0 +1,2 @@
+pub mod cell_store
+pub mod typed_cells

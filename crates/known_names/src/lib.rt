@@ -1,6 +1,0 @@
-//! What is known where some blocks are open is there among trees.
-#![tactic(auto)]
-
-mod laws;
-
-pub use laws::known_name_laws;

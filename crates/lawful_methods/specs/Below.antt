@@ -1,7 +1,0 @@
--- What crates above this one cite of those below it, by one name.
-pub use Rattle.agreed_programs.specs.Below.{AreInOrder, AreOfKinds, IsDone, IsProgram, IsShownIn, IsTypedAs, IsUnitOf, ShowsAlike, Whole, all_declared, all_used, declarations_judged, declared, empty_draft, ended, interface_judged, items_of, outer_scope, outer_units, sources_at, unit_site, view_unit, with_nothing_else}
-pub use Rattle.agreed_programs.specs.Laws.{ConsistencyLaw, ClassesLaw, DeclarersLaw, IsKeptTable, ListedLaw}
-pub use Rattle.agreed_programs.specs.Methods.{AreOnce, HasDeclaredMethods}
-pub use Rattle.checked_units.specs.Begun.{IsRoomy, IsSource, interface_variables}
-pub use Rattle.checked_units.specs.Below.{names_in, others_of, variables_in, variables_of}
-pub use Rattle.checked_units.specs.Laws.{end_scope}

@@ -1,8 +1,0 @@
-//! Names of the full language that this profile leaves out.
-#![tactic(auto)]
-
-mod names;
-#[cfg(test)]
-mod tests;
-
-pub use names::feature_of;

@@ -1,8 +1,0 @@
-use Rattle.std.proofs.Common.{◌≡◌, ap, ◌∙◌}
-use Rattle.pascal_grammar.specs.declared.kind.Kind.TheVariants as k
-use Rattle.lexeme_list.specs.Words.{reserved_kinds, kind_at}
-use Rattle.lexeme_list.proofs.Indexes.{same_index}
-use Rattle.lexeme_list.proofs.word.reserved_kind.Goals as goal
-
-pub returns-in-Some : goal.returns-in-Some
-returns-in-Some c = same_index reserved_kinds c.in-Some.place _ k.Stray c.in-Some.ensures.within ∙ ap kind_at c.in-Some.ensures.value

@@ -1,0 +1,29 @@
+-- What typed programs that are the same have in common, as programs of literals.
+use Rattle.std.specs.Prelude.{◌≡◌, List}
+use Rattle.source_graph.specs.ll1_grammar.whole_trees.Whole.{IsWhole}
+use Rattle.source_graph.specs.syntax_tree.declared.source_tree.source.Tree.{Tree}
+use Rattle.source_graph.specs.syntax_tree.source_tree.Sources.{of_tree}
+use Rattle.literal_programs.specs.typed_tree.declared.units.Program.{Program}
+use Rattle.address_independence.specs.tp_meaning.Programs.{stack_of, heap_of}
+use Rattle.address_independence.specs.congruence.Laws.{IsSame}
+use Rattle.literal_programs.specs.mz_file.declared.executable.Exe.{Exe}
+use Rattle.literal_programs.specs.literal_code.Statement.{Statement}
+use Rattle.literal_programs.specs.Literals.{Says}
+use Rattle.literal_programs.specs.Memory.{HasMemoryOf}
+use Rattle.literal_form_laws.specs.literal_places.Places.{place_outside}
+
+-- The same is said by both, so both are programs of literals or neither is.
+abbrev pub SaysAlike : Type 0
+SaysAlike = (one other : Program) → IsSame one other → (statements : List Statement) → Says one statements → Says other statements
+
+-- Both have the same memory, whatever they say.
+abbrev pub MemoryAlike : Type 0
+MemoryAlike = (one other : Program) → IsSame one other → (stack_of one ≡ stack_of other) × (heap_of one ≡ heap_of other)
+
+abbrev pub HasMemoryAlike : Type 0
+HasMemoryAlike = (one other : Program) → IsSame one other → (exe : Exe) → HasMemoryOf one exe → HasMemoryOf other exe
+
+-- Where their sources are spelled alike, both leave the literal form at one place.
+abbrev pub PlaceAlike : Type 0
+PlaceAlike = (tree another : Tree) (one other : Program) → IsWhole (of_tree tree) → of_tree tree ≡ of_tree another → IsSame one other
+    → place_outside tree one ≡ place_outside another other

@@ -1,0 +1,13 @@
+//! What holds of the places of nodes that the form doesn't have.
+
+ghost use Rattle.std.specs.Prelude.{◌≡◌, List, None};
+ghost use Rattle.source_graph.specs.type_layout.declared.definitions.TypeDef.{TypeDef};
+ghost use Rattle.source_graph.specs.type_layout.declared.texts.Place.{Place};
+ghost use Rattle.literal_programs.specs.typed_tree.Statements.{Statement};
+ghost use Rattle.literal_form_laws.specs.literal_places.Outlines.{Outline};
+ghost use Rattle.literal_form_laws.specs.literal_places.Places.{first_in, IsOfForm};
+
+/// A statement in which no place is found is of the form, so in one that isn't some node is found.
+pub fn place_law()
+    ensures { (types : List TypeDef) (at : Place) (source : Outline) (typed : Statement) → first_in types at source typed ≡ None → IsOfForm types typed }
+{}

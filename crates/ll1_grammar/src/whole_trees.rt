@@ -1,0 +1,1 @@
+//! Trees without gaps, which are those that some list of lexemes spells.

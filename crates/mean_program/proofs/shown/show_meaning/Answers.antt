@@ -1,5 +1,0 @@
-use Rattle.mean_program.proofs.ShownLaws.{stands_somewhere}
-use Rattle.mean_program.proofs.shown.show_meaning.Goals as goal
-
-pub write_meaning-requires : goal.write_meaning-requires
-write_meaning-requires g c = stands_somewhere c.args.program.now c.args.turns _ c.as_slice-given.result.now c.requires.sound c.of_bytes.ensures c.in-Ok-mean.ensures

@@ -1,6 +1,0 @@
-//! The meaning of a typed program, shown: the input read, the meaning asked for, and what it writes written.
-#![tactic(auto)]
-
-mod shown;
-
-pub use shown::show_meaning;

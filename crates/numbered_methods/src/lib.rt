@@ -1,6 +1,0 @@
-//! Object types of checked programs have methods as their declarations make them.
-#![tactic(auto)]
-
-mod laws;
-
-pub use laws::numbered_method_laws;

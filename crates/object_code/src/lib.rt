@@ -1,6 +1,0 @@
-//! What the code and data of an object unit are, and that code is what it is made for.
-#![tactic(auto)]
-
-mod laws;
-
-pub use laws::code_law;

@@ -1,5 +1,0 @@
-use Rattle.operator_laws.proofs.OfOperators.{early_laws, order_laws, text_order_laws, boolean_laws, range_laws}
-use Rattle.operator_laws.proofs.operator_laws.Goals as goal
-
-pub returns : goal.returns
-returns c = record { early = early_laws; order = order_laws; texts = text_order_laws; booleans = boolean_laws; range = range_laws }

@@ -1,6 +1,0 @@
-use Rattle.outcomes.proofs.Joined.{joined}
-use Rattle.outcomes.proofs.line.push_why.Goals as goal
-
-pub returns-in-ShortOverlay-clause-text : goal.returns-in-ShortOverlay-clause-text
-returns-in-ShortOverlay-clause-text c =
-    rw c.in-ShortOverlay.is (joined _ _ _ _ _ c.push_text-in-ShortOverlay.ensures c.push_decimal-in-ShortOverlay.ensures.text)

@@ -1,8 +1,0 @@
-use Rattle.overlay_run.proofs.PlainLaws.{plain-runs, managed-runs}
-use Rattle.overlay_run.proofs.laws.plain_law.Goals as goal
-
-pub returns-clause-only : goal.returns-clause-only
-returns-clause-only c = plain-runs
-
-pub returns-clause-all : goal.returns-clause-all
-returns-clause-all c = managed-runs

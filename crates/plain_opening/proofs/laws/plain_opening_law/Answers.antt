@@ -1,5 +1,0 @@
-use Rattle.plain_opening.proofs.Openings.{plain_opening, large_refusal, plain_refusal}
-use Rattle.plain_opening.proofs.laws.plain_opening_law.Goals as goal
-
-pub returns : goal.returns
-returns c = record { opened = plain_opening; large = large_refusal; refused = plain_refusal }

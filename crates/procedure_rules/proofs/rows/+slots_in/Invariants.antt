@@ -1,5 +1,0 @@
-use Rattle.std.proofs.Common.{length}
-use Rattle.procedure_rules.proofs.rows.+slots_in.Given as goal
-
-abbrev pub decreases-slots_in : goal.decreases-slots_in
-decreases-slots_in l = length l.rows.now

@@ -1,6 +1,0 @@
-//! Laws of typed programs.
-#![tactic(auto)]
-
-mod laws;
-
-pub use laws::program_laws;

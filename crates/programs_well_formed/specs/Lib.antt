@@ -1,0 +1,2 @@
+pub mod imported_interfaces
+pub mod programs

@@ -1,0 +1,5 @@
+//! And programs.
+#![tactic(auto)]
+
+pub mod imported_interfaces;
+pub mod programs;

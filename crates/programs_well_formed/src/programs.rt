@@ -1,0 +1,5 @@
+//! The laws on well-formed units of programs.
+
+mod laws;
+
+pub use laws::formed_program_laws;

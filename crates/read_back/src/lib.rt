@@ -1,6 +1,0 @@
-//! What the grammar makes of a source, read back: it fixes all that the rules of typing look at.
-#![tactic(auto)]
-
-mod laws;
-
-pub use laws::read_back_laws;

@@ -1,6 +1,0 @@
-use Rattle.std.proofs.Common.{◌≡◌, drop}
-use Rattle.routines.specs.Methods.{none_is_self}
-use Rattle.routines.proofs.method_headings.none_is_self.Given as goal
-
-abbrev pub invariant-loop-one : goal.invariant-loop-one
-invariant-loop-one l = (none_is_self (drop l.one-index l.names)).run ≡ (none_is_self l.names).run

@@ -1,9 +1,0 @@
-//! The runtime's routines on numbers, strings and sets, run by the interpreter of flat code.
-#![tactic(auto)]
-
-#[cfg(test)]
-mod numbers;
-#[cfg(test)]
-mod program;
-#[cfg(test)]
-mod tests;

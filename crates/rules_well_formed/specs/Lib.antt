@@ -1,0 +1,10 @@
+pub use Rattle.call_rules.specs as call_rules
+pub use Rattle.well_formed.specs as well_formed
+pub mod allocations
+pub mod calls
+pub mod methods
+pub mod nodes
+pub mod procedures
+pub mod sets
+pub mod standard
+pub mod virtual_slots

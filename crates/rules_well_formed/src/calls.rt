@@ -1,0 +1,5 @@
+//! Conversions and calls give typed nodes.
+
+mod laws;
+
+pub use laws::call_laws;

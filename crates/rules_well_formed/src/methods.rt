@@ -1,0 +1,5 @@
+//! Calls of methods and through variables give typed nodes.
+
+mod laws;
+
+pub use laws::method_node_laws;

@@ -1,0 +1,5 @@
+//! Each rule that gives a node gives a well-formed one.
+
+mod laws;
+
+pub use laws::node_laws;

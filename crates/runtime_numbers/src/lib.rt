@@ -1,8 +1,0 @@
-//! The runtime by name: its units, the numbers of its routines, and the data that others name.
-#![tactic(auto)]
-
-mod laws;
-mod numbers;
-
-pub use laws::number_laws;
-pub use numbers::{RuntimeGlobal, RuntimeRoutine, RuntimeUnit};

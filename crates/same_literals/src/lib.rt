@@ -1,6 +1,0 @@
-//! Typed programs that are the same, as programs of literals.
-#![tactic(auto)]
-
-mod laws;
-
-pub use laws::same_literal_laws;

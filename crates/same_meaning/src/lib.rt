@@ -1,6 +1,0 @@
-//! What a program means, wherever its statements lie in memory.
-#![tactic(auto)]
-
-mod laws;
-
-pub use laws::same_meaning_law;

@@ -1,9 +1,0 @@
-use Rattle.sound_calls.proofs.Opened.{opens}
-use Rattle.sound_calls.proofs.Numbered.{called_level, level_laws}
-use Rattle.sound_calls.proofs.sound_call_laws.Goals as goal
-
-pub returns : goal.returns
-returns c = record {
-  calls = λ w store agreed typed. record { opens = opens w agreed store typed; level = called_level w store typed };
-  levels = level_laws;
-}

@@ -1,5 +1,0 @@
-use Rattle.sound_standards.proofs.Calls.{standard_laws}
-use Rattle.sound_standards.proofs.sound_standard_laws.Goals as goal
-
-pub returns : goal.returns
-returns c = λ w store agreed closed typed. standard_laws w agreed closed store typed

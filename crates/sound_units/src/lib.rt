@@ -1,6 +1,0 @@
-//! Checked units keep what a well-typed program asks of first values and of routines.
-#![tactic(auto)]
-
-mod laws;
-
-pub use laws::sound_unit_laws;

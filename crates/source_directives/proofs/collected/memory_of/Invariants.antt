@@ -1,6 +1,0 @@
-use Rattle.std.proofs.Common.{◌≡◌, drop}
-use Rattle.source_directives.specs.Directives.{usual_memory, memory_of}
-use Rattle.source_directives.proofs.collected.memory_of.Given as goal
-
-abbrev pub invariant-loop-token : goal.invariant-loop-token
-invariant-loop-token l = memory_of l.memory (drop l.token-index l.tokens) ≡ memory_of usual_memory l.tokens

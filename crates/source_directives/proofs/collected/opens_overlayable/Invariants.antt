@@ -1,6 +1,0 @@
-use Rattle.std.proofs.Common.{◌≡◌, false, drop}
-use Rattle.source_directives.specs.Directives.{opens_overlayable}
-use Rattle.source_directives.proofs.collected.opens_overlayable.Given as goal
-
-abbrev pub invariant-loop-token : goal.invariant-loop-token
-invariant-loop-token l = opens_overlayable l.allowed (drop l.token-index l.tokens) ≡ opens_overlayable false l.tokens

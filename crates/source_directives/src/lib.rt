@@ -1,8 +1,0 @@
-//! What the directives of a source say for the whole of it.
-#![tactic(auto)]
-
-mod collected;
-#[cfg(test)]
-mod tests;
-
-pub use collected::{Directives, Overlaid, OverlaidUnits, directives_of};

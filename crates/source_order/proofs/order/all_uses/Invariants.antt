@@ -1,6 +1,0 @@
-use Rattle.std.proofs.Common.{◌≡◌, take}
-use Rattle.source_order.specs.Orders.{all_uses}
-use Rattle.source_order.proofs.order.all_uses.Given as goal
-
-abbrev pub invariant-loop-source : goal.invariant-loop-source
-invariant-loop-source l = l.all.items ≡ all_uses (take l.source-index l.sources)

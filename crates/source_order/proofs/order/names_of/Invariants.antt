@@ -1,6 +1,0 @@
-use Rattle.std.proofs.Common.{◌≡◌, take}
-use Rattle.source_order.specs.Orders.{names_of}
-use Rattle.source_order.proofs.order.names_of.Given as goal
-
-abbrev pub invariant-loop-unit : goal.invariant-loop-unit
-invariant-loop-unit l = l.names ≡ names_of (take l.unit-index l.units)

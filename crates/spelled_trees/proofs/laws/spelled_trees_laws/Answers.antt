@@ -1,8 +1,0 @@
-use Rattle.spelled_trees.proofs.Trees.{typed_alike, shown_alike}
-use Rattle.spelled_trees.proofs.laws.spelled_trees_laws.Goals as goal
-
-pub returns-clause-typed : goal.returns-clause-typed
-returns-clause-typed c = typed_alike
-
-pub returns-clause-shown : goal.returns-clause-shown
-returns-clause-shown c = shown_alike

@@ -1,6 +1,0 @@
-//! Sources that are spelled alike are typed alike, wherever their trees lie in memory.
-#![tactic(auto)]
-
-mod laws;
-
-pub use laws::spelled_trees_laws;

@@ -1,6 +1,0 @@
-use Rattle.std.proofs.Common.{◌≡◌}
-use Rattle.statement_parser.proofs.Rows.{case_is}
-use Rattle.statement_parser.proofs.list.Arms.into_case.Goals as goal
-
-pub returns : goal.returns
-returns c = case_is c.args.position c.args.selector c.args.self.items c.args.semicolon c.args.otherwise

@@ -1,0 +1,3 @@
+pub mod expressions
+pub mod flow
+pub mod stores

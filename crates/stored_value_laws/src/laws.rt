@@ -1,8 +1,0 @@
-//! The law.
-
-ghost use Rattle.stored_value_laws.specs.Laws.{AreReadBack};
-
-/// Each ordinal, string and set that is written as bytes is read back from them by the meaning; it does nothing.
-pub fn stored_value_laws()
-    ensures { AreReadBack }
-{}

@@ -1,6 +1,0 @@
-//! What is written for a variable is what the meaning reads.
-#![tactic(auto)]
-
-mod laws;
-
-pub use laws::stored_value_laws;

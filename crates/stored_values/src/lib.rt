@@ -1,8 +1,0 @@
-//! Values as the bytes that variables hold.
-#![tactic(auto)]
-
-mod bytes;
-mod laws;
-
-pub use bytes::{with_ordinal, with_set, with_string};
-pub use laws::stored_laws;

@@ -1,8 +1,0 @@
-use Rattle.strings_in_memory.proofs.Cells.{bytes-front, laid-has}
-use Rattle.strings_in_memory.proofs.move_laws.Goals as goal
-
-pub returns-clause-front : goal.returns-clause-front
-returns-clause-front c = bytes-front
-
-pub returns-clause-laid : goal.returns-clause-laid
-returns-clause-laid c = laid-has

@@ -1,0 +1,3 @@
+pub use Rattle.source_graph.specs as source_graph
+pub mod leaves
+pub mod sources

@@ -1,6 +1,0 @@
-//! The laws on tables that tell of the types of units what their interfaces tell.
-#![tactic(auto)]
-
-mod laws;
-
-pub use laws::consistency_laws;

@@ -1,5 +1,0 @@
-use Rattle.std.proofs.Common.{length}
-use Rattle.type_denoters.proofs.enumerations.+enter_values.Given as goal
-
-abbrev pub decreases-enter_values : goal.decreases-enter_values
-decreases-enter_values l = length l.names.now

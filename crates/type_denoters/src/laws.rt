@@ -1,8 +1,0 @@
-//! The law on types.
-
-ghost use Rattle.type_denoters.specs.Laws.{AreExact};
-
-/// A type has an id in the table exactly where no rule fails in it, and then one alone, with one scope behind it.
-pub fn denoter_laws()
-    ensures { AreExact }
-{}

@@ -1,9 +1,0 @@
-use Rattle.std.proofs.Common.{◌≡◌, ◌-◌}
-use Rattle.file_parts.specs.Parts.{each}
-use Rattle.file_parts.proofs.LoopLaws.{with_front}
-use Rattle.type_file.specs.Reading.{method_at}
-use Rattle.type_file.proofs.parts.methods_in_turn.Given as goal
-
--- what was read and what is left decide
-abbrev pub invariant-loop : goal.invariant-loop
-invariant-loop l = with_front l.methods (each (method_at l.count l.place) (l.left - l.counter) l.rest) ≡ each (method_at l.count l.place) l.left l.bytes

@@ -1,0 +1,73 @@
+-- What is read of the bytes of a first value has the form of its type.
+use Rattle.std.proofs.Common.{ℕ, zero, suc, ◌*◌, ◌<◌, List, [], ◌∷◌, take, arith}
+use Rattle.std.specs.Prelude.{ℤ, All}
+use Rattle.std.proofs.lemmas.List.Elements.{All-head, All-tail, All-drop}
+use Rattle.program_typing.specs.common_values.integers.Words.{IsWord}
+use Rattle.program_typing.specs.type_layout.declared.definitions.Host.{Host}
+use Rattle.program_typing.specs.type_layout.declared.definitions.Host.TheVariants as host
+use Rattle.program_typing.specs.type_layout.Storage.{width_of, set_bytes}
+use Rattle.program_typing.specs.common_values.Ordinals.{width_of as word_width}
+use Rattle.program_typing.specs.tp_meaning.Shapes.{stored_among, Reader, before, read_many, word_of_bytes, read_ordinal, read_set, read_nothing}
+use Rattle.program_typing.specs.store_typing.types.Forms.{Held, Number, Members, Form, Cell, Pair, repeated}
+use Rattle.program_typing.specs.store_typing.stores.Worlds.{World, HasForm}
+use Rattle.program_typing.proofs.store_typing_proofs.operators.Ranges.{meant_held}
+
+abbrev pub AreBytes : List ℕ → Type 0
+AreBytes bytes = All (λ byte. byte < 256) bytes
+
+-- how many words there are of so many bytes
+abbrev word_count : ℕ → ℕ
+word_count zero = 1
+word_count (suc k) = 256 * word_count k
+
+some_words : (k : ℕ) → 0 < word_count k
+some_words zero = omega arith
+some_words (suc k) = omega (arith, some_words k)
+
+-- a word of so many bytes, or of fewer where no more are there
+word_below : (k : ℕ) (bytes : List ℕ) → AreBytes bytes → word_of_bytes (take k bytes) < word_count k
+word_below zero [] each = omega arith
+word_below zero (byte ∷ bytes) each = omega arith
+word_below (suc k) [] each = omega (arith, some_words k)
+word_below (suc k) (byte ∷ bytes) each =
+    let rest = word_below k bytes (All-tail (λ b. b < 256) byte bytes each) in
+    let first = All-head (λ b. b < 256) byte bytes each in
+    omega (arith, rest, first)
+
+word_of_host : (h : Host) (bytes : List ℕ) → AreBytes bytes → IsWord (word_width (stored_among h)) (word_of_bytes (take (width_of h) bytes))
+word_of_host host.ShortInt bytes each = word_below 1 bytes each
+word_of_host host.Byte bytes each = word_below 1 bytes each
+word_of_host host.Integer bytes each = word_below 2 bytes each
+word_of_host host.Word bytes each = word_below 2 bytes each
+word_of_host host.LongInt bytes each = word_below 4 bytes each
+word_of_host host.Char bytes each = word_below 1 bytes each
+word_of_host host.Boolean bytes each = word_below 1 bytes each
+word_of_host host.Enumeration bytes each = word_below 1 bytes each
+
+module _ (w : World) where
+  -- what is read of bytes has a form, and bytes are left
+  abbrev pub Reads : Form → Reader → Type 0
+  Reads form read = (bytes : List ℕ) → AreBytes bytes → HasForm w form (read bytes).0 × AreBytes (read bytes).1
+
+  pub ordinal_reads : (h : Host) → Reads (Cell (Number h)) (read_ordinal h)
+  ordinal_reads h bytes each =
+      (meant_held h (word_of_bytes (take (width_of h) bytes)) (word_of_host h bytes each), All-drop (λ byte. byte < 256) (width_of h) bytes each)
+
+  pub set_reads : (low high : ℤ) → Reads (Cell Members) (read_set low high)
+  set_reads low high bytes each = (tt, All-drop (λ byte. byte < 256) (set_bytes low high) bytes each)
+
+  pub nothing_reads : (held : Held) → Reads (Cell held) read_nothing
+  nothing_reads held bytes each = (tt, each)
+
+  pub many_reads : (n : ℕ) (form : Form) (read : Reader) → Reads form read → Reads (repeated n form) (read_many n read)
+  many_reads zero form read one bytes each = (tt, each)
+  many_reads (suc n) form read one bytes each =
+      let first = one bytes each in
+      let rest = many_reads n form read one (read bytes).1 first.1 in
+      ((first.0, rest.0), rest.1)
+
+  pub before_reads : (first rest : Form) (read others : Reader) → Reads first read → Reads rest others → Reads (Pair first rest) (λ bytes. before (read bytes) others)
+  before_reads first rest read others one more bytes each =
+      let head = one bytes each in
+      let tail = more (read bytes).1 head.1 in
+      ((head.0, tail.0), tail.1)

@@ -1,9 +1,0 @@
-//! First values of typed constants from texts, with bytes and places that were worked out by hand.
-#![tactic(auto)]
-
-#[cfg(test)]
-mod declared;
-#[cfg(test)]
-mod rows;
-#[cfg(test)]
-mod told;

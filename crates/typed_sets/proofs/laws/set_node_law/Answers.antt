@@ -1,5 +1,0 @@
-use Rattle.typed_sets.proofs.Constructed.{constructed_typed}
-use Rattle.typed_sets.proofs.laws.set_node_law.Goals as goal
-
-pub returns : goal.returns
-returns c = λ s sound place checked items e operands h. constructed_typed s sound place checked items e operands h

@@ -1,0 +1,8 @@
+pub use Rattle.declarations_well_formed.proofs as declarations_well_formed_proofs
+pub use Rattle.declarations_well_formed.proofs.imported_types_agree_proofs as imported_types_agree_proofs
+pub use Rattle.declarations_well_formed.proofs.rules_well_formed_proofs as rules_well_formed_proofs
+pub use Rattle.declarations_well_formed.proofs.tables_closed_proofs as tables_closed_proofs
+pub use Rattle.declarations_well_formed.proofs.tp_check_decl_proofs as tp_check_decl_proofs
+pub use Rattle.declarations_well_formed.proofs.type_layout_proofs as type_layout_proofs
+pub use Rattle.declarations_well_formed.proofs.typing_rules_proofs as typing_rules_proofs
+pub use Rattle.declarations_well_formed.proofs.unit_interface_proofs as unit_interface_proofs

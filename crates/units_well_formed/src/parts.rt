@@ -1,0 +1,5 @@
+//! Parts of declarations keep what is known.
+
+mod laws;
+
+pub use laws::part_keeping_law;

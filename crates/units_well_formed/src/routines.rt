@@ -1,0 +1,5 @@
+//! Routines that a block declares are well formed.
+
+mod laws;
+
+pub use laws::checked_routine_law;

@@ -1,5 +1,0 @@
-use Rattle.values.proofs.InputLemmas.{taking_laws}
-use Rattle.values.proofs.input.input_laws.Goals as goal
-
-pub returns-clause-taking : goal.returns-clause-taking
-returns-clause-taking c = taking_laws

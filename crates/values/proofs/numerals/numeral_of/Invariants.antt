@@ -1,7 +1,0 @@
-use Rattle.std.proofs.Common.{◌≡◌, ◌+◌, drop}
-use Rattle.values.specs.Numerals.{IsBounded, numeral_from}
-use Rattle.values.specs.declared.numerals.Stage.TheVariants as stages
-use Rattle.values.proofs.numerals.numeral_of.Given as goal
-
-abbrev pub invariant-loop-i : goal.invariant-loop-i
-invariant-loop-i l = (numeral_from l.stage (l.i + 1) (drop l.i l.text) ≡ numeral_from stages.Start 1 l.text) × IsBounded l.stage

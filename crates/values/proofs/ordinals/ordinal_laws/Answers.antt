@@ -1,8 +1,0 @@
-use Rattle.values.proofs.OrdinalLemmas.{storage_laws, operator_laws}
-use Rattle.values.proofs.ordinals.ordinal_laws.Goals as goal
-
-pub returns-clause-storage : goal.returns-clause-storage
-returns-clause-storage c = storage_laws
-
-pub returns-clause-operators : goal.returns-clause-operators
-returns-clause-operators c = operator_laws

@@ -1,7 +1,0 @@
-use Rattle.std.proofs.Common.{◌≡◌, ◌/◌, map}
-use Rattle.std.specs.List.{range_with_len}
-use Rattle.values.specs.Sets.{set_byte}
-use Rattle.values.proofs.sets.set_bytes.Given as goal
-
-abbrev pub invariant-loop-offset : goal.invariant-loop-offset
-invariant-loop-offset l = l.bytes.items ≡ map (set_byte l.set) (range_with_len (l.low / 8) l.offset)

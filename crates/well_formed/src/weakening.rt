@@ -1,0 +1,5 @@
+//! What is well formed in a scope is so in each that has more.
+
+mod laws;
+
+pub use laws::weakening_laws;

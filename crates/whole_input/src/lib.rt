@@ -1,8 +1,0 @@
-//! The whole input of a program, read to its end.
-#![tactic(auto)]
-
-mod error;
-mod input;
-
-pub use error::InputError;
-pub use input::{INPUT_LIMIT, whole_input};

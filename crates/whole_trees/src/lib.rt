@@ -1,2 +1,0 @@
-//! Trees without gaps, which are those that some list of lexemes spells.
-#![tactic(auto)]
