@@ -1,7 +1,5 @@
-//! Names of each kind.
-
-use crate::Feature;
-use crate::left_out_names::feature_of;
+use tp_lexer::Feature;
+use tp_lexer::left_out_names::feature_of;
 use type_layout::Name;
 
 fn told(bytes: &[u8]) -> Option<Feature> {

@@ -1,6 +1,6 @@
-use crate::source_directives::{Directives, directives_of};
-use crate::{Text, tokens};
 use std::alloc::{AllocError, Global};
+use tp_lexer::source_directives::{Directives, directives_of};
+use tp_lexer::{Text, tokens};
 use type_layout::{Bytes, FileName};
 
 fn found(alloc: Global, source: &str) -> Result<Directives, AllocError> {

@@ -1,95 +1,60 @@
-use crate::generate_code::Numbers;
-use crate::generate_routines::push_routine;
+//! The lines of routines, before any address is known.
+
+use crate::builders::{call, far, leave, near, number, op, set, unit, word};
 use code_templates::code_references::MarkedLines;
+use codegen_8086::generate_code::Numbers;
+use codegen_8086::generate_routines::push_routine;
 use flat_code::{Address, FlatExpr, FlatOp, FlatResult, FlatRoutine, FlatStmt, FlatUnit};
 use std::alloc::Global;
 use std::test::Fail;
-use type_layout::{Name, RoutineId, Sequence};
 use x86_table::{CodeBytes, LineList, assemble, is_small};
 
-fn op(alloc: Global, op: FlatOp, a: FlatExpr, b: FlatExpr) -> Result<FlatExpr, Fail> {
-    Ok(FlatExpr::Op {
-        op,
-        a: Box::new(alloc, a)?,
-        b: Box::new(alloc, b)?,
+// A routine that asks for no check of the stack, as those of the runtime.
+fn without_frame(routine: FlatRoutine) -> Result<FlatRoutine, Fail> {
+    Ok(FlatRoutine {
+        frame: 0,
+        ..routine
     })
 }
 
 // A far function that adds 1 to its argument.
 fn successor(alloc: Global) -> Result<FlatRoutine, Fail> {
-    let argument = FlatExpr::Word(Address::Local(6));
-    let value = op(alloc, FlatOp::Add, argument, FlatExpr::Number(1))?;
-    let at = Address::Local(-2);
-    Ok(FlatRoutine {
-        name: Name::new(b"SUCCESSOR").ok_or("a name")?,
-        far: true,
-        arguments: 2,
-        locals: 2,
-        frame: 10,
-        result: Some(FlatResult { at, bytes: 2 }),
-        body: vec![in alloc; FlatStmt::StoreWord { to: at, value }, FlatStmt::Return]?,
-    })
+    let value = op(alloc, FlatOp::Add, word(6), number(1))?;
+    let body = vec![in alloc; set(-2, value), FlatStmt::Return]?;
+    let mut routine = far(2, 2, body)?;
+    routine.result = Some(FlatResult {
+        at: Address::Local(-2),
+        bytes: 2,
+    });
+    Ok(routine)
 }
 
-// A near routine of the runtime that calls the other one as long as a word of a datum is less than 10.
+// A near routine that calls the other one as long as a word of a datum is less than 10.
 fn repeated(alloc: Global) -> Result<FlatRoutine, Fail> {
     let at = Address::Global {
         unit: 0,
         number: 0,
         plus: 2,
     };
-    let test = op(
-        alloc,
-        FlatOp::Less,
-        FlatExpr::Word(at),
-        FlatExpr::Number(10),
-    )?;
-    let call = FlatStmt::Call {
-        routine: RoutineId { unit: 0, number: 1 },
-        args: vec![in alloc;]?,
-        result: None,
-    };
     let turn = FlatStmt::If {
-        test,
-        yes: vec![in alloc; call]?,
-        no: vec![in alloc; FlatStmt::Leave { loops: 1 }]?,
+        test: op(alloc, FlatOp::Less, FlatExpr::Word(at), number(10))?,
+        yes: vec![in alloc; call(0, 1, Vec::new(alloc), None)]?,
+        no: vec![in alloc; leave(1)]?,
     };
-    Ok(FlatRoutine {
-        name: Name::new(b"REPEATED").ok_or("a name")?,
-        far: false,
-        arguments: 0,
-        locals: 0,
-        frame: 0,
-        result: None,
-        body: vec![in alloc; FlatStmt::Loop(vec![in alloc; turn]?)]?,
-    })
+    let body = FlatStmt::Loop(vec![in alloc; turn]?);
+    without_frame(near(0, 0, vec![in alloc; body]?)?)
 }
 
 // A near routine whose inner loop leaves both loops.
 fn left(alloc: Global) -> Result<FlatRoutine, Fail> {
-    let inner = FlatStmt::Loop(vec![in alloc; FlatStmt::Leave { loops: 2 }]?);
-    Ok(FlatRoutine {
-        name: Name::new(b"LEFT").ok_or("a name")?,
-        far: false,
-        arguments: 4,
-        locals: 0,
-        frame: 0,
-        result: None,
-        body: vec![in alloc; FlatStmt::Loop(vec![in alloc; inner]?)]?,
-    })
+    let inner = FlatStmt::Loop(vec![in alloc; leave(2)]?);
+    let body = FlatStmt::Loop(vec![in alloc; inner]?);
+    without_frame(near(4, 0, vec![in alloc; body]?)?)
 }
 
-fn unit(alloc: Global) -> Result<FlatUnit, Fail> {
-    let mut names = Sequence::new(alloc);
-    names.push(Name::new(b"U").ok_or("a name")?)?;
+fn small_routines(alloc: Global) -> Result<FlatUnit, Fail> {
     let routines = vec![in alloc; repeated(alloc)?, successor(alloc)?, left(alloc)?]?;
-    Ok(FlatUnit {
-        names,
-        initial: None,
-        routines: Sequence::from_vec(routines),
-        globals: Sequence::new(alloc),
-        vmts: Sequence::new(alloc),
-    })
+    unit(alloc, &[b"U"], routines)
 }
 
 // PUSH BP; MOV BP,SP; SUB SP,0; CLD; MOV AX,[0002]; PUSH AX; MOV AX,10; MOV CX,AX; POP AX; CMP AX,CX; MOV AX,0; JGE +1; INC AX;
@@ -133,9 +98,13 @@ fn code_of(alloc: Global, unit: &FlatUnit, number: usize) -> Result<CodeBytes, F
 #[test]
 fn routines_come_to_bytes_written_by_hand(rt: HostRuntime) -> Result<(), Fail> {
     let alloc = rt.alloc();
-    let unit = unit(alloc)?;
-    assert_eq!(rt; code_of(alloc, &unit, 0)?.as_slice(), REPEATED);
-    assert_eq!(rt; code_of(alloc, &unit, 1)?.as_slice(), SUCCESSOR);
-    assert_eq!(rt; code_of(alloc, &unit, 2)?.as_slice(), LEFT);
+    let own = small_routines(alloc)?;
+    for (number, bytes) in [(0, REPEATED), (1, SUCCESSOR), (2, LEFT)] {
+        assert_eq!(rt;
+            code_of(alloc, &own, number)?.as_slice(),
+            bytes,
+            "routine {number}"
+        );
+    }
     Ok(())
 }
