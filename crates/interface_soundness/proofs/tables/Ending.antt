@@ -172,11 +172,7 @@ unit_closed name says g have (t.Unit here own uses outer interface all body) uni
     ended_closed name h.part (items_of d.scope) body s.part.draft unit s.made
     (closed_of last (items_of d.scope) (complete_on u.part last more middle.complete) (shown_below n d.scope (closed_below n d.scope first.closed low)))
 
-<<<<<<< HEAD
 -- the law of `interfaces` on well-scoped tables, of well-scoped units
-=======
--- the law of `interface_laws` on closed tables, of closed units
->>>>>>> a936bd0a8369ecd07ab237f3dcc297e409882b76
 pub is_closed : (types : Table) (items : List Item) → IsWellScopedUnit types items → IsWellScoped types.types items
 is_closed types items h =
     let n = length types.types in
