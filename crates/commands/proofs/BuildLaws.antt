@@ -1,5 +1,5 @@
 -- From what the parts of `go` answer to what it does.
-use Rattle.std.proofs.Common.{◌≡◌, ◌⊎◌, ◌<◌, ◌≤◌, ℕ, List, [], Option, Some, None, Result, Ok, Err, IfOk, IfErr, refl, inl, inr, sym, ap, ◌∙◌, subst, arith}
+use Rattle.std.proofs.Common.{◌≡◌, ◌⊎◌, ◌<◌, ◌≤◌, ℕ, List, [], length, Option, Some, None, Result, Ok, Err, IfOk, IfErr, refl, inl, inr, sym, ap, ◌∙◌, subst, arith}
 use Rattle.std.specs.Prelude.{IfSome}
 use Rattle.std.proofs.lemmas.Bool.{cases_order}
 use Rattle.dos_runner.specs.tp_outside.Faults.{HasRisen}
@@ -15,12 +15,14 @@ use Rattle.dos_runner.specs.cpu_8086.State.{State}
 use Rattle.interpreter.specs.typed_tree.declared.units.Program.{Program}
 use Rattle.interpreter.specs.tp_meaning.Meaning.{mean}
 use Rattle.literal_form_laws.specs.literal_programs.literal_code.Ends.{EndsWithin}
+use Rattle.literal_form_laws.specs.literal_programs.literal_code.Size.{image_size}
 use Rattle.literal_form_laws.specs.literal_programs.Literals.{IsLiteral}
 use Rattle.literal_form_laws.specs.literal_programs.Agrees.{Agrees}
 use Rattle.literal_form_laws.specs.literal_programs.Memory.{HasMemoryOf}
 use Rattle.dos_runner.specs.mz_file.declared.executable.Exe.{Exe}
 use Rattle.dos_runner.specs.mz_file.Format.{Denotes, exe_of}
 use Rattle.dos_runner.specs.mz_file.Load.{loaded}
+use Rattle.dos_runner.specs.mz_file.Spelling.{spelling}
 use Rattle.dos_runner.specs.declared.runner.RunEnd.{RunEnd}
 use Rattle.dos_runner.specs.declared.runner.RunEnd.TheVariants as ends
 use Rattle.dos_runner.specs.Outside.{Outside, RunsTo}
@@ -47,12 +49,16 @@ use Rattle.commands.proofs.HeldLaws.{found_in, literal_too, does_too, told_alike
 
 -- ---- the executable
 
-pub does_of : (program : Program) (exe : Exe) (result : Result (List ℕ) Outcome) → IsLiteral program → HasMemoryOf program exe → exe.block.stubs ≡ [] → ((bytes : List ℕ) → Denotes bytes exe → Agrees program bytes)
-    → ((bytes input : List ℕ) (turns : ℕ) → Denotes bytes exe → EndsWithin 16389 bytes input (mean program input turns)) → IfOk result (λ bytes. Denotes bytes exe) → IfOk result (DoesSoon program)
-does_of program exe (Err error) literal memory plain agrees soon denotes = tt
-does_of program exe (Ok bytes) literal memory plain agrees soon denotes = record {
+pub does_of : (program : Program) (exe : Exe) (result : Result (List ℕ) Outcome) → IsLiteral program → HasMemoryOf program exe → exe.block.stubs ≡ []
+    → ((literal : IsLiteral program) → length exe.image ≡ image_size literal.statements) → ((bytes : List ℕ) → Denotes bytes exe → Agrees program bytes)
+    → ((bytes input : List ℕ) (turns : ℕ) → Denotes bytes exe → EndsWithin 16389 bytes input (mean program input turns)) → IfOk result (λ bytes. bytes ≡ spelling exe)
+    → IfOk result (λ bytes. Denotes bytes exe) → IfOk result (DoesSoon program)
+does_of program exe (Err error) literal memory plain size agrees soon exact denotes = tt
+does_of program exe (Ok bytes) literal memory plain size agrees soon exact denotes = record {
   literal = literal;
   plain = subst (λ (e : Exe). e.block.stubs ≡ []) denotes.value plain;
+  spelled = exact ∙ ap spelling denotes.value;
+  size = subst (λ (e : Exe). length e.image ≡ image_size literal.statements) denotes.value (size literal);
   memory = subst (HasMemoryOf program) denotes.value memory;
   agrees = agrees bytes denotes;
   soon = λ input turns. soon bytes input turns denotes;

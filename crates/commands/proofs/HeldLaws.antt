@@ -50,13 +50,15 @@ literal_too one other same literal = record { statements = literal.statements; s
 
 pub does_too : (one other : Program) (bytes : List ℕ) → IsSame one other → DoesSoon one bytes → DoesSoon other bytes
 does_too one other bytes same does = record {
-  literal = literal_too one other same does.literal;
+  literal = record { statements = does.literal.statements; says = says_alike one other same does.literal.statements does.literal.says };
   plain = does.plain;
+  spelled = does.spelled;
+  size = does.size;
   memory = has_memory_alike one other same (exe_of bytes) does.memory;
   agrees = record {
     executable = does.agrees.executable;
     fits = does.agrees.fits;
-    runs = λ buffer small fits input turns. subst (EndsAs bytes input) (means_alike one other same input turns) (does.agrees.runs buffer small fits input turns);
+    runs = λ input turns. subst (EndsAs bytes input) (means_alike one other same input turns) (does.agrees.runs input turns);
   };
   soon = λ input turns. subst (EndsWithin 16389 bytes input) (means_alike one other same input turns) (does.soon input turns);
 }

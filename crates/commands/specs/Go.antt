@@ -1,5 +1,5 @@
 -- What `go` does before its last line.
-use Rattle.std.specs.Prelude.{◌≡◌, ◌⊎◌, ◌<◌, ◌≤◌, ℕ, List, [], ◌∷◌, Option, Some, IfSome}
+use Rattle.std.specs.Prelude.{◌≡◌, ◌⊎◌, ◌<◌, ◌≤◌, ℕ, List, [], ◌∷◌, length, Option, Some, IfSome}
 use Rattle.dos_runner.specs.tp_outside.Faults.{HasRisen}
 use Rattle.dos_runner.specs.tp_outside.Folder.{Folder, with_known_file}
 use Rattle.interpreter.specs.type_layout.declared.texts.Place.{Place}
@@ -19,10 +19,12 @@ use Rattle.literal_form_laws.specs.literal_programs.Literals.{IsLiteral}
 use Rattle.literal_form_laws.specs.literal_programs.Agrees.{Agrees}
 use Rattle.literal_form_laws.specs.literal_programs.Memory.{HasMemoryOf}
 use Rattle.literal_form_laws.specs.literal_programs.literal_code.Ends.{EndsWithin}
+use Rattle.literal_form_laws.specs.literal_programs.literal_code.Size.{image_size}
 use Rattle.literal_form_laws.specs.literal_places.Places.{place_outside}
 use Rattle.dos_runner.specs.cpu_8086.State.{State}
 use Rattle.dos_runner.specs.mz_file.Format.{exe_of}
 use Rattle.dos_runner.specs.mz_file.Load.{loaded}
+use Rattle.dos_runner.specs.mz_file.Spelling.{spelling}
 use Rattle.dos_runner.specs.declared.runner.RunEnd.{RunEnd}
 use Rattle.dos_runner.specs.declared.runner.RunEnd.TheVariants as ends
 use Rattle.dos_runner.specs.Outside.{Outside, RunsTo}
@@ -59,10 +61,13 @@ pub record IsOfOtherForm (held : Folder) (name : List ℕ) (r : Refusal) : Type 
   pub refused : (texts : List Text) (sources : List Source) (one : Program) → Gathers held name texts sources → IsProgram sources one
       → r ≡ refusal.NotInProfile (at texts (place_of_first sources one)) NotYet
 
--- A program is of the literal form, and these bytes do what it means, soon, without overlays, in the memory that it asks for.
+-- A program is of the literal form, and these bytes do what it means, soon, without overlays, in the memory that it asks for. They are those
+-- of an executable as it is written, with nothing behind it, and its image is just as large as what the program says asks for.
 pub record DoesSoon (program : Program) (bytes : List ℕ) : Type 0 where
   pub literal : IsLiteral program
   pub plain : (exe_of bytes).block.stubs ≡ []
+  pub spelled : bytes ≡ spelling (exe_of bytes)
+  pub size : length (exe_of bytes).image ≡ image_size literal.statements
   pub memory : HasMemoryOf program (exe_of bytes)
   pub agrees : Agrees program bytes
   pub soon : (input : List ℕ) (turns : ℕ) → EndsWithin 16389 bytes input (mean program input turns)
@@ -81,7 +86,8 @@ pub record IsBuiltFrom (held : Folder) (name bytes : List ℕ) : Type 0 where
   pub formed : AreFormed program
   pub does : (one : Program) → IsProgramIn held name one → DoesSoon one bytes
 
--- The executable of such a program would not begin: with the buffer that is asked for it takes more than the memory below segment A000h.
+-- The executable of such a program would not begin: with the buffer that is asked for it takes more than the memory below segment A000h. How
+-- much it takes is settled by the program: by the size of its image, its stack and its heap.
 pub record CannotBegin (held : Folder) (name : List ℕ) (buffer : Option ℕ) (r : Refusal) : Type 0 where
   pub bytes : List ℕ
   pub built : IsBuiltFrom held name bytes

@@ -241,18 +241,35 @@ abbrev pub RanFiles : List (List ℕ) → World → World → Outcome → Type 0
 RanFiles words old new result =
     (name : List ℕ) (options : RunOptions) → IsRun words name options → IfSome old.folder (λ held. RunsFiles held result name options old new)
 
--- What `go` did with the files that a folder holds: nothing was written, and nothing was read or written besides; or the process of an
--- executable that does what their program means came to an end, and the outcome is that end's; then came the line.
+-- No executable was written: no file changed, and nothing was read or written besides.
+pub record StaysAway (held : Folder) (inner : Outcome) (name : List ℕ) (options : RunOptions) (old now : World) : Type 0 where
+  pub cause : HasNoRun held inner name options.buffer
+  pub folder : now.folder ≡ old.folder
+  pub streams : now.streams ≡ old.streams
+
+-- The folder holds an executable that does what the files' program means, and no other file changed; the process of just these bytes came to
+-- an end, and the outcome is that end's.
+pub record RunsWritten (held : Folder) (inner : Outcome) (name : List ℕ) (options : RunOptions) (old now : World) : Type 0 where
+  pub bytes : List ℕ
+  pub written : now.folder ≡ with_known_file old.folder (file_of name Executable) bytes
+  pub end : RunEnd
+  pub is : inner ≡ outcome_of end
+  pub ran : RanBuilt held end name bytes options old.streams now.streams
+
+-- the world before the last line
+abbrev pub before_line : World → Option (List ℕ) → ℕ → World
+before_line new errors faults = record new { streams = streams_before new errors faults }
+
+-- What `go` did with the files that a folder holds, and then the line.
 pub record GoesFiles (held : Folder) (result : Outcome) (name : List ℕ) (options : RunOptions) (old new : World) : Type 0 where
   pub inner : Outcome
   pub before : Option (List ℕ)
   pub before_faults : ℕ
-  pub did : (HasNoRun held inner name options.buffer × (streams_before new before before_faults ≡ old.streams))
-      ⊎ ((end : RunEnd) × (bytes : List ℕ) × (inner ≡ outcome_of end) × RanBuilt held end name bytes options old.streams (streams_before new before before_faults))
+  pub did : StaysAway held inner name options old (before_line new before before_faults) ⊎ RunsWritten held inner name options old (before_line new before before_faults)
   pub line : AfterLine result inner before new.streams.errors
 
--- Where the words ask for it and the files tell what they hold, output and errors grew by the run of the executable, and the outcome is its
--- end.
+-- Where the words ask for it and the files tell what they hold, output and errors grew by the run of the executable that the folder then
+-- holds, and the outcome is its end.
 abbrev pub WentFiles : List (List ℕ) → World → World → Outcome → Type 0
 WentFiles words old new result =
     (name : List ℕ) (options : RunOptions) → IsGo words name options → IfSome old.folder (λ held. GoesFiles held result name options old new)

@@ -2,7 +2,7 @@
 
 ghost use Rattle.std.specs.Prelude.{◌≡◌, ◌≤◌, ℕ, Option, IfOk, IfErr, IfSome};
 ghost use Rattle.dos_runner.specs.mz_file.Format.{Denotes};
-ghost use Rattle.dos_runner.specs.mz_file.Spelling.{IsWritable};
+ghost use Rattle.dos_runner.specs.mz_file.Spelling.{IsWritable, spelling};
 ghost use Rattle.checked_front_end.specs.front_end.declared.outcomes.outcome.Outcome.{Outcome};
 ghost use Rattle.commands.specs.Go.{place_of_first, other_form, DoesSoon, IsBuiltFrom, IsNotMade, IsNotGone, GoDid};
 ghost use Rattle.commands.specs.Prepared.{IsPrepared};
@@ -56,6 +56,7 @@ fn other_form(found: &TypedSources) -> Refusal
 // The bytes of an executable.
 fn spelled(alloc: Global, exe: &Exe) -> Result<Bytes, Outcome>
     requires { IsWritable exe.now }
+    ensures exact { IfOk result (λ bytes. bytes ≡ spelling exe.now) }
     ensures denotes { IfOk result (λ bytes. Denotes bytes exe.now) }
     ensures memory { IfErr result (λ error. error ≡ Outcome.NoMemory) }
 {
