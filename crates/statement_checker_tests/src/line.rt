@@ -32,7 +32,13 @@ pub(crate) fn put_number(line: &mut Line, number: i64) {
     }
 }
 
-/// Whether just this was written.
-pub(crate) fn reads(line: &Line, text: &str) -> bool {
-    !line.lost && line.text.as_str() == text
+impl Line {
+    /// What was written.
+    pub(crate) fn as_str(&self) -> &str {
+        if self.lost {
+            "no memory"
+        } else {
+            self.text.as_str()
+        }
+    }
 }

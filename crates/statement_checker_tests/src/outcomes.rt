@@ -1,7 +1,7 @@
 //! Texts through the lexer, the readers and the checker. Each step has a function of its own, since the proof of a function grows
 //! with what it holds at each of its exits.
 
-use crate::line::{Line, empty_line, put, reads};
+use crate::line::{Line, empty_line, put};
 use crate::samples::{hiding_scope, method_scope, scope};
 use crate::shown::show;
 use crate::shown_expressions::put_numbered;
@@ -16,9 +16,6 @@ use tp_lexer::{Text, tokens};
 use type_layout::{Bytes, FileName, Place, Sequence};
 use typed_tree::Stmt;
 use typing_rules::CheckError;
-
-/// A main part, and what it is answered.
-pub(crate) type Row = (&'static str, &'static str);
 
 fn texts(alloc: Global, source: &str) -> Result<Vec<Text>, AllocError> {
     let mut texts = Vec::new(alloc);
@@ -77,7 +74,7 @@ fn put_error(out: &mut Line, error: &CheckError) {
     }
 }
 
-/// Where the main part stands.
+/// Where a main part stands: in the function F inside the procedure G, in the method Total, or in a procedure of that with a parameter Self.
 #[derive(Clone, Copy)]
 pub(crate) enum Body {
     Function,
@@ -111,42 +108,9 @@ fn shown(alloc: Global, answer: &Result<Stmt, CheckError>) -> Line {
     out
 }
 
-fn is_answered(alloc: Global, body: Body, row: &Row) -> Result<bool, AllocError> {
-    let main = parsed(alloc, row.0)?;
+/// What a main part in a body is answered: its node in short, or the mistake with its rule and its place.
+pub(crate) fn answered(alloc: Global, body: Body, source: &str) -> Result<Line, AllocError> {
+    let main = parsed(alloc, source)?;
     let answer = checked(alloc, body, &main)?;
-    Ok(reads(&shown(alloc, &answer), row.1))
-}
-
-fn first_wrong_in(
-    alloc: Global,
-    body: Body,
-    rows: &[Row],
-) -> Result<Option<&'static str>, AllocError> {
-    for row in rows {
-        if !is_answered(alloc, body, row)? {
-            return Ok(Some(row.0));
-        }
-    }
-    Ok(None)
-}
-
-/// The first body of the function that is answered something else than stands there.
-pub(crate) fn first_wrong(alloc: Global, rows: &[Row]) -> Result<Option<&'static str>, AllocError> {
-    first_wrong_in(alloc, Body::Function, rows)
-}
-
-/// The first body of the method that is answered something else.
-pub(crate) fn first_wrong_method(
-    alloc: Global,
-    rows: &[Row],
-) -> Result<Option<&'static str>, AllocError> {
-    first_wrong_in(alloc, Body::Method, rows)
-}
-
-/// The first body of the procedure with a parameter Self inside the method that is answered something else.
-pub(crate) fn first_wrong_hiding(
-    alloc: Global,
-    rows: &[Row],
-) -> Result<Option<&'static str>, AllocError> {
-    first_wrong_in(alloc, Body::Hiding, rows)
+    Ok(shown(alloc, &answer))
 }
