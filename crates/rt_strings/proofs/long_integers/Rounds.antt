@@ -11,9 +11,9 @@ use Rattle.runtime_proofs.specs.routine_proofs.Straight.{Exit, Onward, Leaving, 
 use Rattle.runtime_proofs.specs.routine_proofs.Comes.{Does}
 use Rattle.runtime_proofs.proofs.routine_proofs.Replies.{taken-so, other-so, next_of}
 use Rattle.runtime_proofs.proofs.routine_proofs.Doing.{weaker-does, then-does, round-does, leave-does, straight-does}
-use Rattle.rt_strings.specs.numbers.Division.{shift_in, take_off, count_down, one_round}
-use Rattle.rt_strings.proofs.numbers.LongDivision.{Divides, Round, nothing-divided, one-round}
-use Rattle.rt_strings.proofs.numbers.WordReplies.{subtracted}
+use Rattle.rt_strings.specs.long_integers.Division.{shift_in, take_off, count_down, one_round}
+use Rattle.rt_strings.proofs.long_integers.LongDivision.{Divides, Round, nothing-divided, one-round}
+use Rattle.rt_strings.proofs.long_integers.WordReplies.{subtracted}
 
 -- an activation in the rounds: dividend, divisor, rest, sign, and how many rounds are left
 abbrev pub dividing : Activation → ℕ → ℕ → ℕ → ℕ → ℕ → ℕ → Slot → ℕ → Activation

@@ -5,10 +5,10 @@ ghost use Rattle.flat_code.specs.Program.{FlatProgram, Choice, UnitCode, runtime
 ghost use Rattle.flat_code.specs.Legal.{StackFits};
 ghost use Rattle.flat_code.specs.Runtime.{negation_number, product_number, less_number, quotient_number, remainder_number, negation_routine};
 ghost use Rattle.runtime_proofs.specs.routine_proofs.Specifications.{IsHeld};
-ghost use Rattle.rt_strings.specs.numbers.Routines.{product_routine, less_routine, sum_routine, difference_routine, equal_routine, left_shift_routine, right_shift_routine, range_routine};
-ghost use Rattle.rt_strings.specs.numbers.Division.{quotient_routine, remainder_routine};
-ghost use Rattle.rt_strings.specs.numbers.Numbers.{sum_number, difference_number, equal_number, left_shift_number, right_shift_number, range_number};
-ghost use Rattle.rt_strings.specs.numbers.Specifications.{Negates, Multiplies, Compares, Divides, TakesRemainder, Adds, Subtracts, TestsEqual, ShiftsLeft, ShiftsRight, TestsRange};
+ghost use Rattle.rt_strings.specs.long_integers.Routines.{product_routine, less_routine, sum_routine, difference_routine, equal_routine, left_shift_routine, right_shift_routine, range_routine};
+ghost use Rattle.rt_strings.specs.long_integers.Division.{quotient_routine, remainder_routine};
+ghost use Rattle.rt_strings.specs.long_integers.Numbers.{sum_number, difference_number, equal_number, left_shift_number, right_shift_number, range_number};
+ghost use Rattle.rt_strings.specs.long_integers.Specifications.{Negates, Multiplies, Compares, Divides, TakesRemainder, Adds, Subtracts, TestsEqual, ShiftsLeft, ShiftsRight, TestsRange};
 
 mod division;
 mod shifts;

@@ -18,13 +18,13 @@ use Rattle.runtime_proofs.specs.routine_proofs.Entry.{entered}
 use Rattle.runtime_proofs.specs.routine_proofs.Specifications.{Answers, Fails, Replies}
 use Rattle.runtime_proofs.proofs.routine_proofs.Replies.{taken-so, other-so, four-words}
 use Rattle.runtime_proofs.proofs.routine_proofs.Doing.{weaker-does, then-does, skip-does, straight-does}
-use Rattle.rt_strings.specs.numbers.Routines.{routine_of, high_word, other_high_word}
-use Rattle.rt_strings.specs.numbers.Division.{is_negative, test_divisor, take_magnitude, keep_sign, begin_rounds, one_round, take_quotient, give_sign, division_code, quotient_routine, remainder_routine}
-use Rattle.rt_strings.proofs.numbers.Bytes.{long-bytes}
-use Rattle.rt_strings.proofs.numbers.WordReplies.{negated, both}
-use Rattle.rt_strings.proofs.numbers.LongDivision.{all-divided}
-use Rattle.rt_strings.proofs.numbers.Rounds.{dividing, long, rounds}
-use Rattle.rt_strings.proofs.numbers.Signs.{HasMagnitude, IsSigned, quotient-signed, remainder-signed, upper-negative}
+use Rattle.rt_strings.specs.long_integers.Routines.{routine_of, high_word, other_high_word}
+use Rattle.rt_strings.specs.long_integers.Division.{is_negative, test_divisor, take_magnitude, keep_sign, begin_rounds, one_round, take_quotient, give_sign, division_code, quotient_routine, remainder_routine}
+use Rattle.rt_strings.proofs.long_integers.Bytes.{long-bytes}
+use Rattle.rt_strings.proofs.long_integers.WordReplies.{negated, both}
+use Rattle.rt_strings.proofs.long_integers.LongDivision.{all-divided}
+use Rattle.rt_strings.proofs.long_integers.Rounds.{dividing, long, rounds}
+use Rattle.rt_strings.proofs.long_integers.Signs.{HasMagnitude, IsSigned, quotient-signed, remainder-signed, upper-negative}
 
 abbrev negative : ℕ → ℕ
 negative high = truth (is_signed_less w16 high 0)

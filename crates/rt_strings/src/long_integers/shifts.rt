@@ -4,9 +4,9 @@ ghost use Rattle.std.specs.Prelude.{◌≡◌, IfOk};
 ghost use Rattle.flat_code.specs.View.{view_expr, view_list};
 ghost use Rattle.flat_code.specs.Plain.{view_routine};
 ghost use Rattle.flat_code.specs.Tree.{Op, If, End};
-ghost use Rattle.rt_strings.specs.numbers.Routines.{places, few_places, left_few, left_many, right_few, right_many, out_of_range, left_shift_routine, right_shift_routine, range_routine};
+ghost use Rattle.rt_strings.specs.long_integers.Routines.{places, few_places, left_few, left_many, right_few, right_many, out_of_range, left_shift_routine, right_shift_routine, range_routine};
 
-use crate::numbers::words::is_less;
+use crate::long_integers::words::is_less;
 use flat_code::flat_builders::{name, op, routine, set, when, word};
 use flat_code::{FlatExpr, FlatList, FlatOp, FlatRoutine, FlatStmt};
 use std::alloc::{AllocError, Global};

@@ -5,7 +5,7 @@ use Rattle.flat_code.specs.declared.tree.Address.TheVariants.{Local}
 use Rattle.flat_code.specs.declared.tree.FlatOp.TheVariants as op
 use Rattle.flat_code.specs.Tree.{Expr, Number, Op, StoreWord, Leave, Error, Code, End, Do, If, Loop, ◌then◌}
 use Rattle.flat_code.specs.Program.{Routine}
-use Rattle.rt_strings.specs.numbers.Routines.{routine_of, word, low_word, high_word, other_low_word, other_high_word}
+use Rattle.rt_strings.specs.long_integers.Routines.{routine_of, word, low_word, high_word, other_low_word, other_high_word}
 
 abbrev pub rest_low : Expr
 rest_low = word (negsuc 3)

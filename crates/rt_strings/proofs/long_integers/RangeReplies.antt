@@ -11,10 +11,10 @@ use Rattle.runtime_proofs.specs.routine_proofs.Straight.{Onward}
 use Rattle.runtime_proofs.specs.routine_proofs.Entry.{entered}
 use Rattle.runtime_proofs.specs.routine_proofs.Specifications.{Replies}
 use Rattle.runtime_proofs.proofs.routine_proofs.Replies.{answers-straight, fails-straight, taken-so, other-so, six-words}
-use Rattle.rt_strings.specs.numbers.Routines.{range_routine}
-use Rattle.rt_strings.specs.numbers.Numbers.{range_of}
-use Rattle.rt_strings.proofs.numbers.Bytes.{long-bytes}
-use Rattle.rt_strings.proofs.numbers.Comparing.{less_word, less-is, either-bit}
+use Rattle.rt_strings.specs.long_integers.Routines.{range_routine}
+use Rattle.rt_strings.specs.long_integers.Numbers.{range_of}
+use Rattle.rt_strings.proofs.long_integers.Bytes.{long-bytes}
+use Rattle.rt_strings.proofs.long_integers.Comparing.{less_word, less-is, either-bit}
 
 module _ (program : FlatProgram) (choice : Choice) (own : Frame) (sp : ℕ) (s : State) (placed : IsPlaced choice own sp 18) where
   by-test : (a b c d e g : ℕ) → a < 65536 → b < 65536 → (x : Bool) → bit_or (less_word a b c d) (less_word e g a b) ≡ truth x →

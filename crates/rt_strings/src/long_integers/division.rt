@@ -3,9 +3,9 @@
 ghost use Rattle.std.specs.Prelude.{◌≡◌, IfOk};
 ghost use Rattle.flat_code.specs.View.{view_expr, view_list};
 ghost use Rattle.flat_code.specs.Plain.{view_routine};
-ghost use Rattle.rt_strings.specs.numbers.Division.{rest_low, rest_high, doubled, is_negative, negate, test_divisor, take_magnitude, keep_sign, begin_rounds, shift_in, rest_is_less, take_off, count_down, one_round, rounds, take_quotient, give_sign, division_code, quotient_routine, remainder_routine};
+ghost use Rattle.rt_strings.specs.long_integers.Division.{rest_low, rest_high, doubled, is_negative, negate, test_divisor, take_magnitude, keep_sign, begin_rounds, shift_in, rest_is_less, take_off, count_down, one_round, rounds, take_quotient, give_sign, division_code, quotient_routine, remainder_routine};
 
-use crate::numbers::words::{high_word, low_word, other_high_word, other_low_word};
+use crate::long_integers::words::{high_word, low_word, other_high_word, other_low_word};
 use flat_code::flat_builders::{name, op, repeat, routine, set, then, when, word};
 use flat_code::{FlatExpr, FlatList, FlatOp, FlatRoutine, FlatStmt};
 use std::alloc::{AllocError, Global};

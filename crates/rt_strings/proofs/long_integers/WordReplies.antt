@@ -13,11 +13,11 @@ use Rattle.runtime_proofs.specs.routine_proofs.Straight.{Onward}
 use Rattle.runtime_proofs.specs.routine_proofs.Entry.{entered}
 use Rattle.runtime_proofs.specs.routine_proofs.Specifications.{Replies}
 use Rattle.runtime_proofs.proofs.routine_proofs.Replies.{answers-straight, two-words, four-words}
-use Rattle.rt_strings.specs.numbers.Routines.{product_routine, less_routine, sum_routine, difference_routine, equal_routine}
-use Rattle.rt_strings.specs.numbers.Numbers.{sum_of, difference_of, equal_of}
-use Rattle.rt_strings.proofs.numbers.Bytes.{long-bytes}
-use Rattle.rt_strings.proofs.numbers.Products.{product_low, product_high, product-is, low-small, high-small}
-use Rattle.rt_strings.proofs.numbers.Comparing.{less-is}
+use Rattle.rt_strings.specs.long_integers.Routines.{product_routine, less_routine, sum_routine, difference_routine, equal_routine}
+use Rattle.rt_strings.specs.long_integers.Numbers.{sum_of, difference_of, equal_of}
+use Rattle.rt_strings.proofs.long_integers.Bytes.{long-bytes}
+use Rattle.rt_strings.proofs.long_integers.Products.{product_low, product_high, product-is, low-small, high-small}
+use Rattle.rt_strings.proofs.long_integers.Comparing.{less-is}
 
 one-or-none : (a b : ℕ) → ((a < b) × (truth (nat_lt a b) ≡ 1)) ⊎ ((b < a + 1) × (truth (nat_lt a b) ≡ 0))
 one-or-none a b = grind (arith, nat_tests)

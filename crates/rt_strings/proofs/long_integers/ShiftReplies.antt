@@ -13,9 +13,9 @@ use Rattle.runtime_proofs.specs.routine_proofs.Straight.{Onward}
 use Rattle.runtime_proofs.specs.routine_proofs.Entry.{entered}
 use Rattle.runtime_proofs.specs.routine_proofs.Specifications.{Replies}
 use Rattle.runtime_proofs.proofs.routine_proofs.Replies.{answers-straight, next_of, taken-so, other-so, three-words}
-use Rattle.rt_strings.specs.numbers.Routines.{left_shift_routine, right_shift_routine}
-use Rattle.rt_strings.specs.numbers.Numbers.{left_shift_of, right_shift_of}
-use Rattle.rt_strings.proofs.numbers.Bytes.{long-bytes}
+use Rattle.rt_strings.specs.long_integers.Routines.{left_shift_routine, right_shift_routine}
+use Rattle.rt_strings.specs.long_integers.Numbers.{left_shift_of, right_shift_of}
+use Rattle.rt_strings.proofs.long_integers.Bytes.{long-bytes}
 
 -- each number below 16
 below-16 : (P : ℕ → Type 0) → P 0 → P 1 → P 2 → P 3 → P 4 → P 5 → P 6 → P 7 → P 8 → P 9 → P 10 → P 11 → P 12 → P 13 → P 14 → P 15 → (k : ℕ) → k < 16 → P k

@@ -1,5 +1,5 @@
-use Rattle.rt_strings.proofs.numbers.Laws as law
-use Rattle.rt_strings.proofs.numbers.number_laws.Goals as goal
+use Rattle.rt_strings.proofs.long_integers.Laws as law
+use Rattle.rt_strings.proofs.long_integers.number_laws.Goals as goal
 
 pub returns-clause-negation : goal.returns-clause-negation
 returns-clause-negation c = law.negation

@@ -4,7 +4,7 @@ ghost use Rattle.std.specs.Prelude.{◌≡◌, IfOk};
 ghost use Rattle.flat_code.specs.View.{view_expr, view_list};
 ghost use Rattle.flat_code.specs.Plain.{view_routine};
 ghost use Rattle.flat_code.specs.Runtime.{negation_routine};
-ghost use Rattle.rt_strings.specs.numbers.Routines.{low_word, high_word, other_low_word, other_high_word, is_less, product_routine, less_routine, sum_routine, difference_routine, equal_routine};
+ghost use Rattle.rt_strings.specs.long_integers.Routines.{low_word, high_word, other_low_word, other_high_word, is_less, product_routine, less_routine, sum_routine, difference_routine, equal_routine};
 
 use flat_code::flat_builders::{name, op, routine, set, word};
 use flat_code::{FlatExpr, FlatOp, FlatRoutine};
