@@ -1,9 +1,9 @@
 -- What `go` did with the files, with the last line.
 use Rattle.std.proofs.Common.{◌≡◌, inl, inr, ℕ, List, Option, Some, None, IfSome, sym, subst}
-use Rattle.dos_runner.specs.tp_outside.Folder.{Folder, with_known_file}
+use Rattle.tp_outside.specs.Folder.{Folder, with_known_file}
 use Rattle.dos_runner.specs.declared.runner.RunEnd.{RunEnd}
-use Rattle.checked_front_end.specs.front_end.declared.outcomes.outcome.Outcome.{Outcome}
-use Rattle.checked_front_end.specs.front_end.declared.outcomes.outcome.Outcome.TheVariants as outcome
+use Rattle.front_end.specs.declared.outcomes.outcome.Outcome.{Outcome}
+use Rattle.front_end.specs.declared.outcomes.outcome.Outcome.TheVariants as outcome
 use Rattle.command_line.specs.declared.command.RunOptions.{RunOptions}
 use Rattle.commands.specs.declared.names.FileKind.TheVariants.{Executable}
 use Rattle.commands.specs.Ending.{outcome_of}

@@ -1,40 +1,40 @@
 -- What `go` does before its last line.
 use Rattle.std.specs.Prelude.{◌≡◌, ◌⊎◌, ◌<◌, ◌≤◌, ℕ, List, [], ◌∷◌, length, Option, Some, IfSome}
-use Rattle.dos_runner.specs.tp_outside.Faults.{HasRisen}
-use Rattle.dos_runner.specs.tp_outside.Folder.{Folder, with_known_file}
-use Rattle.interpreter.specs.type_layout.declared.texts.Place.{Place}
-use Rattle.checked_front_end.specs.tp_lexer.declared.token.Text.{Text}
-use Rattle.checked_front_end.specs.tp_lexer.declared.token.Feature.TheVariants.{NotYet}
-use Rattle.literal_form_laws.specs.source_graph.declared.sources.Source.{Source}
-use Rattle.literal_form_laws.specs.source_graph.Texts.{at}
-use Rattle.literal_form_laws.specs.source_graph.Walk.{Gathers}
-use Rattle.interpreter.specs.typed_tree.declared.units.Program.{Program}
-use Rattle.interpreter.specs.tp_meaning.Meaning.{mean}
-use Rattle.checked_front_end.specs.front_end.declared.program.TypedSources.{TypedSources}
-use Rattle.checked_front_end.specs.front_end.Typed.{IsProgram, IsProgramIn}
-use Rattle.checked_front_end.specs.front_end.Untyped.{IsRefusing}
+use Rattle.tp_outside.specs.Faults.{HasRisen}
+use Rattle.tp_outside.specs.Folder.{Folder, with_known_file}
+use Rattle.type_layout.specs.declared.texts.Place.{Place}
+use Rattle.tp_lexer.specs.declared.token.Text.{Text}
+use Rattle.tp_lexer.specs.declared.token.Feature.TheVariants.{NotYet}
+use Rattle.source_graph.specs.declared.sources.Source.{Source}
+use Rattle.source_graph.specs.Texts.{at}
+use Rattle.source_graph.specs.Walk.{Gathers}
+use Rattle.typed_tree.specs.declared.units.Program.{Program}
+use Rattle.tp_meaning.specs.Meaning.{mean}
+use Rattle.front_end.specs.declared.program.TypedSources.{TypedSources}
+use Rattle.front_end.specs.Typed.{IsProgram, IsProgramIn}
+use Rattle.front_end.specs.Untyped.{IsRefusing}
 use Rattle.checked_front_end.specs.Formed.{AreFormed}
 use Rattle.checked_front_end.specs.interfaces_consistent.determinism.Folder.{FoundNone}
-use Rattle.literal_form_laws.specs.literal_programs.Literals.{IsLiteral}
-use Rattle.literal_form_laws.specs.literal_programs.Agrees.{Agrees}
-use Rattle.literal_form_laws.specs.literal_programs.Memory.{HasMemoryOf}
-use Rattle.literal_form_laws.specs.literal_programs.literal_code.Ends.{EndsWithin}
-use Rattle.literal_form_laws.specs.literal_programs.literal_code.Size.{image_size}
+use Rattle.literal_programs.specs.Literals.{IsLiteral}
+use Rattle.literal_programs.specs.Agrees.{Agrees}
+use Rattle.literal_programs.specs.Memory.{HasMemoryOf}
+use Rattle.literal_programs.specs.literal_code.Ends.{EndsWithin}
+use Rattle.literal_programs.specs.literal_code.Size.{image_size}
 use Rattle.literal_form_laws.specs.literal_places.Places.{place_outside}
-use Rattle.dos_runner.specs.cpu_8086.State.{State}
-use Rattle.dos_runner.specs.mz_file.Format.{exe_of}
-use Rattle.dos_runner.specs.mz_file.Load.{loaded}
-use Rattle.dos_runner.specs.mz_file.Spelling.{spelling}
+use Rattle.cpu_8086.specs.State.{State}
+use Rattle.mz_file.specs.Format.{exe_of}
+use Rattle.mz_file.specs.Load.{loaded}
+use Rattle.mz_file.specs.Spelling.{spelling}
 use Rattle.dos_runner.specs.declared.runner.RunEnd.{RunEnd}
 use Rattle.dos_runner.specs.declared.runner.RunEnd.TheVariants as ends
 use Rattle.dos_runner.specs.Outside.{Outside, RunsTo}
 use Rattle.dos_runner.specs.plain_opening.Laws.{needed}
 use Rattle.dos_runner.specs.overlay_runner.Event.{Rises}
 use Rattle.command_line.specs.declared.command.RunOptions.{RunOptions}
-use Rattle.checked_front_end.specs.front_end.declared.outcomes.refusal.Refusal.{Refusal}
-use Rattle.checked_front_end.specs.front_end.declared.outcomes.refusal.Refusal.TheVariants as refusal
-use Rattle.checked_front_end.specs.front_end.declared.outcomes.outcome.Outcome.{Outcome}
-use Rattle.checked_front_end.specs.front_end.declared.outcomes.outcome.Outcome.TheVariants as outcome
+use Rattle.front_end.specs.declared.outcomes.refusal.Refusal.{Refusal}
+use Rattle.front_end.specs.declared.outcomes.refusal.Refusal.TheVariants as refusal
+use Rattle.front_end.specs.declared.outcomes.outcome.Outcome.{Outcome}
+use Rattle.front_end.specs.declared.outcomes.outcome.Outcome.TheVariants as outcome
 use Rattle.commands.specs.declared.names.FileKind.TheVariants.{Executable}
 use Rattle.commands.specs.Files.{file_of}
 use Rattle.commands.specs.Ending.{outcome_of}

@@ -1,6 +1,6 @@
 -- What the top call promises, of the world before a command, the world after it, and the outcome.
 use Rattle.std.specs.Prelude.{ℕ, List}
-use Rattle.checked_front_end.specs.front_end.declared.outcomes.outcome.Outcome.{Outcome}
+use Rattle.front_end.specs.declared.outcomes.outcome.Outcome.{Outcome}
 use Rattle.commands.specs.Turbo.{Headline, Written, Complete, Prefixes, FilesAfter, Faults, Refused, Refuses, Unchanged, RanFiles, WentFiles, MeantFiles, Tells, EndsWithLine}
 use Rattle.commands.specs.World.{World}
 

@@ -1,19 +1,19 @@
 -- What the top call promises. Its clauses cite these.
 use Rattle.std.specs.Prelude.{◌≡◌, ◌⊎◌, ◌<◌, ℕ, List, Option, Some, None, IfSome}
 use Rattle.std.specs.Io.KnownBytes.{append_known}
-use Rattle.dos_runner.specs.tp_outside.Faults.{HasRisen}
-use Rattle.dos_runner.specs.tp_outside.Folder.{Folder, with_known_file}
-use Rattle.dos_runner.specs.tp_outside.Streams.{TakesPrefix}
-use Rattle.interpreter.specs.common_values.behaviour.Seen.{Seen, Ended}
-use Rattle.interpreter.specs.typed_tree.declared.units.Program.{Program}
-use Rattle.interpreter.specs.tp_meaning.Meaning.{mean}
-use Rattle.dos_runner.specs.tp_outside.whole_input.Input.{IsWhole, HasMore}
-use Rattle.checked_front_end.specs.front_end.Typed.{IsProgramIn}
+use Rattle.tp_outside.specs.Faults.{HasRisen}
+use Rattle.tp_outside.specs.Folder.{Folder, with_known_file}
+use Rattle.tp_outside.specs.Streams.{TakesPrefix}
+use Rattle.common_values.specs.behaviour.Seen.{Seen, Ended}
+use Rattle.typed_tree.specs.declared.units.Program.{Program}
+use Rattle.tp_meaning.specs.Meaning.{mean}
+use Rattle.tp_outside.specs.whole_input.Input.{IsWhole, HasMore}
+use Rattle.front_end.specs.Typed.{IsProgramIn}
 use Rattle.checked_front_end.specs.interfaces_consistent.determinism.Folder.{FoundNone}
 use Rattle.checked_front_end.specs.Formed.{AreFormed}
 use Rattle.commands.specs.mean_program.Shown.{WritesAll, Shows, Stands}
-use Rattle.literal_form_laws.specs.literal_programs.Literals.{IsLiteral}
-use Rattle.literal_form_laws.specs.literal_programs.Agrees.{Agrees}
+use Rattle.literal_programs.specs.Literals.{IsLiteral}
+use Rattle.literal_programs.specs.Agrees.{Agrees}
 use Rattle.dos_runner.specs.declared.runner.RunEnd.{RunEnd}
 use Rattle.dos_runner.specs.Outside.{Outside}
 use Rattle.dos_runner.specs.declared.opened_program.error.OpenError.{OpenError}
@@ -21,13 +21,13 @@ use Rattle.dos_runner.specs.declared.overlay_runner.runner.Runner.{Runner}
 use Rattle.dos_runner.specs.opened_program.Opening.{HasReason}
 use Rattle.commands.specs.declared.names.FileKind.TheVariants.{Source, Executable}
 use Rattle.command_line.specs.declared.command.RunOptions.{RunOptions}
-use Rattle.checked_front_end.specs.front_end.declared.outcomes.refusal.Refusal.{Refusal}
-use Rattle.checked_front_end.specs.front_end.declared.outcomes.refusal.Refusal.TheVariants as refusal
-use Rattle.checked_front_end.specs.front_end.declared.outcomes.refusal.What.TheVariants as what
-use Rattle.checked_front_end.specs.front_end.declared.outcomes.outcome.Outcome.{Outcome}
-use Rattle.checked_front_end.specs.front_end.declared.outcomes.outcome.Outcome.TheVariants as outcome
+use Rattle.front_end.specs.declared.outcomes.refusal.Refusal.{Refusal}
+use Rattle.front_end.specs.declared.outcomes.refusal.Refusal.TheVariants as refusal
+use Rattle.front_end.specs.declared.outcomes.refusal.What.TheVariants as what
+use Rattle.front_end.specs.declared.outcomes.outcome.Outcome.{Outcome}
+use Rattle.front_end.specs.declared.outcomes.outcome.Outcome.TheVariants as outcome
 use Rattle.commands.specs.Files.{file_of}
-use Rattle.checked_front_end.specs.front_end.outcomes.Line.{line_of}
+use Rattle.front_end.specs.outcomes.Line.{line_of}
 use Rattle.command_line.specs.Words.{IsGo, IsRun, IsMean}
 use Rattle.commands.specs.World.{World, Holds, Lacks}
 use Rattle.commands.specs.Go.{IsOfOtherForm, IsBuiltFrom, IsNotBuilt, HasNoRun, RanBuilt}

@@ -4,9 +4,9 @@ ghost use Rattle.std.specs.Prelude.{map, string_bytes};
 ghost use Rattle.commands.specs.Specifications.{Promises};
 
 use crate::perform::perform;
-use checked_front_end::front_end::outcomes::{Outcome, write_line};
-use dos_runner::tp_outside::{Files, Sink, Source};
+use front_end::outcomes::{Outcome, write_line};
 use std::alloc::Global;
+use tp_outside::{Files, Sink, Source};
 
 /// Does what the words say, after the program's own name: `go NAME` reads the program's sources, writes its
 /// executable, and runs that; `run NAME` runs the program that stands in its executable and its overlay file; `mean NAME` shows what the

@@ -12,5 +12,3 @@ mod program;
 mod resumption;
 
 pub use program::{MeanEnd, Meaning, mean};
-pub use type_layout;
-pub use typed_tree;

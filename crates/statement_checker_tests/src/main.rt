@@ -4,11 +4,9 @@
 //! then how many there are.
 #![tactic(auto)]
 
-mod line;
 mod outcomes;
 mod samples;
 mod shown;
-mod shown_expressions;
 
 use crate::outcomes::{Body, answered};
 use std::{fs, io};
