@@ -12,3 +12,5 @@ mod program;
 mod resumption;
 
 pub use program::{MeanEnd, Meaning, mean};
+pub use type_layout;
+pub use typed_tree;

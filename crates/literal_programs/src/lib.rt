@@ -11,3 +11,4 @@ mod reading;
 pub use executable::literal_executable;
 pub use items::{is_halt, is_text};
 pub use law::literal_program_law;
+pub use typed_tree;

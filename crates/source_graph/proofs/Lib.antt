@@ -1,3 +1,4 @@
+pub use Rattle.tp_parser.proofs.expression_parser_proofs as expression_parser_proofs
 pub use Rattle.ll1_grammar.proofs as ll1_grammar_proofs
 pub use Rattle.tp_lexer.proofs as tp_lexer_proofs
 pub mod AmongLaws

@@ -15,4 +15,6 @@ pub use error::{At, GatherError, LexCause};
 pub use files::source_file;
 pub use gathering::{Gathered, gather, whole};
 pub use sources::Source;
+pub use syntax_tree;
 pub use texts::{ALL_TEXTS_LIMIT, TEXT_LIMIT, at};
+pub use type_layout;
