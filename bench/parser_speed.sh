@@ -8,7 +8,7 @@ cd "$(dirname "$0")/../crates/parser_loop"
 times=${1:-20}
 for length in 262144 524288 1048576; do
     start=$(date +%s%N)
-    ./out/parser_loop "$length" "$times"
+    ./out/parser_loop "$length" 0 "$times"
     nanoseconds=$(($(date +%s%N) - start))
     echo "$((nanoseconds / times / 1000000)) milliseconds a reading"
 done

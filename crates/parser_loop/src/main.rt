@@ -1,5 +1,5 @@
-//! Reads a program of ordinary Pascal, so many bytes long and so many times over, up to its tree: to time the lexer and the
-//! parser together.
+//! Reads a program of ordinary Pascal, so many bytes long, by the lexer alone and up to its tree, each so many times over: to time the
+//! lexer and the parser.
 #![tactic(auto)]
 
 mod source;
@@ -8,7 +8,7 @@ use crate::source::{MAIN, ORDINARY};
 use std::alloc::{AllocError, Global};
 use std::{env, io};
 use syntax_tree::source_tree::Tree;
-use tp_lexer::{Text, tokens};
+use tp_lexer::{Text, TokenList, tokens};
 use tp_parser::parse;
 use type_layout::{Bytes, FileName};
 
@@ -40,33 +40,50 @@ fn alone(alloc: Global, bytes: Vec<u8>) -> Result<Vec<Text>, AllocError> {
     Ok(texts)
 }
 
-/// How many declarations the program has that the first text spells, if it spells one.
-fn count(alloc: Global, texts: &[Text]) -> Option<usize> {
+/// The tokens of the first text, if it has any text and breaks no rule.
+fn lexed(alloc: Global, texts: &[Text]) -> Option<TokenList> {
     if texts.is_empty() {
         return None;
     }
-    let Ok(list) = tokens(alloc, texts, 0, &[]) else {
-        return None;
-    };
+    tokens(alloc, texts, 0, &[]).ok()
+}
+
+/// How many declarations the program has that the first text spells, if it spells one.
+fn parsed(alloc: Global, texts: &[Text]) -> Option<usize> {
+    let list = lexed(alloc, texts)?;
     match parse(alloc, list.as_slice()) {
         Ok(Tree::Program { declarations, .. }) => Some(declarations.len()),
         _ => None,
     }
 }
 
+fn show(rt: &HostRuntime, length: usize, found: Option<usize>, what: &str) {
+    match found {
+        Some(found) => println!(rt; "{length} bytes are {found} {what}"),
+        None => println!(rt; "{length} bytes are not read"),
+    }
+}
+
 fn main(rt: HostRuntime) -> io::Result<()> {
-    let mut numbers = [5000usize, 1];
+    let mut numbers = [5000usize, 1, 1];
     for (number, text) in numbers.iter_mut().zip(env::args(&rt)?.skip(1)) {
         *number = text.parse().unwrap_or(*number);
     }
-    let [length, times] = numbers;
+    let [length, lexings, parsings] = numbers;
     let bytes = ordinary(rt.alloc(), length)?;
     let texts = alone(rt.alloc(), bytes)?;
-    for _ in 1..times {
-        let _again = count(rt.alloc(), texts.as_slice());
+    let mut found = None;
+    for _ in 0..lexings {
+        found = lexed(rt.alloc(), texts.as_slice()).map(|list| list.as_slice().len());
     }
-    match count(rt.alloc(), texts.as_slice()) {
-        Some(found) => println!(rt; "{length} bytes are {found} declarations"),
-        None => println!(rt; "{length} bytes are not read"),
+    if lexings > 0 {
+        show(&rt, length, found, "tokens");
     }
+    for _ in 0..parsings {
+        found = parsed(rt.alloc(), texts.as_slice());
+    }
+    if parsings > 0 {
+        show(&rt, length, found, "declarations");
+    }
+    Ok(())
 }
