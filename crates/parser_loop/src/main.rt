@@ -57,7 +57,7 @@ fn parsed(alloc: Global, texts: &[Text]) -> Option<usize> {
     }
 }
 
-fn show(rt: &HostRuntime, length: usize, found: Option<usize>, what: &str) {
+fn show(rt: &HostRuntime, length: usize, found: Option<usize>, what: &str) -> io::Result<()> {
     match found {
         Some(found) => println!(rt; "{length} bytes are {found} {what}"),
         None => println!(rt; "{length} bytes are not read"),
@@ -77,13 +77,13 @@ fn main(rt: HostRuntime) -> io::Result<()> {
         found = lexed(rt.alloc(), texts.as_slice()).map(|list| list.as_slice().len());
     }
     if lexings > 0 {
-        show(&rt, length, found, "tokens");
+        show(&rt, length, found, "tokens")?;
     }
     for _ in 0..parsings {
         found = parsed(rt.alloc(), texts.as_slice());
     }
     if parsings > 0 {
-        show(&rt, length, found, "declarations");
+        show(&rt, length, found, "declarations")?;
     }
     Ok(())
 }
