@@ -55,7 +55,7 @@ show_places() {
 # Says what is there in place of the file $1 that is missing, and which source names it.
 explain_missing() {
     local other
-    other=$(files_like . "$1" | head -n 1)
+    other=$(files_like '' "$1" | head -n 1)
     if [ -n "$other" ]; then
         echo "Help: here is $other, and names of files are in lower case: mv $(printf %q "$other") $1"
         if [ "$(find . -maxdepth 1 -type f -iname '*.pas' -name '*[A-Z]*' | wc -l)" -gt 1 ]; then

@@ -14,7 +14,7 @@ read_help() {
 
 # Whether $2 is a line of $1.
 is_among() {
-    grep -qxF -e "$2" <<<"$1"
+    case $'\n'$1$'\n' in *$'\n'"$2"$'\n'*) ;; *) return 1 ;; esac
 }
 
 # Sets `plain` to the places in `words` of those that are no option and no value of one: the command's, the name's and others.
@@ -56,9 +56,13 @@ nearest() {
         END { if (best != "") print best }' <<<"$1"
 }
 
-# The files of the folder $1 that have the name $2 but for capitals.
+# The files in the folder $1, which ends by / or is empty for this one, that have the name $2 but for capitals.
 files_like() {
-    find "${1:-.}" -maxdepth 1 -type f -printf '%f\n' 2>/dev/null | grep -ixF -e "$2" | LC_ALL=C sort
+    local LC_ALL=C path
+    for path in "$1"*; do
+        path=${path#"$1"}
+        if [ "${path,,}" = "${2,,}" ] && [ -f "$1$path" ]; then printf '%s\n' "$path"; fi
+    done
 }
 
 # Takes the word $2 for a name of the command $1 where it is a path, or has an extension, and exactly one file fits it: sets `folder`
@@ -69,6 +73,7 @@ fit_name() {
     folder=''
     name=$path
     case $path in */*) folder=${path%/*}/ name=${path##*/} ;; esac
+    [ "$folder" != ./ ] || folder=''
     case $name in *.[Pp][Aa][Ss] | *.[Ee][Xx][Ee]) name=${name%.*} ;; esac
     [ "$name" != "$2" ] && [[ $name =~ ^[A-Za-z_][A-Za-z_0-9]*$ ]] && [ "$(files_like "$folder" "$name$extension" | wc -l)" = 1 ]
 }
@@ -120,7 +125,7 @@ wrong_words() {
     command=${words[plain[0]]}
     if ! is_among "$commands" "$command"; then
         near=$(nearest "$commands"$'\nexplain' "$command")
-        if [ -n "$(files_like . "$command.pas")$(files_like . "$command")" ]; then near="go $command"; fi
+        if [ -n "$(files_like '' "$command.pas")$(files_like '' "$command")" ]; then near="go $command"; fi
         echo "there is no command '$command'; ${near:+did you mean '$near'? }$known"
     elif [ ${#plain[@]} -eq 1 ]; then
         echo "$command wants a name: tp $command hello for the file hello.pas"
