@@ -110,41 +110,20 @@ text_of() {
         ends { exit }' "$source")"
 }
 
-# Answers --help and --version, and refuses words that ask for nothing: for these nothing is built. Returns for the others.
+# Answers --help and --version, and refuses `words` that ask for nothing: for these nothing is built. Returns for the others.
 answer_words() {
-    local help commands options values known found=()
-    help=$(text_of help_text)
+    local wrong
     # (where the source has no such text, the program is built to answer)
-    [ -n "$help" ] || return
-    case "$#:${1-}" in
+    [ -n "$commands" ] || return
+    case ${#words[@]}:${words[*]} in
     1:--help) text_of help_text; exit 0 ;;
     1:--version) text_of version_text; exit 0 ;;
     esac
-    # Its lines are such as `tp go NAME [--limit N]`.
-    commands=$(sed -n 's/^\(Usage:\)\{0,1\} *tp \([a-z][a-z]*\) .*/\2/p' <<<"$help")
-    options=$(grep -o -e '--[a-z][a-z-]*' <<<"$help")
-    values=$(grep -o -e '--[a-z][a-z-]* [A-Z]' <<<"$help")
-    while [ $# -gt 0 ]; do
-        case $1 in
-        --) found+=("${@:2}"); break ;;
-        -*)
-            grep -qxF -e "${1%%=*}" <<<"$options" || refuse "there is no option '$1'"
-            # (its value follows)
-            if grep -qF -e "$1 " <<<"$values" && [ $# -gt 1 ]; then shift; fi
-            ;;
-        *) found+=("$1") ;;
-        esac
-        shift
-    done
-    known="the commands are ${commands//$'\n'/, }"
-    [ ${#found[@]} -gt 0 ] || refuse "$known"
-    grep -qxF -e "${found[0]}" <<<"$commands" || refuse "there is no command '${found[0]}'; $known"
-    [ ${#found[@]} -gt 1 ] || refuse "${found[0]} wants a name"
-}
-
-refuse() {
-    echo "tp: $1; tp --help says more" >&2
-    exit 252
+    wrong=$(wrong_words)
+    if [ -n "$wrong" ]; then
+        echo "tp: $wrong; tp --help says more" >&2
+        exit 252
+    fi
 }
 
 minutes() {
