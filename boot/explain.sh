@@ -29,7 +29,7 @@ read_row() {
 
 # Shows line $2 of the file $1 with a caret under column $3. What a terminal may take for a command is shown as `?`.
 show_source() {
-    [ -f "$1" ] && LC_ALL=C awk -v row="$2" -v column="$3" '
+    [ ! -f "$1" ] || LC_ALL=C awk -v row="$2" -v column="$3" '
         NR == row {
             sub(/\r$/, "")
             from = column > 100 ? column - 60 : 1
@@ -40,7 +40,7 @@ show_source() {
             print text
             print front "^"
             exit
-        }' "$1"
+        }' <"$1"
 }
 
 # Shows where the name $1 stands in the sources of the program, for a refusal that names no place. More words are awk's.
@@ -57,15 +57,21 @@ explain_missing() {
     local other
     other=$(files_like '' "$1" | head -n 1)
     if [ -n "$other" ]; then
-        echo "Help: here is $other, and names of files are in lower case: mv $(printf %q "$other") $1"
+        echo "Help: here is $other, and names of files are in lower case: mv $(printf '%q %q' "$came$other" "$came$1")"
         if [ "$(find . -maxdepth 1 -type f -iname '*.pas' -name '*[A-Z]*' | wc -l)" -gt 1 ]; then
-            echo "Help: all of the folder: for f in *.[Pp][Aa][Ss]; do mv -n \"\$f\" \"\${f,,}\"; done"
+            echo "Help: all of the folder, in bash: for f in *.[Pp][Aa][Ss]; do mv -n \"\$f\" \"\${f,,}\"; done"
         fi
+    elif [ "$1" != "${1%.exe}" ] && [ -f "${1%.exe}.pas" ]; then
+        echo "Help: tp go ${1%.exe} writes it"
     else
         other=$(nearest "$(find . -maxdepth 1 -type f -name "*.${1##*.}" -printf '%f\n' | LC_ALL=C sort)" "$1")
         [ -z "$other" ] || echo "Help: did you mean $other?"
     fi
-    [ "$1" = "$source" ] || show_places "${1%.pas}" -v inside=uses
+    case $1 in
+    "$source") ;;
+    *.pas) show_places "${1%.pas}" -v inside=uses ;;
+    *) show_places "$1" -v inside=include ;;
+    esac
 }
 
 # Says how to find a place that the line doesn't name.
@@ -102,6 +108,32 @@ explain_line() {
     explain_place "$last"
     [ "$turbo" = - ] || [ "${key%% *}" = Runtime ] && return 0
     echo "Turbo Pascal: Error ${turbo%% *}: ${turbo#* }"
+}
+
+# Runs the program with `words`. Where standard error is a terminal, or TP_EXPLAIN is 1, explains behind what it wrote its last line.
+run_words() {
+    local command source status last
+    case ${TP_EXPLAIN-} in
+    1) ;;
+    '') [ -t 2 ] || exec "$program" "${words[@]}" ;;
+    *) exec "$program" "${words[@]}" ;;
+    esac
+    find_plain
+    command=${words[${plain[0]-0}]-}
+    source=${words[${plain[1]-0}]-}
+    source=${source,,}.pas
+    if [ "$command" = mean ] && [ -t 0 ]; then
+        echo 'tp: mean reads its whole input first: end it by Ctrl-D, or start it with </dev/null' >&2
+    fi
+    said=$(mktemp 2>/dev/null) || exec "$program" "${words[@]}"
+    trap 'rm -f "$said"' EXIT
+    "$program" "${words[@]}" 2> >(exec tee "$said" >&2)
+    status=$?
+    wait $!
+    # (only what the program said at its end, and on a line of its own)
+    last=$(tail -c 400 "$said" | tr -d '\0\r' | tail -n 1)
+    [ "$status" -eq 0 ] || explain_line "$last" >&2
+    exit "$status"
 }
 
 # Shows the row with the key $1 in full.

@@ -1,6 +1,7 @@
 # Prints where a name stands in a program's sources: FILE LINE COLUMN, a line for each place.
 #   awk -f places.awk -v start=a.pas -v word=count    in a.pas, and in all that it uses and includes, which lie in this folder
 #   .. -v inside=uses                                 only in clauses of uses
+#   .. -v inside=include                              only as a file that is included
 # Comments and texts are passed over. It reads words and no grammar: it only has to find what a refusal names without a place.
 
 function take(file,   text, row) {
@@ -28,12 +29,13 @@ function scan(file, row, text,   at, rest, name) {
                 name = substr(rest, 1, RLENGTH)
                 sub(/.* /, "", name)
                 later[++last] = tolower(name)
+                if (inside == "include" && tolower(name) == tolower(word)) print file, row, at
             }
             at += length(ends)
         } else if (match(rest, /^'[^']*'/)) at += RLENGTH
         else if (match(rest, /^[A-Za-z_][A-Za-z_0-9]*/)) {
             name = tolower(substr(rest, 1, RLENGTH))
-            if (name == tolower(word) && (inside != "uses" || used || name == "uses")) print file, row, at
+            if (name == tolower(word) && (!inside || inside == "uses" && (used || name == "uses"))) print file, row, at
             if (used) later[++last] = name ".pas"
             if (name == "uses") used = 1
             at += RLENGTH

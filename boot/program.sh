@@ -69,13 +69,17 @@ is_unpacked() {
     [ -f "$packed" ] && [ -f "$top/boot/sum" ] && is_newest "$unpacked" -cnewer crates.txt boot/sum boot/tp.gz
 }
 
-# Unpacks the boot program where it stands for the sources, or says in `why` why it can't be used.
+# Unpacks the boot program where it stands for the sources, or says in `why` why it can't be used. Where boot/ can't be written, it is
+# unpacked for this run alone, into a file that loses its name.
 unpack() {
-    local new
+    local new place=$unpacked
     why='there is no boot program'
     [ -f "$packed" ] && [ -f "$top/boot/sum" ] || return 1
-    why='boot/ cannot be written'
-    new=$(mktemp "$top/boot/.new.XXXXXX") || return 1
+    why='there is no room for the boot program'
+    if ! new=$(mktemp "$top/boot/.new.XXXXXX" 2>/dev/null); then
+        new=$(mktemp) || return 1
+        place=''
+    fi
     # (unpacked before the sum is taken, so that a source that is edited meanwhile is newer)
     if ! gzip -dc "$packed" >"$new" || ! chmod 755 "$new"; then
         why='boot/tp.gz cannot be unpacked'
@@ -83,7 +87,12 @@ unpack() {
         why='the boot program was built from other sources'
     elif ! "$new" --version </dev/null >/dev/null 2>&1; then
         why='the boot program does not run here, as it is for x86-64 Linux with glibc 2.34 or later'
-    elif mv -f "$new" "$unpacked"; then
+    elif [ -z "$place" ]; then
+        exec 8<"$new"
+        rm -f "$new"
+        program=/proc/self/fd/8
+        return 0
+    elif mv -f "$new" "$place"; then
         return 0
     fi
     rm -f "$new"
@@ -151,8 +160,15 @@ show_progress() {
     [ ! -t 2 ] || printf '\r\033[K' >&2
 }
 
+# Copies the file $1 to $2, as a whole or not at all.
+copy_to() {
+    cp -p "$1" "$2.part" && mv -f "$2.part" "$2"
+}
+
+# Has the program that was there before the build that `mark` tells of. A program that this one began may be cut off.
 put_back() {
-    [ ! -e "$out/tp.older" ] || mv -f "$out/tp.older" "$built"
+    [ -e "$mark" ] || return
+    if [ -e "$out/tp.older" ]; then mv -f "$out/tp.older" "$built"; else rm -f "$built"; fi
     rm -f "$mark"
 }
 
@@ -180,11 +196,13 @@ END
     echo "tp: proving and building ${#names[@]} crates, which takes an hour or two the first time, about 25 GB of memory and 20 GB of disk" >&2
     echo "tp: the log is $log" >&2
     : >"$log"
+    # (of a build that was killed)
+    put_back
+    rm -f "$out/tp.older"
+    if [ -e "$built" ]; then copy_to "$built" "$out/tp.older"; fi
     touch "$mark"
-    if [ -e "$built" ]; then
-        # A copy, since rt may link into the file, and the old one may be running.
-        mv -f "$built" "$out/tp.older" && cp -p "$out/tp.older" "$built"
-    fi
+    # (a file of its own, since rt may link into it, and the old one may be running)
+    if [ -e "$out/tp.older" ]; then copy_to "$out/tp.older" "$built"; fi
     SECONDS=0
     # In a group of its own, so that all of it ends where this script is stopped.
     set -m

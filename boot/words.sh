@@ -65,6 +65,13 @@ files_like() {
     done
 }
 
+# Goes to the folder $1, which the words name.
+go_to() {
+    case $1 in /*) cd "$1" ;; *) cd "./$1" ;; esac 2>/dev/null && came=$came${1%/}/ && return
+    if [ -d "$1" ]; then echo "tp: the folder '$1' cannot be entered" >&2; else echo "tp: there is no folder '$1'" >&2; fi
+    exit 252
+}
+
 # Takes the word $2 for a name of the command $1 where it is a path, or has an extension, and exactly one file fits it: sets `folder`
 # and `name`.
 fit_name() {
@@ -92,10 +99,7 @@ rewrite_words() {
     at=${plain[1]}
     if fit_name "${words[plain[0]]}" "${words[at]}"; then
         words[at]=$name
-        if [ -n "$folder" ]; then
-            cd "$folder" || exit 252
-            came=$came$folder
-        fi
+        [ -z "$folder" ] || go_to "$folder"
     fi
 }
 
@@ -109,6 +113,7 @@ wrong_words() {
         word=${word%%=*}
         if ! is_among "$options" "$word"; then
             near=$(nearest "$options" "$word")
+            [ "$word" != -C ] || near='tp -C FOLDER go NAME'
             echo "there is no option '$word'${near:+; did you mean '$near'?}"
             return
         elif [ -n "${seen[$word]-}" ]; then
