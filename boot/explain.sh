@@ -1,6 +1,8 @@
 # shellcheck shell=bash
-# What the lines of tp mean, by the table docs/messages.tsv. Read by ../tp.
+# What ../tp does with its words, and what the lines of the program mean, by the table docs/messages.tsv. Read by ../tp.
 table=$top/docs/messages.tsv
+# What leads from the caller's folder to the one where the program runs.
+came=''
 
 # Sets `key` to the row of the table that the line $1 is told by, and `file`, `row` and `column` to the place that it names, if any.
 read_line() {
@@ -110,32 +112,6 @@ explain_line() {
     echo "Turbo Pascal: Error ${turbo%% *}: ${turbo#* }"
 }
 
-# Runs the program with `words`. Where standard error is a terminal, or TP_EXPLAIN is 1, explains behind what it wrote its last line.
-run_words() {
-    local command source status last
-    case ${TP_EXPLAIN-} in
-    1) ;;
-    '') [ -t 2 ] || exec "$program" "${words[@]}" ;;
-    *) exec "$program" "${words[@]}" ;;
-    esac
-    find_plain
-    command=${words[${plain[0]-0}]-}
-    source=${words[${plain[1]-0}]-}
-    source=${source,,}.pas
-    if [ "$command" = mean ] && [ -t 0 ]; then
-        echo 'tp: mean reads its whole input first: end it by Ctrl-D, or start it with </dev/null' >&2
-    fi
-    said=$(mktemp 2>/dev/null) || exec "$program" "${words[@]}"
-    trap 'rm -f "$said"' EXIT
-    "$program" "${words[@]}" 2> >(exec tee "$said" >&2)
-    status=$?
-    wait $!
-    # (only what the program said at its end, and on a line of its own)
-    last=$(tail -c 400 "$said" | tr -d '\0\r' | tail -n 1)
-    [ "$status" -eq 0 ] || explain_line "$last" >&2
-    exit "$status"
-}
-
 # Shows the row with the key $1 in full.
 show_row() {
     local turbo cause remedy example gives kind=Error
@@ -178,4 +154,50 @@ explain_words() {
     [1-3]) while read -r row; do show_row "$row"; done <<<"$found" ;;
     *) printf '%s\n' "$found" ;;
     esac
+}
+
+# Runs the program with `words`. Where standard error is a terminal, or TP_EXPLAIN is 1, explains behind what it wrote its last line.
+run_words() {
+    local command source status last
+    case ${TP_EXPLAIN-} in
+    1) ;;
+    '') [ -t 2 ] || exec "$program" "${words[@]}" ;;
+    *) exec "$program" "${words[@]}" ;;
+    esac
+    find_plain
+    command=${words[${plain[0]-0}]-}
+    source=${words[${plain[1]-0}]-}
+    source=${source,,}.pas
+    if [ "$command" = mean ] && [ -t 0 ]; then
+        echo 'tp: mean reads its whole input first: end it by Ctrl-D, or start it with </dev/null' >&2
+    fi
+    said=$(mktemp 2>/dev/null) || exec "$program" "${words[@]}"
+    trap 'rm -f "$said"' EXIT
+    "$program" "${words[@]}" 2> >(exec tee "$said" >&2)
+    status=$?
+    wait $!
+    # (only what the program said at its end, and on a line of its own)
+    last=$(tail -c 400 "$said" | tr -d '\0\r' | tail -n 1)
+    [ "$status" -eq 0 ] || explain_line "$last" >&2
+    exit "$status"
+}
+
+# Does what ../tp is asked by these words, and ends.
+answer() {
+    if [ "${1-}" = -C ]; then
+        if [ $# -lt 2 ]; then
+            echo 'tp: -C wants a folder' >&2
+            exit 252
+        fi
+        go_to "$2"
+        shift 2
+    fi
+    if [ "${1-}" = explain ]; then
+        explain_words "${@:2}"
+        exit
+    fi
+    words=("$@")
+    read_help && rewrite_words
+    find_program
+    run_words
 }

@@ -231,6 +231,13 @@ END
     program=$built
 }
 
+# Sets `program`, and builds it if need be; ends where `words` ask for nothing or it can't be built.
+find_program() {
+    at_hand && return
+    answer_words
+    build || exit
+}
+
 # Whether the boot program is, byte for byte, the one that was built.
 boot_is_built() {
     [ -f "$packed" ] && gzip -dc "$packed" | cmp -s - "$built"

@@ -21,17 +21,31 @@ const
   LightMagenta = 13;
   Yellow = 14;
   White = 15;
+  Blink = 128;
+  BW40 = 0;
+  CO40 = 1;
+  BW80 = 2;
+  CO80 = 3;
+  Mono = 7;
+
+var
+  { These change nothing. }
+  CheckBreak, CheckEOF, CheckSnow, DirectVideo: Boolean;
 
 procedure ClrScr;
 procedure ClrEol;
+procedure InsLine;
+procedure DelLine;
 procedure GotoXY(x, y: Byte);
 procedure TextColor(color: Byte);
 procedure TextBackground(color: Byte);
 procedure NormVideo;
 procedure HighVideo;
 procedure LowVideo;
+{ Clears the screen, which has one mode only. }
+procedure TextMode(mode: Word);
 
-{ The next character of the input; byte 26 at its end. }
+{ The next character of the input: byte 13 at the end of a line, byte 26 at the end of the input. }
 function ReadKey: Char;
 { Whether the input goes on. }
 function KeyPressed: Boolean;
@@ -57,6 +71,16 @@ begin
   Write(#27'[K')
 end;
 
+procedure InsLine;
+begin
+  Write(#27'[L')
+end;
+
+procedure DelLine;
+begin
+  Write(#27'[M')
+end;
+
 procedure GotoXY(x, y: Byte);
 begin
   Write(#27'[', y, ';', x, 'H')
@@ -64,7 +88,8 @@ end;
 
 procedure TextColor(color: Byte);
 begin
-  if color and 8 <> 0 then Write(#27'[1;3') else Write(#27'[22;3');
+  if color and 8 <> 0 then Write(#27'[1;') else Write(#27'[22;');
+  if color and Blink <> 0 then Write('5;3') else Write('25;3');
   Write(Ansi[color and 7], 'm')
 end;
 
@@ -88,11 +113,24 @@ begin
   Write(#27'[22m')
 end;
 
+procedure TextMode(mode: Word);
+begin
+  ClrScr
+end;
+
 function ReadKey: Char;
 var
   key: Char;
 begin
-  Read(key);
+  if Eof then
+    key := #26
+  else if Eoln then
+  begin
+    ReadLn;
+    key := #13
+  end
+  else
+    Read(key);
   ReadKey := key
 end;
 
@@ -113,4 +151,9 @@ procedure NoSound;
 begin
 end;
 
+begin
+  CheckBreak := True;
+  CheckEOF := False;
+  CheckSnow := True;
+  DirectVideo := True
 end.

@@ -2,12 +2,14 @@ program Stars;
 { A night sky of coloured stars on a text screen. }
 uses Crt, Rand;
 var
-  n: Integer;
+  n, x, y: Integer;
 begin
   ClrScr;
   for n := 1 to 60 do
   begin
-    GotoXY(1 + Random(78), 1 + Random(22));
+    x := 1 + Random(78);
+    y := 1 + Random(22);
+    GotoXY(x, y);
     TextColor(1 + Random(15));
     Write('*')
   end;
