@@ -4,9 +4,11 @@
   gate_costs.py COMMAND..   runs the command, such as `rt ci`, and notes what each check below it takes; ends with its status
   gate_costs.py --pid PID   the same for a command that is running, until it ends
   gate_costs.py             prints the thirty dearest crates and the totals of all
+  gate_costs.py --write     writes this into bench/README.md, with the day
 
 What is noted stands in bench/out/gate_costs.json. A crate that rt takes from an earlier run keeps its numbers of before: `rt ci --anew` gives
 all of them new. rt tells no times, so its processes are looked at once a second; the last part of a second of each is missed."""
+import datetime
 import importlib.machinery
 import importlib.util
 import json
@@ -19,6 +21,7 @@ import time
 
 NOTED = pathlib.Path(__file__).resolve().parent / "out/gate_costs.json"
 CRATES = NOTED.parent.parent.parent / "crates.txt"
+README = NOTED.parent.parent / "README.md"
 KINDS = ("proof", "tests", "edits")
 ROWS = 30
 TICK = os.sysconf("SC_CLK_TCK")
@@ -121,22 +124,36 @@ def kept_bytes(folder):
     return kept, whole
 
 
-def show():
+def table():
+    """Returns the lines of the table."""
     names = re.findall(r"(?m)^(\w+)", CRATES.read_text())
     told, (kept, whole) = json.loads(read(NOTED) or "{}"), kept_bytes(store())
     rows = [(it, [told.get(it, {}).get(kind, 0) for kind in KINDS], kept.get(it, 0)) for it in names]
     rows.sort(key=lambda it: (-sum(it[1]), -it[2], it[0]))
-    line = "{:<28}" + "{:>9}" * 4 + "{:>10}"
-    print(line.format("crate", *KINDS, "seconds", "kept MB"))
+    line = "| {:<28} |" + " {:>9} |" * 4 + " {:>8} |"
     all_of = f"all {len(rows)} crates", [sum(it[1][at] for it in rows) for at in range(len(KINDS))], sum(it[2] for it in rows)
+    lines = [line.format("crate", *KINDS, "seconds", "kept MB"), "|---|--:|--:|--:|--:|--:|"]
     for name, seconds, much in [*rows[:ROWS], all_of]:
-        print(line.format(name, *(f"{it:,.0f}" for it in [*seconds, sum(seconds)]), f"{much / 1e6:,.1f}"))
-    print(f"{sum(map(bool, (sum(it[1]) for it in rows)))} crates have seconds, {sum(it[2] > 0 for it in rows)} are kept; the store holds {whole / 1e6:,.1f} MB")
+        lines.append(line.format(name, *(f"{it:,.0f}" for it in [*seconds, sum(seconds)]), f"{much / 1e6:,.1f}"))
+    timed, held = sum(any(it[1]) for it in rows), sum(it[2] > 0 for it in rows)
+    return [*lines, "", f"{timed} crates have seconds, {held} are kept; the store holds {whole / 1e6:,.1f} MB."]
+
+
+def write():
+    """Puts the table between its two lines in README.md."""
+    start, end = "<!-- written by gate_costs.py --write -->", "<!-- end -->"
+    before, _, rest = README.read_text().partition(start)
+    after = rest.partition(end)[2]
+    day = datetime.date.today().isoformat()
+    README.write_text("\n".join([before + start, f"On {day}:", "", *table(), end + after]))
 
 
 def main(words):
     if not words:
-        show()
+        print(*table(), sep="\n")
+        return 0
+    if words == ["--write"]:
+        write()
         return 0
     if words[0] == "--pid":
         watch(int(words[1]), lambda: os.path.exists(f"/proc/{words[1]}"))

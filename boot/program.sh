@@ -69,13 +69,17 @@ is_unpacked() {
     [ -f "$packed" ] && [ -f "$top/boot/sum" ] && is_newest "$unpacked" -cnewer crates.txt boot/sum boot/tp.gz
 }
 
-# Unpacks the boot program where it stands for the sources, or says in `why` why it can't be used.
+# Unpacks the boot program where it stands for the sources, or says in `why` why it can't be used. Where boot/ can't be written, it is
+# unpacked for this run alone, into a file that loses its name.
 unpack() {
-    local new
+    local new place=$unpacked
     why='there is no boot program'
     [ -f "$packed" ] && [ -f "$top/boot/sum" ] || return 1
-    why='boot/ cannot be written'
-    new=$(mktemp "$top/boot/.new.XXXXXX") || return 1
+    why='there is no room for the boot program'
+    if ! new=$(mktemp "$top/boot/.new.XXXXXX" 2>/dev/null); then
+        new=$(mktemp) || return 1
+        place=''
+    fi
     # (unpacked before the sum is taken, so that a source that is edited meanwhile is newer)
     if ! gzip -dc "$packed" >"$new" || ! chmod 755 "$new"; then
         why='boot/tp.gz cannot be unpacked'
@@ -83,7 +87,12 @@ unpack() {
         why='the boot program was built from other sources'
     elif ! "$new" --version </dev/null >/dev/null 2>&1; then
         why='the boot program does not run here, as it is for x86-64 Linux with glibc 2.34 or later'
-    elif mv -f "$new" "$unpacked"; then
+    elif [ -z "$place" ]; then
+        exec 8<"$new"
+        rm -f "$new"
+        program=/proc/self/fd/8
+        return 0
+    elif mv -f "$new" "$place"; then
         return 0
     fi
     rm -f "$new"
@@ -110,41 +119,20 @@ text_of() {
         ends { exit }' "$source")"
 }
 
-# Answers --help and --version, and refuses words that ask for nothing: for these nothing is built. Returns for the others.
+# Answers --help and --version, and refuses `words` that ask for nothing: for these nothing is built. Returns for the others.
 answer_words() {
-    local help commands options values known found=()
-    help=$(text_of help_text)
+    local wrong
     # (where the source has no such text, the program is built to answer)
-    [ -n "$help" ] || return
-    case "$#:${1-}" in
+    [ -n "$commands" ] || return
+    case ${#words[@]}:${words[*]} in
     1:--help) text_of help_text; exit 0 ;;
     1:--version) text_of version_text; exit 0 ;;
     esac
-    # Its lines are such as `tp go NAME [--limit N]`.
-    commands=$(sed -n 's/^\(Usage:\)\{0,1\} *tp \([a-z][a-z]*\) .*/\2/p' <<<"$help")
-    options=$(grep -o -e '--[a-z][a-z-]*' <<<"$help")
-    values=$(grep -o -e '--[a-z][a-z-]* [A-Z]' <<<"$help")
-    while [ $# -gt 0 ]; do
-        case $1 in
-        --) found+=("${@:2}"); break ;;
-        -*)
-            grep -qxF -e "${1%%=*}" <<<"$options" || refuse "there is no option '$1'"
-            # (its value follows)
-            if grep -qF -e "$1 " <<<"$values" && [ $# -gt 1 ]; then shift; fi
-            ;;
-        *) found+=("$1") ;;
-        esac
-        shift
-    done
-    known="the commands are ${commands//$'\n'/, }"
-    [ ${#found[@]} -gt 0 ] || refuse "$known"
-    grep -qxF -e "${found[0]}" <<<"$commands" || refuse "there is no command '${found[0]}'; $known"
-    [ ${#found[@]} -gt 1 ] || refuse "${found[0]} wants a name"
-}
-
-refuse() {
-    echo "tp: $1; tp --help says more" >&2
-    exit 252
+    wrong=$(wrong_words)
+    if [ -n "$wrong" ]; then
+        echo "tp: $wrong; tp --help says more" >&2
+        exit 252
+    fi
 }
 
 minutes() {
@@ -172,8 +160,15 @@ show_progress() {
     [ ! -t 2 ] || printf '\r\033[K' >&2
 }
 
+# Copies the file $1 to $2, as a whole or not at all.
+copy_to() {
+    cp -p "$1" "$2.part" && mv -f "$2.part" "$2"
+}
+
+# Has the program that was there before the build that `mark` tells of. A program that this one began may be cut off.
 put_back() {
-    [ ! -e "$out/tp.older" ] || mv -f "$out/tp.older" "$built"
+    [ -e "$mark" ] || return
+    if [ -e "$out/tp.older" ]; then mv -f "$out/tp.older" "$built"; else rm -f "$built"; fi
     rm -f "$mark"
 }
 
@@ -201,11 +196,13 @@ END
     echo "tp: proving and building ${#names[@]} crates, which takes an hour or two the first time, about 25 GB of memory and 20 GB of disk" >&2
     echo "tp: the log is $log" >&2
     : >"$log"
+    # (of a build that was killed)
+    put_back
+    rm -f "$out/tp.older"
+    if [ -e "$built" ]; then copy_to "$built" "$out/tp.older"; fi
     touch "$mark"
-    if [ -e "$built" ]; then
-        # A copy, since rt may link into the file, and the old one may be running.
-        mv -f "$built" "$out/tp.older" && cp -p "$out/tp.older" "$built"
-    fi
+    # (a file of its own, since rt may link into it, and the old one may be running)
+    if [ -e "$out/tp.older" ]; then copy_to "$out/tp.older" "$built"; fi
     SECONDS=0
     # In a group of its own, so that all of it ends where this script is stopped.
     set -m
@@ -232,6 +229,13 @@ END
     exec 9>&-
     echo "tp: built in $(minutes $SECONDS)" >&2
     program=$built
+}
+
+# Sets `program`, and builds it if need be; ends where `words` ask for nothing or it can't be built.
+find_program() {
+    at_hand && return
+    answer_words
+    build || exit
 }
 
 # Whether the boot program is, byte for byte, the one that was built.
