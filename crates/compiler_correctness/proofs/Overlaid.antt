@@ -39,7 +39,7 @@ pub record LawsBelow : Type 0 where
 -- more events show as much
 later_stands : (turns count events : ℕ) (e f : Standing) → count ≤ events → Stands turns count e f → Stands turns events e f
 later_stands turns count events (Ended code) f few s = s
-later_stands turns count events Going f few s = (omega (arith, s, few), s.1)
+later_stands turns count events Going f few s = let z = s.0 in (omega (arith, z, few), s.1)
 later_stands turns count events (Undefined act) f few s = tt
 later_stands turns count events Stopped f few s = s
 

@@ -1,5 +1,5 @@
 -- The parts of the compiler that are still to come, and the laws of these on which the theorems rest.
-use Rattle.std.specs.Prelude.{◌≡◌, ◌⊎◌, ℕ, Bool, true, false, List, [], ◌∷◌, Option, Some}
+use Rattle.std.specs.Prelude.{◌≡◌, ◌⊎◌, ℕ, ◌*◌, ◌≤◌, Bool, true, false, List, [], ◌∷◌, Option, Some}
 use Rattle.common_values.specs.behaviour.Seen.{IsOver, IsUndefined}
 use Rattle.typed_tree.specs.declared.units.Program.{Program}
 use Rattle.tp_meaning.specs.Meaning.{mean}
@@ -15,15 +15,16 @@ use Rattle.statement_simulation.specs.flow.Sites.{AreBytes}
 use Rattle.dos_runner.specs.opened_program.Opening.{IsOpened}
 use Rattle.dos_runner.specs.plain_opening.Laws.{IsPlain}
 use Rattle.compiler_correctness.specs.Runs.{Files, shown, begun}
-use Rattle.compiler_correctness.specs.Hypotheses.{IsLoweringOf, Placement, Starts, LoadsAs, IsPair, OverlaysFollow}
+use Rattle.compiler_correctness.specs.Hypotheses.{IsLoweringOf, Placement, Starts, resident_rate, LoadsAs, IsPair, OverlaysFollow}
 use Rattle.compiler_correctness.specs.Correct.{IsCorrectPlain, RunsTo, IsCorrect}
 
--- Which programs are lowered, and to what, with how much work for each turn and each byte; which files are linked from the units of a program;
--- and the program of the resident machine that files hold, with its start on each input.
+-- Which programs are lowered, and to what, with how much work for each turn and each byte, and how many events of the resident machine; which
+-- files are linked from the units of a program; and the program of the resident machine that files hold, with its start on each input.
 pub record Compiler : Type 1 where
   pub IsLowerable : Program → Type 0
   pub lowered : Program → FlatProgram
   pub few : Program → ℕ
+  pub rate : Program → ℕ
   pub IsLinked : Program → Files → Type 0
   pub machine : Files → resident.Program
   pub start : Files → List ℕ → ResidentState
@@ -52,6 +53,7 @@ LoweringLaw c = (program : Program) → IsWellTyped program → c.IsLowerable pr
 abbrev pub PlacingLaw : Compiler → Type 0
 PlacingLaw c = (program : Program) (files : Files) → IsCompiled c program files
     → (p : Placement (c.lowered program) (c.machine files) (has_overlays program)) × Starts (c.lowered program) (c.machine files) (has_overlays program) p (c.start files)
+    × (resident_rate (c.lowered program) (c.machine files) (has_overlays program) p (c.few program) ≤ c.rate program)
 
 -- without overlays, what the executable starts stands for that start
 abbrev pub LoadingLaw : Compiler → Type 0
@@ -82,10 +84,10 @@ pub record CompilerLaws (c : Compiler) : Type 0 where
 -- ---- the theorems
 
 abbrev pub PlainTheorem : Compiler → Type 0
-PlainTheorem c = (program : Program) (files : Files) → IsCompiled c program files → has_overlays program ≡ false → (rate : ℕ) × IsCorrectPlain rate program files.exe
+PlainTheorem c = (program : Program) (files : Files) → IsCompiled c program files → has_overlays program ≡ false → (rate : ℕ) × (rate ≤ c.rate program) × IsCorrectPlain rate program files.exe
 
 abbrev pub OverlaidTheorem : Compiler → Type 0
-OverlaidTheorem c = (program : Program) (files : Files) → IsCompiled c program files → has_overlays program ≡ true → (rate : ℕ) × IsCorrect rate program files
+OverlaidTheorem c = (program : Program) (files : Files) → IsCompiled c program files → has_overlays program ≡ true → (rate : ℕ) × (rate ≤ 3 * c.rate program) × IsCorrect rate program files
 
 -- So what `run` does is what the program means, once it is over.
 abbrev pub RunTheorem : Compiler → Type 0

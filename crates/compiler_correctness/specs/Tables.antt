@@ -37,9 +37,12 @@ later_tables (table ∷ tables) = tables
 
 -- ---- a service by given seats
 
--- the seats that a table says, of overlays with these sizes
+-- the seat that an entry says, of overlays with these sizes, and those of a table
+abbrev pub seat_of : List ℕ → Entry → Seat
+seat_of sizes e = record { overlay = e.overlay; at = e.at; size = slice_index sizes e.overlay }
+
 abbrev pub seats_of : List ℕ → Table → List Seat
-seats_of sizes table = map (λ (e : Entry). record { overlay = e.overlay; at = e.at; size = slice_index sizes e.overlay }) table
+seats_of sizes table = map (seat_of sizes) table
 
 -- of the overlays from number `v` on the first that is to be loaded and that the file does not have whole
 abbrev pub short_from : List ℕ → ℕ → List OvrEntry → List Loaded → List Loaded → Option ℕ
