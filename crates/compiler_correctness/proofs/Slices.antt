@@ -46,19 +46,19 @@ flat_divides : (choice : Choice) (input : List ℕ) → (flat_run (flat_slice fa
 unfolding run_code digits
 flat_divides choice input = refl
 
-divides_work : (choice : Choice) (input : List ℕ) → (flat_run (flat_slice false) choice input 2).work ≡ 2
+divides_work : (choice : Choice) (input : List ℕ) → (flat_run (flat_slice false) choice input 2).work ≡ 3
 unfolding run_code digits
 divides_work choice input = refl
 
 -- ---- the one follows the other
 
 -- a target that shows the same at some bound, with little work
-ended : (turns m code read : ℕ) (err : List ℕ) (x y : Seen) (work : ℕ) → x ≡ ends (Ended code) [] err → y ≡ ends (Ended code) [] err → work ≤ 2 → Shows turns m x y × IsPaid 4 turns read x.end work
+ended : (turns m code read : ℕ) (err : List ℕ) (x y : Seen) (work : ℕ) → x ≡ ends (Ended code) [] err → y ≡ ends (Ended code) [] err → work ≤ 4 → Shows turns m x y × IsPaid 4 turns read x.end work
 ended turns m code read err x y work e f small =
     subst (λ (x : Seen). Shows turns m x y × IsPaid 4 turns read x.end work) (sym e)
     (subst (λ (y : Seen). Shows turns m (ends (Ended code) [] err) y × IsPaid 4 turns read (Ended code) work) (sym f) (record { out = refl; err = refl; stands = refl }, omega (arith, small)))
 
-going : (read : ℕ) (x y : Seen) (work : ℕ) → x ≡ ends Going [] [] → y ≡ ends Going [] [] → work ≤ 2 → Shows 0 0 x y × IsPaid 4 0 read x.end work
+going : (read : ℕ) (x y : Seen) (work : ℕ) → x ≡ ends Going [] [] → y ≡ ends Going [] [] → work ≤ 4 → Shows 0 0 x y × IsPaid 4 0 read x.end work
 going read x y work e f small =
     subst (λ (x : Seen). Shows 0 0 x y × IsPaid 4 0 read x.end work) (sym e)
     (subst (λ (y : Seen). Shows 0 0 (ends Going [] []) y × IsPaid 4 0 read Going work) (sym f) (record { out = refl; err = refl; stands = (omega arith, refl) }, omega (arith, small)))

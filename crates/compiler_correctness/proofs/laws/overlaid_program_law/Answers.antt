@@ -5,7 +5,7 @@ pub returns : goal.returns
 returns c = λ program files typed built. correct
     (record {
       start = c.start_law.ensures;
-      framed = c.leads_law.ensures.framed;
+      framed = c.run_law.ensures.framed;
       once = c.step_law.ensures.one;
       runs = c.meaning_laws.ensures.runs;
     })

@@ -5,9 +5,9 @@ pub returns : goal.returns
 returns c = λ program exe typed built. correct_plain
     (record {
       start = c.start_law.ensures;
-      leads = c.leads_law.ensures.runs;
+      leads = c.run_law.ensures.runs;
       alike = c.resident_law.ensures;
-      once = c.run_law.ensures.one;
+      once = c.run_law-2.ensures.one;
       plain = record { only = c.plain_law.ensures.only; all = c.plain_law.ensures.all };
       opening = c.plain_opening_law.ensures.opened;
     })
