@@ -52,7 +52,7 @@ resident_shows law program few flat machine framed p start lowering starts input
     let run : ShowsRun w input m (start input) = law w p.reached p.layout p.placed p.begins input (start input) (starts input bytes) m in
     let read : (flat_run flat p.choice input m).read ≡ run.end.taken = sym run.read in
     let paid : IsPaid few turns run.end.taken (mean program input turns).end (flat_run flat p.choice input m).work =
-        subst (λ (n : ℕ). IsPaid few turns n (mean program input turns).end (flat_run flat p.choice input m).work) read lowered.2 in
+    subst (λ (n : ℕ). IsPaid few turns n (mean program input turns).end (flat_run flat p.choice input m).work) read lowered.2 in
     record {
       count = run.count;
       end = run.end;

@@ -20,7 +20,7 @@ NeverStopped = (program : Program) → IsWellTyped program → IsNeverStopped pr
 pub plain_theorem : (c : Compiler) → CompilerLaws c → plain.LawsBelow → NeverStopped → PlainTheorem c
 plain_theorem c laws below never program files compiled none =
     let P : Bool → Type 0 = λ (framed : Bool). (p : Placement (c.lowered program) (c.machine files) framed) × Starts (c.lowered program) (c.machine files) framed p (c.start files)
-        × (resident_rate (c.lowered program) (c.machine files) framed p (c.few program) ≤ c.rate program) in
+    × (resident_rate (c.lowered program) (c.machine files) framed p (c.few program) ≤ c.rate program) in
     let placing : P false = subst P none (laws.placing program files compiled) in
     let loading = laws.loading program files compiled none in
     let built : IsBuiltPlain program files.exe = record {
@@ -39,7 +39,7 @@ plain_theorem c laws below never program files compiled none =
 pub overlaid_theorem : (c : Compiler) → CompilerLaws c → overlaid.LawsBelow → NeverStopped → OverlaidTheorem c
 overlaid_theorem c laws below never program files compiled some =
     let P : Bool → Type 0 = λ (framed : Bool). (p : Placement (c.lowered program) (c.machine files) framed) × Starts (c.lowered program) (c.machine files) framed p (c.start files)
-        × (resident_rate (c.lowered program) (c.machine files) framed p (c.few program) ≤ c.rate program) in
+    × (resident_rate (c.lowered program) (c.machine files) framed p (c.few program) ≤ c.rate program) in
     let placing : P true = subst P some (laws.placing program files compiled) in
     let built : IsBuilt program files = record {
       few = c.few program;

@@ -47,10 +47,10 @@ module _ {S : Type 0} (Go : S → S → Type 0) where
   -- no run is longer than one behind which nothing follows
   pub events_last : IsDetermined Go → (m n : ℕ) (p q r : S) → Events Go m p q → IsLast Go q → Events Go n p r → n ≤ m
   events_last one m n p q r x last y = elim (cases_lt m n) [
-      inl less ↦ let rest = events_rest one m n p q r x y (omega (arith, less)) in
-          let none : n - m ≡ 0 = none_left (n - m) q r last rest in
-          omega (arith, none, less)
-      | inr more ↦ more
+    | inl less ↦ let rest = events_rest one m n p q r x y (omega (arith, less)) in
+        let none : n - m ≡ 0 = none_left (n - m) q r last rest in
+        omega (arith, none, less)
+    | inr more ↦ more
   ]
 
   -- runs of as many events lead to the same

@@ -54,9 +54,10 @@ thrice rate turns read (Undefined act) count events few paid = tt
 thrice rate turns read Stopped count events few paid = paid_thrice rate (turns + read + 1) count events paid few
 
 matched : (rate turns count events : ℕ) (x : Seen) (r : ResidentState) (end : Tabled) → events ≤ 3 * count → Shows turns count x (resident_seen.shown r) → IsPaid rate turns r.taken x.end count → Matches count events r end → IsShown (3 * rate) turns events x end
-matched rate turns count events x r (On p tables) few shows paid m =
-    (later_shows turns count events x (shown p.process) m.0 (subst (λ (y : Seen). Shows turns count x y) (sym m.1) shows),
-    thrice rate turns p.process.taken x.end count events few (subst (λ (n : ℕ). IsPaid rate turns n x.end count) (sym m.2) paid))
+matched rate turns count events x r (On p tables) few shows paid m = (
+  later_shows turns count events x (shown p.process) m.0 (subst (λ (y : Seen). Shows turns count x y) (sym m.1) shows),
+  thrice rate turns p.process.taken x.end count events few (subst (λ (n : ℕ). IsPaid rate turns n x.end count) (sym m.2) paid),
+)
 matched rate turns count events x r NotLegal few shows paid m = tt
 
 module _ (laws : LawsBelow) (program : Program) (files : Files) (b : IsBuilt program files) where
@@ -64,17 +65,19 @@ module _ (laws : LawsBelow) (program : Program) (files : Files) (b : IsBuilt pro
   agrees name buffer state manager opened input are turns =
       let rate : ℕ = resident_rate b.flat b.machine true b.placement b.few in
       let run : ShowsResident b.machine true rate (b.start input) turns (mean program input turns) =
-          resident_shows laws.start program b.few b.flat b.machine true b.placement b.start b.lowering b.starts input are turns in
-      let framed : RunsFramed b.machine run.count (b.start input) run.end = laws.framed b.machine run.count (b.start input) run.end run.leads in
-      (3 * run.count, λ tables.
-      let there : ComesTo files run.count run.end (On (begun state manager input) tables) = b.overlays name buffer state manager opened input are run.count run.end framed tables in
-      record {
-        events = there.events;
-        few = there.few;
-        end = there.end;
-        runs = there.runs;
-        shows = matched rate turns run.count there.events (mean program input turns) run.end there.end there.few run.shows run.paid there.matches;
-      })
+      resident_shows laws.start program b.few b.flat b.machine true b.placement b.start b.lowering b.starts input are turns in
+      let framed : RunsFramed b.machine run.count (b.start input) run.end = laws.framed b.machine run.count (b.start input) run.end run.leads in (
+        3 * run.count,
+        λ tables.
+            let there : ComesTo files run.count run.end (On (begun state manager input) tables) = b.overlays name buffer state manager opened input are run.count run.end framed tables in
+            record {
+              events = there.events;
+              few = there.few;
+              end = there.end;
+              runs = there.runs;
+              shows = matched rate turns run.count there.events (mean program input turns) run.end there.end there.few run.shows run.paid there.matches;
+            },
+      )
 
   -- ---- back
 
@@ -121,7 +124,7 @@ module _ (laws : LawsBelow) (program : Program) (files : Files) (b : IsBuilt pro
   wrote_by rate m k s p left x (On q rest) run legal there shows =
       let alike = of_one_run m k s p q left rest run there in
       let later : m ≤ k → Extends p.process q.process = λ few. runs_write files.ovr (k - m) (On p left) (On q rest)
-          (events_rest (TabledGoes files.ovr) one m k s (On p left) (On q rest) (as_events files.ovr m s (On p left) run) (as_events files.ovr k s (On q rest) there) few) in
+      (events_rest (TabledGoes files.ovr) one m k s (On p left) (On q rest) (as_events files.ovr m s (On p left) run) (as_events files.ovr k s (On q rest) there) few) in
       two
       (subst (λ (ys : List ℕ). Begins p.process.out ys ⊎ IsUndefined x.end) shows.0.out (written_back m k (shown q.process) p.process.out q.process.out x.end shows.0.stands alike.second (λ few. (later few).out)))
       (subst (λ (ys : List ℕ). Begins p.process.err ys ⊎ IsUndefined x.end) shows.0.err (written_back m k (shown q.process) p.process.err q.process.err x.end shows.0.stands alike.second (λ few. (later few).err)))

@@ -116,7 +116,7 @@ module _ (laws : LawsBelow) (program : Program) (exe : List ℕ) (b : IsBuiltPla
   pub follows_there : (turns : ℕ) → ShowsPlain (plain_rate program exe b) bytes start turns (mean program input turns)
   follows_there turns =
       let run : ShowsResident b.machine false (plain_rate program exe b) (b.start input) turns (mean program input turns) =
-          resident_shows laws.start program b.few b.flat b.machine false b.placement b.start b.lowering b.starts input are turns in
+      resident_shows laws.start program b.few b.flat b.machine false b.placement b.start b.lowering b.starts input are turns in
       let alike = laws.alike b.machine run.count (b.start input) run.end start.process b.loads.whole stands (laws.leads b.machine false run.count (b.start input) run.end run.leads) in
       let managed = laws.plain.all bytes run.count start alike.0 no_stubs alike.1 in
       let same : managed.0.process ≡ alike.0 = managed.2 in
@@ -164,10 +164,11 @@ module _ (laws : LawsBelow) (program : Program) (exe : List ℕ) (b : IsBuiltPla
   ends_there : (code : ℕ) → IsDefined program input →
       ((m : ℕ) (end : Managed) → ManagedRuns bytes m start end → (shown end.process).end ≡ Ended code → (mean program input m).end ≡ Ended code)
       × ((turns : ℕ) → (mean program input turns).end ≡ Ended code → (m : ℕ) × (end : Managed) × ManagedRuns bytes m start end × ((shown end.process).end ≡ Ended code))
-  ends_there code defined =
-      (λ m end runs e. ended_back (mean program input m) (shown end.process) code (over_there m end runs (subst IsOver (sym e) tt)) (defined m) e,
-      λ turns e. let f = follows_there turns in
-      (f.events, f.end, f.runs, subst (λ (s : Standing). Stands turns f.events s (shown f.end.process).end) e f.shows.stands))
+  ends_there code defined = (
+    λ m end runs e. ended_back (mean program input m) (shown end.process) code (over_there m end runs (subst IsOver (sym e) tt)) (defined m) e,
+    λ turns e. let f = follows_there turns in
+        (f.events, f.end, f.runs, subst (λ (s : Standing). Stands turns f.events s (shown f.end.process).end) e f.shows.stands),
+  )
 
   pub follows_plain : IsNeverStopped program → FollowsPlain (plain_rate program exe b) program input bytes start
   follows_plain never = record {

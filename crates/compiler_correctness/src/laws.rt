@@ -58,5 +58,4 @@ pub fn tabled_run_law()
 /// through a stub that refuses it where the unit is overlaid; the second takes a turn and ends with an error.
 pub fn slice_law()
     ensures { SliceFollows }
-{
-}
+{}
