@@ -1,7 +1,7 @@
 #!/usr/bin/env python3
 """Prints how many paths of dependencies crates.txt has, and fails where there are more than 60,000: rt walks them all at each start.
 
-A crate has the path that ends in itself and those of each crate that its line names; a library of the kit counts 1."""
+A crate has the path that ends in itself and those of each crate of this repository that its line names: these are what rt walks."""
 import functools
 import pathlib
 import sys
@@ -17,7 +17,7 @@ for line in (pathlib.Path(__file__).resolve().parent.parent / "crates.txt").read
 
 @functools.lru_cache(maxsize=None)
 def paths(name):
-    return 1 + sum(paths(it) for it in uses.get(name, ()))
+    return 1 + sum(paths(it) for it in uses[name] if it in uses)
 
 
 total = sum(map(paths, uses))

@@ -1,4 +1,4 @@
-pub use Rattle.rules_well_formed.proofs.call_rules_proofs as call_rules_proofs
+pub use Rattle.tp_check_stmt.proofs.call_rules_proofs as call_rules_proofs
 pub use Rattle.tp_check_stmt.proofs.common_values_proofs as common_values_proofs
 pub use Rattle.tp_check_stmt.proofs.constant_checker_proofs as constant_checker_proofs
 pub use Rattle.rules_well_formed.proofs as rules_well_formed_proofs

@@ -1,4 +1,4 @@
-pub use Rattle.rules_well_formed.specs.call_rules as call_rules
+pub use Rattle.tp_check_stmt.specs.call_rules as call_rules
 pub use Rattle.tp_check_stmt.specs.common_values as common_values
 pub use Rattle.tp_check_stmt.specs.constant_checker as constant_checker
 pub use Rattle.tp_check_stmt.specs.object_vmt as object_vmt

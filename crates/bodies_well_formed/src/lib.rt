@@ -6,4 +6,3 @@ pub mod other_units;
 pub mod statements;
 
 pub use rules_well_formed::well_formed;
-pub use tp_check_stmt::{syntax_tree, tp_lexer};

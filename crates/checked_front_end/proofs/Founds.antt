@@ -1,16 +1,16 @@
 -- What is found in the files of a folder: a program, or why there is none.
 use Rattle.std.proofs.Common.{ℕ, List, Option, Some, None, refl, inl}
 use Rattle.std.specs.Prelude.{All, IfSome}
-use Rattle.programs_well_typed.specs.tp_outside.Folder.{Folder}
-use Rattle.programs_well_typed.specs.typed_tree.declared.units.Unit.{Unit}
-use Rattle.programs_well_typed.specs.typed_tree.declared.units.Program.{Program}
-use Rattle.token_provenance.specs.source_graph.declared.sources.Source.{Source}
-use Rattle.token_provenance.specs.source_graph.declared.error.GatherError.TheVariants as gather
-use Rattle.programs_well_typed.specs.front_end.declared.outcomes.outcome.Outcome.TheVariants as outcome
+use Rattle.tp_outside.specs.Folder.{Folder}
+use Rattle.typed_tree.specs.declared.units.Unit.{Unit}
+use Rattle.typed_tree.specs.declared.units.Program.{Program}
+use Rattle.source_graph.specs.declared.sources.Source.{Source}
+use Rattle.source_graph.specs.declared.error.GatherError.TheVariants as gather
+use Rattle.front_end.specs.declared.outcomes.outcome.Outcome.TheVariants as outcome
 use Rattle.token_provenance.specs.sources.Laws.{SourcesLaw}
 use Rattle.programs_well_typed.specs.programs.Below.{IsSource, IsRoomy, IsHeld, HaveDeclaredMethods, MethodsLaw, WholeLaw}
 use Rattle.programs_well_typed.specs.programs.Laws.{WellTypedLaw}
-use Rattle.programs_well_typed.specs.front_end.Untyped.{IsNoProgram}
+use Rattle.front_end.specs.Untyped.{IsNoProgram}
 use Rattle.checked_front_end.specs.Known.{IsKept}
 use Rattle.checked_front_end.specs.Numbers.{HasRoom, IsRoomyThen}
 use Rattle.checked_front_end.specs.Formed.{FormedLaw}

@@ -3,20 +3,20 @@ use Rattle.std.proofs.Common.{◌≡◌, ℕ, zero, suc, ◌+◌, ◌<◌, ◌�
 use Rattle.std.specs.Prelude.{◌&&◌, not, slice_get, take}
 use Rattle.std.specs.List.{list_any}
 use Rattle.std.proofs.lemmas.List.Sums.{sum_by-append, sum_by-cons}
-use Rattle.programs_well_typed.specs.type_layout.declared.definitions.TypeId.{TypeId}
-use Rattle.programs_well_typed.specs.type_layout.declared.definitions.Method.{Method}
-use Rattle.programs_well_typed.specs.type_layout.declared.definitions.TypeDef.{TypeDef}
-use Rattle.programs_well_typed.specs.type_layout.declared.definitions.TypeDef.TheVariants as type
-use Rattle.programs_well_typed.specs.type_layout.Words.{same_bytes}
-use Rattle.programs_well_typed.specs.type_layout.Table.{IsAncestor, IsDefinedOver, AllDefined}
-use Rattle.programs_well_typed.proofs.type_layout_proofs.Local.{within_if_object}
-use Rattle.programs_well_typed.proofs.type_layout_proofs.Measured.{Round, round}
-use Rattle.programs_well_typed.specs.typed_tree.type_fits.Fits as fits
-use Rattle.programs_well_typed.specs.typed_tree.type_fits.Fits.{definition}
-use Rattle.programs_well_typed.specs.scopes.Members.{parent_of, own_fields, fields_within}
-use Rattle.programs_well_typed.specs.scopes.Lines.{fields_of}
-use Rattle.programs_well_typed.specs.object_vmt.Slots.{slots_from, slots_of}
-use Rattle.programs_well_typed.specs.call_rules.method_rules.Slots.{methods_of, methods_within, methods_in}
+use Rattle.type_layout.specs.declared.definitions.TypeId.{TypeId}
+use Rattle.type_layout.specs.declared.definitions.Method.{Method}
+use Rattle.type_layout.specs.declared.definitions.TypeDef.{TypeDef}
+use Rattle.type_layout.specs.declared.definitions.TypeDef.TheVariants as type
+use Rattle.type_layout.specs.Words.{same_bytes}
+use Rattle.type_layout.specs.Table.{IsAncestor, IsDefinedOver, AllDefined}
+use Rattle.type_layout.proofs.Local.{within_if_object}
+use Rattle.type_layout.proofs.Measured.{Round, round}
+use Rattle.typed_tree.specs.type_fits.Fits as fits
+use Rattle.typed_tree.specs.type_fits.Fits.{definition}
+use Rattle.scopes.specs.Members.{parent_of, own_fields, fields_within}
+use Rattle.scopes.specs.Lines.{fields_of}
+use Rattle.object_vmt.specs.Slots.{slots_from, slots_of}
+use Rattle.tp_check_decl.specs.call_rules.method_rules.Slots.{methods_of, methods_within, methods_in}
 use Rattle.checked_front_end.specs.Numbers.{own_members, members_declared}
 
 with_first : (one : TypeDef) (types : List TypeDef) → members_declared (one ∷ types) ≡ own_members one + members_declared types

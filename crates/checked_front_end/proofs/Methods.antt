@@ -1,11 +1,11 @@
 -- No type has two methods of one name.
 use Rattle.std.proofs.Common.{◌≡◌, List, [], Option, Some, None, refl}
 use Rattle.std.specs.List.{IsDistinct}
-use Rattle.programs_well_typed.specs.type_layout.declared.definitions.TypeId.{TypeId}
-use Rattle.programs_well_typed.specs.type_layout.declared.definitions.TypeDef.{TypeDef}
-use Rattle.programs_well_typed.specs.type_layout.declared.definitions.TypeDef.TheVariants as type
-use Rattle.programs_well_typed.specs.typed_tree.type_fits.Fits.{definition}
-use Rattle.programs_well_typed.specs.call_rules.method_rules.Slots.{methods_of}
+use Rattle.type_layout.specs.declared.definitions.TypeId.{TypeId}
+use Rattle.type_layout.specs.declared.definitions.TypeDef.{TypeDef}
+use Rattle.type_layout.specs.declared.definitions.TypeDef.TheVariants as type
+use Rattle.typed_tree.specs.type_fits.Fits.{definition}
+use Rattle.tp_check_decl.specs.call_rules.method_rules.Slots.{methods_of}
 use Rattle.programs_well_typed.specs.programs.Below.{AreOnce, HasDeclaredMethods, HaveDeclaredMethods}
 
 none_once : AreOnce []

@@ -1,12 +1,12 @@
 -- Programs that are well-typed, of units that are well formed.
 use Rattle.std.specs.Prelude.{ℕ, All, List}
-use Rattle.programs_well_typed.specs.tp_outside.Folder.{Folder}
-use Rattle.programs_well_typed.specs.typed_tree.declared.units.Program.{Program}
+use Rattle.tp_outside.specs.Folder.{Folder}
+use Rattle.typed_tree.specs.declared.units.Program.{Program}
 use Rattle.programs_well_typed.specs.well_formed.WellFormed.{IsWellFormed}
 use Rattle.programs_well_typed.specs.program_typing.programs.WellTyped.{IsWellTyped}
 use Rattle.token_provenance.specs.leaves.Written.{AreTexts}
-use Rattle.programs_well_typed.specs.front_end.declared.program.TypedSources.{TypedSources}
-use Rattle.programs_well_typed.specs.front_end.Found.{IsFoundIn}
+use Rattle.front_end.specs.declared.program.TypedSources.{TypedSources}
+use Rattle.front_end.specs.Found.{IsFoundIn}
 use Rattle.checked_front_end.specs.Known.{IsKept}
 use Rattle.checked_front_end.specs.Numbers.{IsRoomyThen, IsNumbered}
 

@@ -1,6 +1,6 @@
 -- What the types of values say of a typed unit.
 use Rattle.std.specs.Prelude.{All}
-use Rattle.programs_well_typed.specs.typed_tree.declared.units.Unit.{Unit}
+use Rattle.typed_tree.specs.declared.units.Unit.{Unit}
 use Rattle.programs_well_typed.specs.programs.Below.{BeginsWithBytes, IsKeptTable}
 
 -- what its globals begin with is bytes, and its table keeps what every table of types does

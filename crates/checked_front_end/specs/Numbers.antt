@@ -1,11 +1,11 @@
 -- What 32 bits must hold the numbers of.
 use Rattle.std.specs.Prelude.{ℕ, ◌+◌, ◌<◌, ◌≤◌, ◌^◌, All, List, Some, length, sum_by}
-use Rattle.programs_well_typed.specs.type_layout.declared.definitions.TypeDef.{TypeDef}
-use Rattle.programs_well_typed.specs.typed_tree.declared.units.Unit.{Unit}
-use Rattle.programs_well_typed.specs.scopes.Members.{own_fields}
-use Rattle.programs_well_typed.specs.call_rules.method_rules.Slots.{methods_of}
-use Rattle.token_provenance.specs.source_graph.declared.sources.Source.{Source}
-use Rattle.programs_well_typed.specs.front_end.declared.program.TypedSources.{TypedSources}
+use Rattle.type_layout.specs.declared.definitions.TypeDef.{TypeDef}
+use Rattle.typed_tree.specs.declared.units.Unit.{Unit}
+use Rattle.scopes.specs.Members.{own_fields}
+use Rattle.tp_check_decl.specs.call_rules.method_rules.Slots.{methods_of}
+use Rattle.source_graph.specs.declared.sources.Source.{Source}
+use Rattle.front_end.specs.declared.program.TypedSources.{TypedSources}
 use Rattle.token_provenance.specs.sources.Variables.{HasFewVariables}
 use Rattle.programs_well_typed.specs.programs.Below as sound
 use Rattle.programs_well_typed.specs.programs.Below.{IsRoomy, HaveDeclaredMethods}

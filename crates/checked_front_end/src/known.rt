@@ -6,9 +6,9 @@ ghost use Rattle.programs_well_typed.specs.store_typing.types.Agreement.{IsShort
 ghost use Rattle.programs_well_typed.specs.programs.Below.{BeginsWithBytes, IsKeptTable};
 ghost use Rattle.checked_front_end.specs.Known.{IsKept};
 
-use programs_well_typed::tp_lexer::Text;
-use programs_well_typed::type_layout::{TypeDef, TypeId, Types};
-use programs_well_typed::typed_tree::{Global, Unit};
+use tp_lexer::Text;
+use type_layout::{TypeDef, TypeId, Types};
+use typed_tree::{Global, Unit};
 
 // What is known of a byte. It does nothing.
 fn known_byte(byte: u8)

@@ -6,5 +6,4 @@ mod numbers;
 mod sources;
 mod variables;
 
-pub use programs_well_typed::{front_end, tp_lexer, type_soundness};
 pub use sources::formed_sources;

@@ -1,15 +1,15 @@
 //! Whether 32 bits hold the numbers of what sources and units declare.
 
 ghost use Rattle.std.specs.Prelude.{◌≡◌, ◌≤◌, ◌^◌, ◌↔◌, All, IsTrue, length, min};
-ghost use Rattle.programs_well_typed.specs.typed_tree.type_fits.Routines.{listed, variables_of};
+ghost use Rattle.typed_tree.specs.type_fits.Routines.{listed, variables_of};
 ghost use Rattle.programs_well_typed.specs.declarations_well_formed.tables.Laws.{IsFit};
 ghost use Rattle.programs_well_typed.specs.programs.Below.{HasFewVariables, HaveDeclaredMethods};
 ghost use Rattle.checked_front_end.specs.Numbers.{own_members, members_declared, HasRoom, IsRoomyThen, IsNumbered};
 
 use crate::variables::has_few_variables;
-use programs_well_typed::front_end::TypedSources;
-use programs_well_typed::type_layout::{TypeDef, TypeId, Types};
-use programs_well_typed::typed_tree::{Routine, Unit};
+use front_end::TypedSources;
+use type_layout::{TypeDef, TypeId, Types};
+use typed_tree::{Routine, Unit};
 
 // How many numbers 32 bits hold.
 const NUMBERS: u64 = 1 << 32;

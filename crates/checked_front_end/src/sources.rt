@@ -1,24 +1,24 @@
 //! The typed program that the files of a folder hold, which is well-typed.
 
 ghost use Rattle.std.specs.Prelude.{◌≡◌, ◌≤◌, ℕ, List, IsTrue, IfOk, IfErr, IfSome, Err};
-ghost use Rattle.programs_well_typed.specs.tp_outside.Faults.{HasRisen};
-ghost use Rattle.programs_well_typed.specs.tp_outside.Folder.{Folder};
-ghost use Rattle.programs_well_typed.specs.front_end.declared.outcomes.outcome.Outcome.{Outcome};
-ghost use Rattle.programs_well_typed.specs.front_end.Found.{IsFoundIn};
-ghost use Rattle.programs_well_typed.specs.front_end.Untyped.{IsNoProgram, IsDeclining};
+ghost use Rattle.tp_outside.specs.Faults.{HasRisen};
+ghost use Rattle.tp_outside.specs.Folder.{Folder};
+ghost use Rattle.front_end.specs.declared.outcomes.outcome.Outcome.{Outcome};
+ghost use Rattle.front_end.specs.Found.{IsFoundIn};
+ghost use Rattle.front_end.specs.Untyped.{IsNoProgram, IsDeclining};
 ghost use Rattle.checked_front_end.specs.Formed.{AreFormed, FormedLaw};
 
 use crate::known::{are_kept, are_texts};
 use crate::numbers::are_numbered;
-use programs_well_typed::front_end::outcomes::Outcome;
-use programs_well_typed::front_end::{TypedSources, typed_sources};
+use front_end::outcomes::Outcome;
+use front_end::{TypedSources, typed_sources};
 use programs_well_typed::programs::{
     formed_program_laws, numbered_method_laws, well_typed_program_laws,
 };
-use programs_well_typed::tp_outside::Files;
-use programs_well_typed::type_layout::Name;
 use std::alloc::Global;
 use token_provenance::sources::written_source_laws;
+use tp_outside::Files;
+use type_layout::Name;
 
 fn formed_law()
     ensures { FormedLaw }

@@ -1,11 +1,11 @@
 //! Whether the variables of each block of a source can be numbered.
 
 ghost use Rattle.std.specs.Prelude.{◌≡◌, ◌↔◌, IsTrue, min};
-ghost use Rattle.programs_well_typed.specs.tp_check_decl.routines.Trees.{view_routine, view_declarations};
+ghost use Rattle.tp_check_decl.specs.routines.Trees.{view_routine, view_declarations};
 ghost use Rattle.programs_well_typed.specs.programs.Below.{names_in, variables_of, variables_in, interface_variables};
 ghost use Rattle.token_provenance.specs.sources.Variables.{HasFewInside, EachHasFew, HasFew, HasFewVariables};
 
-use programs_well_typed::syntax_tree::source_tree::{
+use syntax_tree::source_tree::{
     Declaration, DeclarationPart, InterfaceDeclaration, Routine, Tree, VariableDeclaration,
 };
 

@@ -1,7 +1,5 @@
 //! The 8086 code of flat routines, beside what it refers to.
 
 mod frames;
-#[cfg(test)]
-mod tests;
 
 pub use frames::push_routine;

@@ -15,3 +15,5 @@ mod flow_tests;
 mod linked;
 #[cfg(test)]
 mod object_tests;
+#[cfg(test)]
+mod routine_tests;

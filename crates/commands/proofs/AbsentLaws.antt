@@ -1,20 +1,20 @@
 -- A program whose source is not there.
 use Rattle.std.proofs.Common.{◌≡◌, ℕ, List, [], ◌∷◌, Option, None, Ok, Err, inl, inr, sym, ap, ◌∙◌, subst}
-use Rattle.dos_runner.specs.tp_outside.Folder.{Folder}
-use Rattle.checked_front_end.specs.tp_lexer.declared.token.Text.{Text}
-use Rattle.literal_form_laws.specs.source_graph.declared.error.GatherError.{GatherError}
-use Rattle.literal_form_laws.specs.source_graph.declared.error.GatherError.TheVariants as gather
-use Rattle.literal_form_laws.specs.source_graph.declared.sources.Source.{Source}
-use Rattle.literal_form_laws.specs.source_graph.declared.wanted.Wanted.{Wanted}
-use Rattle.literal_form_laws.specs.source_graph.Files.{source_file, absent, opened_by, opened}
-use Rattle.literal_form_laws.specs.source_graph.Texts.{number_of, with_file}
-use Rattle.literal_form_laws.specs.source_graph.Sources.{IsUnreadable, IsMisspelled}
-use Rattle.literal_form_laws.specs.source_graph.Walk.{start, due, Walks, Gathers, IsRefused, Unless}
-use Rattle.checked_front_end.specs.front_end.refusals.Outcomes.{gather_outcome}
-use Rattle.checked_front_end.specs.front_end.declared.outcomes.refusal.Refusal.{Refusal}
-use Rattle.checked_front_end.specs.front_end.declared.outcomes.refusal.Refusal.TheVariants as refusal
-use Rattle.checked_front_end.specs.front_end.declared.outcomes.outcome.Outcome.TheVariants as outcome
-use Rattle.checked_front_end.specs.front_end.Untyped.{IsNoProgram}
+use Rattle.tp_outside.specs.Folder.{Folder}
+use Rattle.tp_lexer.specs.declared.token.Text.{Text}
+use Rattle.source_graph.specs.declared.error.GatherError.{GatherError}
+use Rattle.source_graph.specs.declared.error.GatherError.TheVariants as gather
+use Rattle.source_graph.specs.declared.sources.Source.{Source}
+use Rattle.source_graph.specs.declared.wanted.Wanted.{Wanted}
+use Rattle.source_graph.specs.Files.{source_file, absent, opened_by, opened}
+use Rattle.source_graph.specs.Texts.{number_of, with_file}
+use Rattle.source_graph.specs.Sources.{IsUnreadable, IsMisspelled}
+use Rattle.source_graph.specs.Walk.{start, due, Walks, Gathers, IsRefused, Unless}
+use Rattle.front_end.specs.refusals.Outcomes.{gather_outcome}
+use Rattle.front_end.specs.declared.outcomes.refusal.Refusal.{Refusal}
+use Rattle.front_end.specs.declared.outcomes.refusal.Refusal.TheVariants as refusal
+use Rattle.front_end.specs.declared.outcomes.outcome.Outcome.TheVariants as outcome
+use Rattle.front_end.specs.Untyped.{IsNoProgram}
 
 module _ (held : Folder) (name : List ℕ) (lacks : held (source_file name) ≡ None) where
   -- the program's own source is missing

@@ -1,26 +1,28 @@
 -- From what the parts of `go` answer to what it does.
-use Rattle.std.proofs.Common.{◌≡◌, ◌⊎◌, ◌<◌, ◌≤◌, ℕ, List, [], Option, Some, None, Result, Ok, Err, IfOk, IfErr, refl, inl, inr, sym, ap, ◌∙◌, subst, arith}
+use Rattle.std.proofs.Common.{◌≡◌, ◌⊎◌, ◌<◌, ◌≤◌, ℕ, List, [], length, Option, Some, None, Result, Ok, Err, IfOk, IfErr, refl, inl, inr, sym, ap, ◌∙◌, subst, arith}
 use Rattle.std.specs.Prelude.{IfSome}
 use Rattle.std.proofs.lemmas.Bool.{cases_order}
-use Rattle.dos_runner.specs.tp_outside.Faults.{HasRisen}
-use Rattle.dos_runner.specs.tp_outside.Folder.{Folder}
-use Rattle.checked_front_end.specs.front_end.declared.program.TypedSources.{TypedSources}
-use Rattle.checked_front_end.specs.front_end.Found.{IsFoundIn}
-use Rattle.checked_front_end.specs.front_end.Typed.{IsProgramIn}
-use Rattle.checked_front_end.specs.front_end.Untyped.{IsRefusing, IsDeclining, IsNoProgram}
+use Rattle.tp_outside.specs.Faults.{HasRisen}
+use Rattle.tp_outside.specs.Folder.{Folder}
+use Rattle.front_end.specs.declared.program.TypedSources.{TypedSources}
+use Rattle.front_end.specs.Found.{IsFoundIn}
+use Rattle.front_end.specs.Typed.{IsProgramIn}
+use Rattle.front_end.specs.Untyped.{IsRefusing, IsDeclining, IsNoProgram}
 use Rattle.checked_front_end.specs.Formed.{AreFormed}
-use Rattle.literal_form_laws.proofs.source_graph_proofs.determinism.Readings.{one_reading}
+use Rattle.source_graph.proofs.determinism.Readings.{one_reading}
 use Rattle.checked_front_end.proofs.interfaces_consistent_proofs.determinism.Programs.{one_folder, found_none}
-use Rattle.dos_runner.specs.cpu_8086.State.{State}
-use Rattle.interpreter.specs.typed_tree.declared.units.Program.{Program}
-use Rattle.interpreter.specs.tp_meaning.Meaning.{mean}
-use Rattle.literal_form_laws.specs.literal_programs.literal_code.Ends.{EndsWithin}
-use Rattle.literal_form_laws.specs.literal_programs.Literals.{IsLiteral}
-use Rattle.literal_form_laws.specs.literal_programs.Agrees.{Agrees}
-use Rattle.literal_form_laws.specs.literal_programs.Memory.{HasMemoryOf}
-use Rattle.dos_runner.specs.mz_file.declared.executable.Exe.{Exe}
-use Rattle.dos_runner.specs.mz_file.Format.{Denotes, exe_of}
-use Rattle.dos_runner.specs.mz_file.Load.{loaded}
+use Rattle.cpu_8086.specs.State.{State}
+use Rattle.typed_tree.specs.declared.units.Program.{Program}
+use Rattle.tp_meaning.specs.Meaning.{mean}
+use Rattle.literal_programs.specs.literal_code.Ends.{EndsWithin}
+use Rattle.literal_programs.specs.literal_code.Size.{image_size}
+use Rattle.literal_programs.specs.Literals.{IsLiteral}
+use Rattle.literal_programs.specs.Agrees.{Agrees}
+use Rattle.literal_programs.specs.Memory.{HasMemoryOf}
+use Rattle.mz_file.specs.declared.executable.Exe.{Exe}
+use Rattle.mz_file.specs.Format.{Denotes, exe_of}
+use Rattle.mz_file.specs.Load.{loaded}
+use Rattle.mz_file.specs.Spelling.{spelling}
 use Rattle.dos_runner.specs.declared.runner.RunEnd.{RunEnd}
 use Rattle.dos_runner.specs.declared.runner.RunEnd.TheVariants as ends
 use Rattle.dos_runner.specs.Outside.{Outside, RunsTo}
@@ -30,12 +32,12 @@ use Rattle.dos_runner.specs.opened_program.Opening.{IsOpened, IsRefused, HasReas
 use Rattle.dos_runner.specs.plain_opening.Laws.{IsPlain, needed}
 use Rattle.dos_runner.proofs.opened_program.ReasonLaws.{no_reason}
 use Rattle.dos_runner.proofs.plain_opening.Openings.{large_refusal, plain_refusal}
-use Rattle.dos_runner.specs.overlay_manager.Manager.{Manager}
+use Rattle.overlay_manager.specs.Manager.{Manager}
 use Rattle.dos_runner.specs.overlay_runner.Event.{Rises}
-use Rattle.checked_front_end.specs.front_end.declared.outcomes.refusal.Refusal.{Refusal}
-use Rattle.checked_front_end.specs.front_end.declared.outcomes.refusal.Refusal.TheVariants as refusal
-use Rattle.checked_front_end.specs.front_end.declared.outcomes.outcome.Outcome.{Outcome}
-use Rattle.checked_front_end.specs.front_end.declared.outcomes.outcome.Outcome.TheVariants as outcome
+use Rattle.front_end.specs.declared.outcomes.refusal.Refusal.{Refusal}
+use Rattle.front_end.specs.declared.outcomes.refusal.Refusal.TheVariants as refusal
+use Rattle.front_end.specs.declared.outcomes.outcome.Outcome.{Outcome}
+use Rattle.front_end.specs.declared.outcomes.outcome.Outcome.TheVariants as outcome
 use Rattle.command_line.specs.declared.command.RunOptions.{RunOptions}
 use Rattle.commands.specs.declared.names.FileKind.TheVariants.{Overlays}
 use Rattle.commands.specs.Files.{file_of}
@@ -47,12 +49,16 @@ use Rattle.commands.proofs.HeldLaws.{found_in, literal_too, does_too, told_alike
 
 -- ---- the executable
 
-pub does_of : (program : Program) (exe : Exe) (result : Result (List ℕ) Outcome) → IsLiteral program → HasMemoryOf program exe → exe.block.stubs ≡ [] → ((bytes : List ℕ) → Denotes bytes exe → Agrees program bytes)
-    → ((bytes input : List ℕ) (turns : ℕ) → Denotes bytes exe → EndsWithin 16389 bytes input (mean program input turns)) → IfOk result (λ bytes. Denotes bytes exe) → IfOk result (DoesSoon program)
-does_of program exe (Err error) literal memory plain agrees soon denotes = tt
-does_of program exe (Ok bytes) literal memory plain agrees soon denotes = record {
+pub does_of : (program : Program) (exe : Exe) (result : Result (List ℕ) Outcome) → IsLiteral program → HasMemoryOf program exe → exe.block.stubs ≡ []
+    → ((literal : IsLiteral program) → length exe.image ≡ image_size literal.statements) → ((bytes : List ℕ) → Denotes bytes exe → Agrees program bytes)
+    → ((bytes input : List ℕ) (turns : ℕ) → Denotes bytes exe → EndsWithin 16389 bytes input (mean program input turns)) → IfOk result (λ bytes. bytes ≡ spelling exe)
+    → IfOk result (λ bytes. Denotes bytes exe) → IfOk result (DoesSoon program)
+does_of program exe (Err error) literal memory plain size agrees soon exact denotes = tt
+does_of program exe (Ok bytes) literal memory plain size agrees soon exact denotes = record {
   literal = literal;
   plain = subst (λ (e : Exe). e.block.stubs ≡ []) denotes.value plain;
+  spelled = exact ∙ ap spelling denotes.value;
+  size = subst (λ (e : Exe). length e.image ≡ image_size literal.statements) denotes.value (size literal);
   memory = subst (HasMemoryOf program) denotes.value memory;
   agrees = agrees bytes denotes;
   soon = λ input turns. soon bytes input turns denotes;

@@ -9,7 +9,7 @@ use Rattle.std.proofs.lemmas.Bool.{and_parts}
 use Rattle.std.proofs.lemmas.Bool.Decides.{nat_tests}
 use Rattle.commands.specs.declared.names.FileKind.{FileKind}
 use Rattle.commands.specs.declared.names.FileKind.TheVariants.{Source, Executable, Overlays}
-use Rattle.interpreter.specs.type_layout.Words.{IsName, is_name_byte}
+use Rattle.type_layout.specs.Words.{IsName, is_name_byte}
 use Rattle.commands.specs.Files.{file_of, extension}
 
 lower_ascii : (c : ℕ) → c < 128 → to_ascii_lowercase c < 128

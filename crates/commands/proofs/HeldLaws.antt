@@ -1,26 +1,26 @@
 -- The program that the files of a folder hold: what is said of it where it lies in memory once is said of it everywhere.
 use Rattle.std.proofs.Common.{◌≡◌, ℕ, List, [], ◌∷◌, Option, Some, None, inl, inr, refl, ap, ◌∙◌, subst}
 use Rattle.std.specs.Prelude.{IfSome}
-use Rattle.dos_runner.specs.tp_outside.Folder.{Folder}
-use Rattle.interpreter.specs.type_layout.declared.texts.Place.{Place}
-use Rattle.checked_front_end.specs.tp_lexer.declared.token.Text.{Text}
-use Rattle.checked_front_end.specs.tp_lexer.declared.token.Feature.TheVariants.{NotYet}
-use Rattle.interpreter.specs.common_values.behaviour.Seen.{Seen}
-use Rattle.interpreter.specs.typed_tree.declared.units.Program.{Program}
-use Rattle.literal_form_laws.specs.source_graph.declared.sources.Source.{Source}
-use Rattle.literal_form_laws.specs.source_graph.Texts.{at}
-use Rattle.dos_runner.specs.mz_file.Format.{exe_of}
-use Rattle.literal_form_laws.specs.literal_programs.literal_code.Ends.{EndsAs, EndsWithin}
-use Rattle.literal_form_laws.specs.literal_programs.Literals.{IsLiteral}
-use Rattle.checked_front_end.specs.front_end.declared.outcomes.refusal.Refusal.{Refusal}
-use Rattle.checked_front_end.specs.front_end.declared.outcomes.refusal.Refusal.TheVariants as refusal
-use Rattle.checked_front_end.specs.front_end.declared.outcomes.outcome.Outcome.{Outcome}
+use Rattle.tp_outside.specs.Folder.{Folder}
+use Rattle.type_layout.specs.declared.texts.Place.{Place}
+use Rattle.tp_lexer.specs.declared.token.Text.{Text}
+use Rattle.tp_lexer.specs.declared.token.Feature.TheVariants.{NotYet}
+use Rattle.common_values.specs.behaviour.Seen.{Seen}
+use Rattle.typed_tree.specs.declared.units.Program.{Program}
+use Rattle.source_graph.specs.declared.sources.Source.{Source}
+use Rattle.source_graph.specs.Texts.{at}
+use Rattle.mz_file.specs.Format.{exe_of}
+use Rattle.literal_programs.specs.literal_code.Ends.{EndsAs, EndsWithin}
+use Rattle.literal_programs.specs.Literals.{IsLiteral}
+use Rattle.front_end.specs.declared.outcomes.refusal.Refusal.{Refusal}
+use Rattle.front_end.specs.declared.outcomes.refusal.Refusal.TheVariants as refusal
+use Rattle.front_end.specs.declared.outcomes.outcome.Outcome.{Outcome}
 use Rattle.commands.specs.mean_program.Shown.{Sinks, Writes, Shows}
-use Rattle.checked_front_end.specs.front_end.declared.program.TypedSources.{TypedSources}
-use Rattle.checked_front_end.specs.front_end.Found.{IsFoundIn}
-use Rattle.checked_front_end.specs.front_end.Typed.{IsProgramIn}
-use Rattle.checked_front_end.specs.front_end.Untyped.{IsNoProgram}
-use Rattle.literal_form_laws.specs.source_graph.determinism.Alike.{AreAlike}
+use Rattle.front_end.specs.declared.program.TypedSources.{TypedSources}
+use Rattle.front_end.specs.Found.{IsFoundIn}
+use Rattle.front_end.specs.Typed.{IsProgramIn}
+use Rattle.front_end.specs.Untyped.{IsNoProgram}
+use Rattle.source_graph.specs.determinism.Alike.{AreAlike}
 use Rattle.checked_front_end.specs.interfaces_consistent.determinism.Folder.{FoundNone}
 use Rattle.checked_front_end.proofs.interfaces_consistent_proofs.determinism.Programs.{found_none}
 use Rattle.literal_form_laws.specs.address_independence.congruence.Laws.{IsSame}
@@ -50,13 +50,15 @@ literal_too one other same literal = record { statements = literal.statements; s
 
 pub does_too : (one other : Program) (bytes : List ℕ) → IsSame one other → DoesSoon one bytes → DoesSoon other bytes
 does_too one other bytes same does = record {
-  literal = literal_too one other same does.literal;
+  literal = record { statements = does.literal.statements; says = says_alike one other same does.literal.statements does.literal.says };
   plain = does.plain;
+  spelled = does.spelled;
+  size = does.size;
   memory = has_memory_alike one other same (exe_of bytes) does.memory;
   agrees = record {
     executable = does.agrees.executable;
     fits = does.agrees.fits;
-    runs = λ buffer small fits input turns. subst (EndsAs bytes input) (means_alike one other same input turns) (does.agrees.runs buffer small fits input turns);
+    runs = λ input turns. subst (EndsAs bytes input) (means_alike one other same input turns) (does.agrees.runs input turns);
   };
   soon = λ input turns. subst (EndsWithin 16389 bytes input) (means_alike one other same input turns) (does.soon input turns);
 }

@@ -1,23 +1,23 @@
 -- From what `mean` does, and the last line, to what the top call promises.
 use Rattle.std.proofs.Common.{◌≡◌, ◌⊎◌, inl, inr, ℕ, ◌≤◌, List, Option, Some, None, IfSome, refl, sym, ap, ◌∙◌, subst}
 use Rattle.std.specs.Io.KnownBytes.{append_known}
-use Rattle.dos_runner.specs.tp_outside.Faults.{HasRisen}
-use Rattle.dos_runner.specs.tp_outside.Folder.{Folder}
+use Rattle.tp_outside.specs.Faults.{HasRisen}
+use Rattle.tp_outside.specs.Folder.{Folder}
 use Rattle.dos_runner.specs.Outside.{Outside}
-use Rattle.interpreter.specs.common_values.behaviour.Seen.{Seen, Standing, Ended, Going, Undefined, Stopped}
-use Rattle.interpreter.specs.typed_tree.declared.units.Program.{Program}
-use Rattle.interpreter.specs.tp_meaning.Meaning.{mean}
-use Rattle.dos_runner.specs.tp_outside.whole_input.Input.{HasMore}
-use Rattle.literal_form_laws.specs.source_graph.declared.error.GatherError.TheVariants as gather
-use Rattle.checked_front_end.specs.front_end.declared.outcomes.refusal.Refusal.{Refusal}
-use Rattle.checked_front_end.specs.front_end.declared.outcomes.refusal.Refusal.TheVariants as refusal
-use Rattle.checked_front_end.specs.front_end.declared.outcomes.refusal.What.TheVariants as what
-use Rattle.checked_front_end.specs.front_end.declared.outcomes.outcome.Outcome.{Outcome}
-use Rattle.checked_front_end.specs.front_end.declared.outcomes.outcome.Outcome.TheVariants as outcome
-use Rattle.checked_front_end.specs.front_end.outcomes.Line.{line_of}
+use Rattle.common_values.specs.behaviour.Seen.{Seen, Standing, Ended, Going, Undefined, Stopped}
+use Rattle.typed_tree.specs.declared.units.Program.{Program}
+use Rattle.tp_meaning.specs.Meaning.{mean}
+use Rattle.tp_outside.specs.whole_input.Input.{HasMore}
+use Rattle.source_graph.specs.declared.error.GatherError.TheVariants as gather
+use Rattle.front_end.specs.declared.outcomes.refusal.Refusal.{Refusal}
+use Rattle.front_end.specs.declared.outcomes.refusal.Refusal.TheVariants as refusal
+use Rattle.front_end.specs.declared.outcomes.refusal.What.TheVariants as what
+use Rattle.front_end.specs.declared.outcomes.outcome.Outcome.{Outcome}
+use Rattle.front_end.specs.declared.outcomes.outcome.Outcome.TheVariants as outcome
+use Rattle.front_end.specs.outcomes.Line.{line_of}
 use Rattle.commands.specs.mean_program.Shown.{Stands, IsUnread, Writes, Shows}
-use Rattle.checked_front_end.specs.front_end.Typed.{IsProgramIn}
-use Rattle.checked_front_end.specs.front_end.Untyped.{IsDeclining}
+use Rattle.front_end.specs.Typed.{IsProgramIn}
+use Rattle.front_end.specs.Untyped.{IsDeclining}
 use Rattle.checked_front_end.specs.interfaces_consistent.determinism.Folder.{IsExempt, FoundNone}
 use Rattle.checked_front_end.specs.Formed.{AreFormed}
 use Rattle.command_line.specs.Words.{IsMean}

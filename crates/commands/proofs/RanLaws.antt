@@ -3,31 +3,31 @@ use Rattle.std.proofs.Common.{◌≡◌, ℕ, ◌≤◌, ◌<◌, ◌+◌, List,
 use Rattle.std.specs.Prelude.{IfSome}
 use Rattle.std.proofs.lemmas.List.{take_all}
 use Rattle.std.specs.Io.KnownBytes.{append_known}
-use Rattle.dos_runner.specs.tp_outside.Folder.{Folder, with_known_file, bytes_of}
-use Rattle.dos_runner.specs.tp_outside.Streams.{TakesPrefix}
-use Rattle.dos_runner.proofs.tp_outside_proofs.FolderLaws.{with_file-same}
-use Rattle.dos_runner.proofs.tp_outside_proofs.Known.{append_known-nil}
-use Rattle.interpreter.specs.common_values.behaviour.Seen.{Seen, Ended}
-use Rattle.interpreter.specs.typed_tree.declared.units.Program.{Program}
-use Rattle.interpreter.specs.tp_meaning.Meaning.{mean}
-use Rattle.dos_runner.specs.cpu_8086.declared.process.Why.{Why}
-use Rattle.dos_runner.specs.cpu_8086.State.{State}
-use Rattle.dos_runner.specs.mz_file.Format.{exe_of}
-use Rattle.dos_runner.specs.mz_file.Load.{loaded}
-use Rattle.literal_form_laws.specs.literal_programs.literal_code.Statement.{Statement, written, code_of}
-use Rattle.literal_form_laws.proofs.literal_programs_proofs.Meant.{means}
-use Rattle.literal_form_laws.proofs.literal_programs_proofs.Known.{known}
+use Rattle.tp_outside.specs.Folder.{Folder, with_known_file, bytes_of}
+use Rattle.tp_outside.specs.Streams.{TakesPrefix}
+use Rattle.tp_outside.proofs.FolderLaws.{with_file-same}
+use Rattle.tp_outside.proofs.Known.{append_known-nil}
+use Rattle.common_values.specs.behaviour.Seen.{Seen, Ended}
+use Rattle.typed_tree.specs.declared.units.Program.{Program}
+use Rattle.tp_meaning.specs.Meaning.{mean}
+use Rattle.cpu_8086.specs.declared.process.Why.{Why}
+use Rattle.cpu_8086.specs.State.{State}
+use Rattle.mz_file.specs.Format.{exe_of}
+use Rattle.mz_file.specs.Load.{loaded}
+use Rattle.literal_programs.specs.literal_code.Statement.{Statement, written, code_of}
+use Rattle.literal_programs.proofs.Meant.{means}
+use Rattle.literal_programs.proofs.Known.{known}
 use Rattle.dos_runner.specs.declared.runner.RunEnd.{RunEnd}
 use Rattle.dos_runner.specs.declared.runner.RunEnd.TheVariants as ends
 use Rattle.dos_runner.specs.Run.{process_of}
 use Rattle.dos_runner.specs.Outside.{Outside, RunsTo}
 use Rattle.dos_runner.proofs.Composition.{risen_later}
 use Rattle.dos_runner.proofs.Conclusion.{Ends, TakesPrefixes, Concludes, concludes}
-use Rattle.dos_runner.specs.overlay_manager.Manager.{Manager}
+use Rattle.overlay_manager.specs.Manager.{Manager}
 use Rattle.dos_runner.specs.declared.overlay_runner.runner.Runner.{Runner}
 use Rattle.dos_runner.specs.overlay_runner.Event.{Rises}
 use Rattle.dos_runner.specs.overlay_runner.Runner.{with_retry, RunsOn}
-use Rattle.checked_front_end.specs.front_end.declared.outcomes.outcome.Outcome.TheVariants as outcome
+use Rattle.front_end.specs.declared.outcomes.outcome.Outcome.TheVariants as outcome
 use Rattle.commands.specs.mean_program.Shown.{WritesAll, Stands}
 use Rattle.command_line.specs.declared.command.RunOptions.{RunOptions}
 use Rattle.commands.specs.declared.names.FileKind.TheVariants.{Executable, Overlays}

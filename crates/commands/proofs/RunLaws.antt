@@ -1,8 +1,8 @@
 -- From what `run` does, and the last line, to what the top call promises.
 use Rattle.std.proofs.Common.{◌≡◌, ◌⊎◌, inl, inr, ℕ, ◌≤◌, List, Option, Some, None, IfSome, refl, sym, ap, ◌∙◌, subst}
 use Rattle.std.specs.Io.KnownBytes.{append_known}
-use Rattle.dos_runner.specs.tp_outside.Faults.{HasRisen}
-use Rattle.dos_runner.specs.tp_outside.Folder.{Folder}
+use Rattle.tp_outside.specs.Faults.{HasRisen}
+use Rattle.tp_outside.specs.Folder.{Folder}
 use Rattle.dos_runner.specs.declared.runner.RunEnd.{RunEnd}
 use Rattle.dos_runner.specs.declared.runner.RunEnd.TheVariants as ends
 use Rattle.dos_runner.specs.Outside.{Outside}
@@ -12,14 +12,14 @@ use Rattle.dos_runner.specs.opened_program.Opening.{HasReason, IsRefused}
 use Rattle.dos_runner.proofs.opened_program.ReasonLaws.{one_reason, no_reason}
 use Rattle.dos_runner.specs.declared.overlay_runner.runner.Runner.{Runner}
 use Rattle.commands.specs.declared.names.FileKind.TheVariants.{Executable, Overlays}
-use Rattle.checked_front_end.specs.front_end.declared.outcomes.refusal.Refusal.{Refusal}
-use Rattle.checked_front_end.specs.front_end.declared.outcomes.refusal.Refusal.TheVariants as refusal
-use Rattle.checked_front_end.specs.front_end.declared.outcomes.outcome.Outcome.{Outcome}
-use Rattle.checked_front_end.specs.front_end.declared.outcomes.outcome.Outcome.TheVariants as outcome
+use Rattle.front_end.specs.declared.outcomes.refusal.Refusal.{Refusal}
+use Rattle.front_end.specs.declared.outcomes.refusal.Refusal.TheVariants as refusal
+use Rattle.front_end.specs.declared.outcomes.outcome.Outcome.{Outcome}
+use Rattle.front_end.specs.declared.outcomes.outcome.Outcome.TheVariants as outcome
 use Rattle.command_line.specs.declared.command.RunOptions.{RunOptions}
 use Rattle.commands.specs.Ending.{outcome_of}
 use Rattle.commands.specs.Files.{file_of}
-use Rattle.checked_front_end.specs.front_end.outcomes.Line.{line_of}
+use Rattle.front_end.specs.outcomes.Line.{line_of}
 use Rattle.commands.specs.Performs.{DidRun}
 use Rattle.commands.specs.Run.{refused_as, HasNoStart, IsUnopened, IsOfRun, IsNotRun, BeginsNamed, RunsFrom, GaveUp, RunDid}
 use Rattle.commands.specs.Turbo.{IsFaultOrNoMemory, Faults, IsRunEnd, RunComplete, RunRefused, Refuses, Unchanged, AfterLine, RunsFiles, RanFiles}

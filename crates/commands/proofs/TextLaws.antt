@@ -4,8 +4,8 @@ use Rattle.std.specs.Prelude.{codes, slice_get, slice_index, unwrap_or}
 use Rattle.command_line.specs.declared.command.RunOptions.{RunOptions}
 use Rattle.command_line.specs.Words.{IsGo, IsRun, IsHelp, IsVersion}
 use Rattle.command_line.proofs.LineLaws.{help_not, version_not}
-use Rattle.checked_front_end.specs.front_end.declared.outcomes.outcome.Outcome.{Outcome}
-use Rattle.checked_front_end.specs.front_end.declared.outcomes.outcome.Outcome.TheVariants as outcome
+use Rattle.front_end.specs.declared.outcomes.outcome.Outcome.{Outcome}
+use Rattle.front_end.specs.declared.outcomes.outcome.Outcome.TheVariants as outcome
 use Rattle.commands.specs.Performs.{Shown, DidShow}
 use Rattle.commands.specs.Texts.{IsTextOf}
 use Rattle.commands.specs.Turbo.{Faults, Unchanged, AfterLine, Told}

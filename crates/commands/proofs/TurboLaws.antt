@@ -1,15 +1,16 @@
 -- What the top call promises, from what a command does and its line.
 use Rattle.std.proofs.Common.{◌≡◌, ◌⊎◌, inl, inr, ℕ, ◌≤◌, List, Option, sym, ap, ◌∙◌, refl, subst}
 use Rattle.std.specs.Io.KnownBytes.{append_known}
-use Rattle.dos_runner.specs.tp_outside.Faults.{HasRisen}
-use Rattle.dos_runner.specs.tp_outside.Streams.{TakesPrefix}
-use Rattle.checked_front_end.specs.front_end.declared.outcomes.refusal.Refusal.{Refusal}
-use Rattle.checked_front_end.specs.front_end.declared.outcomes.refusal.Refusal.TheVariants as refusal
-use Rattle.checked_front_end.specs.front_end.declared.outcomes.outcome.Outcome.{Outcome}
-use Rattle.checked_front_end.specs.front_end.declared.outcomes.outcome.Outcome.TheVariants as outcome
-use Rattle.checked_front_end.specs.front_end.outcomes.Line.{line_of}
+use Rattle.tp_outside.specs.Faults.{HasRisen}
+use Rattle.tp_outside.specs.Streams.{TakesPrefix}
+use Rattle.front_end.specs.declared.outcomes.refusal.Refusal.{Refusal}
+use Rattle.front_end.specs.declared.outcomes.refusal.Refusal.TheVariants as refusal
+use Rattle.front_end.specs.declared.outcomes.outcome.Outcome.{Outcome}
+use Rattle.front_end.specs.declared.outcomes.outcome.Outcome.TheVariants as outcome
+use Rattle.front_end.specs.outcomes.Line.{line_of}
 use Rattle.dos_runner.specs.Outside.{Outside}
 use Rattle.commands.specs.Performs.{NamesNone, Performs}
+use Rattle.commands.specs.Specifications.{Promises}
 use Rattle.commands.specs.Turbo.{Headline, HasRun, Written, Complete, Faults, GoRefused, RunRefused, Refused, Misuses, Refuses, Prefixes, FilesAfter, TookErrors, EndsWithLine, Unchanged, AfterLine, WentFiles, RanFiles, MeanRefused, MeantFiles, Tells}
 use Rattle.commands.specs.World.{World, IsUntouched}
 use Rattle.commands.proofs.GoLaws.{no_output, no_errors, wrote_its_line}
@@ -23,7 +24,7 @@ use Rattle.commands.proofs.TextLaws as text
 use Rattle.commands.proofs.TextLaws.{not_go, not_run}
 use Rattle.commands.proofs.WordLaws.{not_both, not_go_and_mean, not_run_and_mean}
 
-pub headline : (result : Outcome) (words : List (List ℕ)) (old mid : World) (errors : Option (List ℕ)) (faults : ℕ) → Performs result words old mid → Headline words old (told mid errors faults) result
+headline : (result : Outcome) (words : List (List ℕ)) (old mid : World) (errors : Option (List ℕ)) (faults : ℕ) → Performs result words old mid → Headline words old (told mid errors faults) result
 headline result words old mid errors faults (inl misused) = λ name options asked has. absurd (misused.none.go name options asked)
 headline result words old mid errors faults (inr (inl went)) = go.headline result words old mid errors faults went
 headline result words old mid errors faults (inr (inr (inl ran))) = λ name options asked has. absurd (not_both words name ran.name options ran.options asked ran.asked)
@@ -34,7 +35,7 @@ headline result words old mid errors faults (inr (inr (inr (inr (inr meant))))) 
 no_program : (result : Outcome) (code : ℕ) → result ≡ outcome.NoMemory → result ≡ outcome.Program code → ⊥
 no_program result code none is = let bad = sym none ∙ is in cc
 
-pub written : (result : Outcome) (words : List (List ℕ)) (old mid : World) (errors : Option (List ℕ)) (faults : ℕ) → Performs result words old mid → errors ≡ append_known mid.streams.errors (line_of result) → Written words old (told mid errors faults) result
+written : (result : Outcome) (words : List (List ℕ)) (old mid : World) (errors : Option (List ℕ)) (faults : ℕ) → Performs result words old mid → errors ≡ append_known mid.streams.errors (line_of result) → Written words old (told mid errors faults) result
 written result words old mid errors faults (inl misused) line = λ name options code asked is. absurd (misused.none.go name options asked)
 written result words old mid errors faults (inr (inl went)) line = go.written result words old mid errors faults went line
 written result words old mid errors faults (inr (inr (inl ran))) line = λ name options code asked is. absurd (not_both words name ran.name options ran.options asked ran.asked)
@@ -42,7 +43,7 @@ written result words old mid errors faults (inr (inr (inr (inl out)))) line = λ
 written result words old mid errors faults (inr (inr (inr (inr (inl shown))))) line = λ name options code asked is. absurd (not_go words shown.text name options shown.asked asked)
 written result words old mid errors faults (inr (inr (inr (inr (inr meant))))) line = λ name options code asked is. absurd (not_go_and_mean words name meant.name options meant.turns asked meant.asked)
 
-pub complete : (result : Outcome) (words : List (List ℕ)) (old mid : World) (errors : Option (List ℕ)) (faults : ℕ) → Performs result words old mid → mid.streams.errors_faults ≤ faults → Complete words old (told mid errors faults) result
+complete : (result : Outcome) (words : List (List ℕ)) (old mid : World) (errors : Option (List ℕ)) (faults : ℕ) → Performs result words old mid → mid.streams.errors_faults ≤ faults → Complete words old (told mid errors faults) result
 complete result words old mid errors faults (inl misused) counted =
     record {
       of_go = λ name options asked. absurd (misused.none.go name options asked);
@@ -76,7 +77,7 @@ complete result words old mid errors faults (inr (inr (inr (inr (inr meant))))) 
   of_mean = mean.complete result words old mid errors faults meant counted;
 }
 
-pub fault : (result : Outcome) (words : List (List ℕ)) (old mid : World) (errors : Option (List ℕ)) (faults : ℕ) → Performs result words old mid → mid.streams.errors_faults ≤ faults → Faults old (told mid errors faults) result
+fault : (result : Outcome) (words : List (List ℕ)) (old mid : World) (errors : Option (List ℕ)) (faults : ℕ) → Performs result words old mid → mid.streams.errors_faults ≤ faults → Faults old (told mid errors faults) result
 fault result words old mid errors faults (inl misused) rises = subst (λ (o : Outcome). Faults old (told mid errors faults) o) (sym misused.is) tt
 fault result words old mid errors faults (inr (inl went)) rises = go.fault result went.name went.options old mid errors faults (went.did went.name went.options went.asked) rises
 fault result words old mid errors faults (inr (inr (inl ran))) rises = run.fault result ran.name ran.options old mid errors faults (ran.did ran.name ran.options ran.asked) rises
@@ -116,7 +117,7 @@ refuses-so r words old mid (inr (inr (inr (inr (inr meant))))) = (go_other r, ru
     run_other refusal.Usage = λ name options asked. not_run_and_mean words name meant.name options meant.turns asked meant.asked
     run_other r = λ name options asked. absurd (not_run_and_mean words name meant.name options meant.turns asked meant.asked)
 
-pub refused : (result : Outcome) (words : List (List ℕ)) (old mid : World) → Performs result words old mid → Refused words old result
+refused : (result : Outcome) (words : List (List ℕ)) (old mid : World) → Performs result words old mid → Refused words old result
 refused (outcome.Refused r) words old mid did = refuses-so r words old mid did
 refused outcome.InputFault words old mid did = tt
 refused outcome.OutputFault words old mid did = tt
@@ -130,7 +131,7 @@ refused (outcome.Stopped cs ip why) words old mid did = tt
 refused outcome.TurnLimit words old mid did = tt
 refused (outcome.Undefined act) words old mid did = tt
 
-pub prefixes : (result : Outcome) (words : List (List ℕ)) (old mid : World) (errors : Option (List ℕ)) (faults : ℕ) → Performs result words old mid → Prefixes words old (told mid errors faults)
+prefixes : (result : Outcome) (words : List (List ℕ)) (old mid : World) (errors : Option (List ℕ)) (faults : ℕ) → Performs result words old mid → Prefixes words old (told mid errors faults)
 prefixes result words old mid errors faults (inl misused) = λ name options asked. absurd (misused.none.go name options asked)
 prefixes result words old mid errors faults (inr (inl went)) = go.prefixes result words old mid errors faults went
 prefixes result words old mid errors faults (inr (inr (inl ran))) = λ name options asked. absurd (not_both words name ran.name options ran.options asked ran.asked)
@@ -146,7 +147,7 @@ took_errors result words old mid (inr (inr (inr (inl out)))) = λ name options a
 took_errors result words old mid (inr (inr (inr (inr (inl shown))))) = λ name options asked. absurd (not_go words shown.text name options shown.asked asked)
 took_errors result words old mid (inr (inr (inr (inr (inr meant))))) = λ name options asked. absurd (not_go_and_mean words name meant.name options meant.turns asked meant.asked)
 
-pub ends_with_line : (result : Outcome) (words : List (List ℕ)) (old mid : World) (errors : Option (List ℕ)) (faults : ℕ) → Performs result words old mid → errors ≡ append_known mid.streams.errors (line_of result) → EndsWithLine words old (told mid errors faults) result
+ends_with_line : (result : Outcome) (words : List (List ℕ)) (old mid : World) (errors : Option (List ℕ)) (faults : ℕ) → Performs result words old mid → errors ≡ append_known mid.streams.errors (line_of result) → EndsWithLine words old (told mid errors faults) result
 ends_with_line (outcome.Program code) words old mid errors faults did line = (mid.streams.errors, line, took_errors (outcome.Program code) words old mid did)
 ends_with_line outcome.Done words old mid errors faults did line = (mid.streams.errors, line, took_errors outcome.Done words old mid did)
 ends_with_line (outcome.InstructionLimit taken) words old mid errors faults did line = (mid.streams.errors, line, took_errors (outcome.InstructionLimit taken) words old mid did)
@@ -160,7 +161,7 @@ ends_with_line outcome.ErrorsFault words old mid errors faults did line = tt
 ends_with_line outcome.FilesFault words old mid errors faults did line = (mid.streams.errors, line, took_errors outcome.FilesFault words old mid did)
 ends_with_line outcome.NoMemory words old mid errors faults did line = (mid.streams.errors, line, took_errors outcome.NoMemory words old mid did)
 
-pub unchanged : (result : Outcome) (words : List (List ℕ)) (old mid : World) (errors : Option (List ℕ)) (faults : ℕ) → Performs result words old mid → errors ≡ append_known mid.streams.errors (line_of result) → Unchanged words old (told mid errors faults) result
+unchanged : (result : Outcome) (words : List (List ℕ)) (old mid : World) (errors : Option (List ℕ)) (faults : ℕ) → Performs result words old mid → errors ≡ append_known mid.streams.errors (line_of result) → Unchanged words old (told mid errors faults) result
 unchanged result words old mid errors faults (inl misused) line =
     let usage : Outcome = outcome.Refused refusal.Usage in
     subst (λ (o : Outcome). Unchanged words old (told mid errors faults) o) (sym misused.is)
@@ -171,7 +172,7 @@ unchanged result words old mid errors faults (inr (inr (inr (inl out)))) line = 
 unchanged result words old mid errors faults (inr (inr (inr (inr (inl shown))))) line = text.unchanged result words shown.text old mid errors faults shown.shown
 unchanged result words old mid errors faults (inr (inr (inr (inr (inr meant))))) line = mean.unchanged result words old mid errors faults meant line
 
-pub files_after : (result : Outcome) (words : List (List ℕ)) (old mid : World) (errors : Option (List ℕ)) (faults : ℕ) → Performs result words old mid → FilesAfter words old (told mid errors faults)
+files_after : (result : Outcome) (words : List (List ℕ)) (old mid : World) (errors : Option (List ℕ)) (faults : ℕ) → Performs result words old mid → FilesAfter words old (told mid errors faults)
 files_after result words old mid errors faults (inl misused) = inl misused.untouched.folder
 files_after result words old mid errors faults (inr (inl went)) = go.files_after result words old mid errors faults went
 files_after result words old mid errors faults (inr (inr (inl ran))) = inl (run.folder_kept result words old mid ran)
@@ -199,7 +200,7 @@ misused-so inner result words old mid errors faults (inr (inr (inr (inl out)))) 
 misused-so inner result words old mid errors faults (inr (inr (inr (inr (inl shown))))) line none = absurd (none.text shown.text shown.asked)
 misused-so inner result words old mid errors faults (inr (inr (inr (inr (inr meant))))) line none = absurd (none.mean meant.name meant.turns meant.asked)
 
-pub causes : (result : Outcome) (words : List (List ℕ)) (old mid : World) (errors : Option (List ℕ)) (faults : ℕ) → Performs result words old mid → errors ≡ append_known mid.streams.errors (line_of result) → Refuses words old (told mid errors faults) result
+causes : (result : Outcome) (words : List (List ℕ)) (old mid : World) (errors : Option (List ℕ)) (faults : ℕ) → Performs result words old mid → errors ≡ append_known mid.streams.errors (line_of result) → Refuses words old (told mid errors faults) result
 causes result words old mid errors faults (inl misused) line = record {
   usage = misused-so result result words old mid errors faults (inl misused) (inl (refl, line));
   missing = λ name options asked lacks. absurd (misused.none.go name options asked);
@@ -236,14 +237,14 @@ went-files : (inner result : Outcome) (words : List (List ℕ)) (old mid : World
 went-files inner result words old mid errors faults (inl misused) line = λ name options asked. absurd (misused.none.go name options asked)
 went-files inner result words old mid errors faults (inr (inl did)) line = went.went inner result words old mid errors faults did line
 went-files inner result words old mid errors faults (inr (inr (inl ran))) line = λ name options asked. absurd (not_both words name ran.name options ran.options asked ran.asked)
-went-files inner result words old mid errors faults (inr (inr (inr (inl out)))) line = λ name options asked. went.ran_out old.folder inner result name options old mid errors faults out.is out.untouched.streams line
+went-files inner result words old mid errors faults (inr (inr (inr (inl out)))) line = λ name options asked. went.ran_out old.folder inner result name options old mid errors faults out.is out.untouched line
 went-files inner result words old mid errors faults (inr (inr (inr (inr (inl shown))))) line = λ name options asked. absurd (not_go words shown.text name options shown.asked asked)
 went-files inner result words old mid errors faults (inr (inr (inr (inr (inr meant))))) line = λ name options asked. absurd (not_go_and_mean words name meant.name options meant.turns asked meant.asked)
 
-pub went_with_line : (result : Outcome) (words : List (List ℕ)) (old mid : World) (errors : Option (List ℕ)) (faults : ℕ) → Performs result words old mid → errors ≡ append_known mid.streams.errors (line_of result) → WentFiles words old (told mid errors faults) result
+went_with_line : (result : Outcome) (words : List (List ℕ)) (old mid : World) (errors : Option (List ℕ)) (faults : ℕ) → Performs result words old mid → errors ≡ append_known mid.streams.errors (line_of result) → WentFiles words old (told mid errors faults) result
 went_with_line result words old mid errors faults did line = went-files result result words old mid errors faults did (inl (refl, line))
 
-pub went_without_line : (inner : Outcome) (words : List (List ℕ)) (old mid : World) (errors : Option (List ℕ)) (faults : ℕ) → Performs inner words old mid → TakesPrefix mid.streams.errors errors (line_of inner) → WentFiles words old (told mid errors faults) outcome.ErrorsFault
+went_without_line : (inner : Outcome) (words : List (List ℕ)) (old mid : World) (errors : Option (List ℕ)) (faults : ℕ) → Performs inner words old mid → TakesPrefix mid.streams.errors errors (line_of inner) → WentFiles words old (told mid errors faults) outcome.ErrorsFault
 went_without_line inner words old mid errors faults did front = went-files inner outcome.ErrorsFault words old mid errors faults did (inr (refl, front))
 
 -- what was run, with the line after it or a prefix of the line
@@ -255,10 +256,10 @@ ran-files inner result words old mid errors faults (inr (inr (inr (inl out)))) l
 ran-files inner result words old mid errors faults (inr (inr (inr (inr (inl shown))))) line = λ name options asked. absurd (not_run words shown.text name options shown.asked asked)
 ran-files inner result words old mid errors faults (inr (inr (inr (inr (inr meant))))) line = λ name options asked. absurd (not_run_and_mean words name meant.name options meant.turns asked meant.asked)
 
-pub ran_with_line : (result : Outcome) (words : List (List ℕ)) (old mid : World) (errors : Option (List ℕ)) (faults : ℕ) → Performs result words old mid → errors ≡ append_known mid.streams.errors (line_of result) → RanFiles words old (told mid errors faults) result
+ran_with_line : (result : Outcome) (words : List (List ℕ)) (old mid : World) (errors : Option (List ℕ)) (faults : ℕ) → Performs result words old mid → errors ≡ append_known mid.streams.errors (line_of result) → RanFiles words old (told mid errors faults) result
 ran_with_line result words old mid errors faults did line = ran-files result result words old mid errors faults did (inl (refl, line))
 
-pub ran_without_line : (inner : Outcome) (words : List (List ℕ)) (old mid : World) (errors : Option (List ℕ)) (faults : ℕ) → Performs inner words old mid → TakesPrefix mid.streams.errors errors (line_of inner) → RanFiles words old (told mid errors faults) outcome.ErrorsFault
+ran_without_line : (inner : Outcome) (words : List (List ℕ)) (old mid : World) (errors : Option (List ℕ)) (faults : ℕ) → Performs inner words old mid → TakesPrefix mid.streams.errors errors (line_of inner) → RanFiles words old (told mid errors faults) outcome.ErrorsFault
 ran_without_line inner words old mid errors faults did front = ran-files inner outcome.ErrorsFault words old mid errors faults did (inr (refl, front))
 
 -- what was shown of a meaning, with the line after it or a prefix of the line
@@ -270,13 +271,13 @@ means-files inner result words old mid errors faults (inr (inr (inr (inl out))))
 means-files inner result words old mid errors faults (inr (inr (inr (inr (inl shown))))) line = λ name turns asked. absurd (not_mean words shown.text name turns shown.asked asked)
 means-files inner result words old mid errors faults (inr (inr (inr (inr (inr meant))))) line = mean.means inner result words old mid errors faults meant line
 
-pub meant_with_line : (result : Outcome) (words : List (List ℕ)) (old mid : World) (errors : Option (List ℕ)) (faults : ℕ) → Performs result words old mid → errors ≡ append_known mid.streams.errors (line_of result) → MeantFiles words old (told mid errors faults) result
+meant_with_line : (result : Outcome) (words : List (List ℕ)) (old mid : World) (errors : Option (List ℕ)) (faults : ℕ) → Performs result words old mid → errors ≡ append_known mid.streams.errors (line_of result) → MeantFiles words old (told mid errors faults) result
 meant_with_line result words old mid errors faults did line = means-files result result words old mid errors faults did (inl (refl, line))
 
-pub meant_without_line : (inner : Outcome) (words : List (List ℕ)) (old mid : World) (errors : Option (List ℕ)) (faults : ℕ) → Performs inner words old mid → TakesPrefix mid.streams.errors errors (line_of inner) → MeantFiles words old (told mid errors faults) outcome.ErrorsFault
+meant_without_line : (inner : Outcome) (words : List (List ℕ)) (old mid : World) (errors : Option (List ℕ)) (faults : ℕ) → Performs inner words old mid → TakesPrefix mid.streams.errors errors (line_of inner) → MeantFiles words old (told mid errors faults) outcome.ErrorsFault
 meant_without_line inner words old mid errors faults did front = means-files inner outcome.ErrorsFault words old mid errors faults did (inr (refl, front))
 
-pub line_failed : (inner : Outcome) (words : List (List ℕ)) (old mid : World) (errors : Option (List ℕ)) (faults : ℕ) → Performs inner words old mid → TakesPrefix mid.streams.errors errors (line_of inner)
+line_failed : (inner : Outcome) (words : List (List ℕ)) (old mid : World) (errors : Option (List ℕ)) (faults : ℕ) → Performs inner words old mid → TakesPrefix mid.streams.errors errors (line_of inner)
     → old.streams.errors_faults ≤ mid.streams.errors_faults → HasRisen mid.streams.errors_faults faults → Refuses words old (told mid errors faults) outcome.ErrorsFault
 line_failed inner words old mid errors faults did front counted rose =
     let all = go.still_rising old.streams.errors_faults mid.streams.errors_faults faults counted rose in
@@ -288,7 +289,7 @@ line_failed inner words old mid errors faults did front counted rose =
       unopened = λ name options error asked has why. inr all;
     }
 
-pub complete_failed : (words : List (List ℕ)) (old new : World) (mid : ℕ) → old.streams.errors_faults ≤ mid → HasRisen mid new.streams.errors_faults → Complete words old new outcome.ErrorsFault
+complete_failed : (words : List (List ℕ)) (old new : World) (mid : ℕ) → old.streams.errors_faults ≤ mid → HasRisen mid new.streams.errors_faults → Complete words old new outcome.ErrorsFault
 complete_failed words old new mid counted rose =
     record {
       of_go = go.complete_failed words old new mid counted rose;
@@ -305,8 +306,53 @@ tells-text inner result words old mid errors faults (inr (inr (inr (inl out)))) 
 tells-text inner result words old mid errors faults (inr (inr (inr (inr (inl shown))))) line = λ t asked. text.tells inner result words old mid errors faults t shown line asked
 tells-text inner result words old mid errors faults (inr (inr (inr (inr (inr meant))))) line = λ t asked. absurd (not_mean words t meant.name meant.turns asked meant.asked)
 
-pub tells_with_line : (result : Outcome) (words : List (List ℕ)) (old mid : World) (errors : Option (List ℕ)) (faults : ℕ) → Performs result words old mid → errors ≡ append_known mid.streams.errors (line_of result) → Tells words old (told mid errors faults) result
+tells_with_line : (result : Outcome) (words : List (List ℕ)) (old mid : World) (errors : Option (List ℕ)) (faults : ℕ) → Performs result words old mid → errors ≡ append_known mid.streams.errors (line_of result) → Tells words old (told mid errors faults) result
 tells_with_line result words old mid errors faults did line = tells-text result result words old mid errors faults did (inl (refl, line))
 
-pub tells_without_line : (inner : Outcome) (words : List (List ℕ)) (old mid : World) (errors : Option (List ℕ)) (faults : ℕ) → Performs inner words old mid → TakesPrefix mid.streams.errors errors (line_of inner) → Tells words old (told mid errors faults) outcome.ErrorsFault
+tells_without_line : (inner : Outcome) (words : List (List ℕ)) (old mid : World) (errors : Option (List ℕ)) (faults : ℕ) → Performs inner words old mid → TakesPrefix mid.streams.errors errors (line_of inner) → Tells words old (told mid errors faults) outcome.ErrorsFault
 tells_without_line inner words old mid errors faults did front = tells-text inner outcome.ErrorsFault words old mid errors faults did (inr (refl, front))
+
+-- ---- all of it
+
+no_code : (code : ℕ) → outcome.ErrorsFault ≡ outcome.Program code → ⊥
+no_code code is = cc
+
+-- the line was written
+pub with_line : (result : Outcome) (words : List (List ℕ)) (old mid : World) (errors : Option (List ℕ)) (faults : ℕ) → Performs result words old mid → errors ≡ append_known mid.streams.errors (line_of result)
+    → mid.streams.errors_faults ≤ faults → Promises words old (told mid errors faults) result
+with_line result words old mid errors faults did line counted = record {
+  headline = headline result words old mid errors faults did;
+  written = written result words old mid errors faults did line;
+  complete = complete result words old mid errors faults did counted;
+  prefixes = prefixes result words old mid errors faults did;
+  files = files_after result words old mid errors faults did;
+  faults = fault result words old mid errors faults did counted;
+  refused = refused result words old mid did;
+  refuses = causes result words old mid errors faults did line;
+  unchanged = unchanged result words old mid errors faults did line;
+  ran = ran_with_line result words old mid errors faults did line;
+  went = went_with_line result words old mid errors faults did line;
+  meant = meant_with_line result words old mid errors faults did line;
+  told = tells_with_line result words old mid errors faults did line;
+  line = ends_with_line result words old mid errors faults did line;
+}
+
+-- the errors failed, having taken a prefix of it
+pub without_line : (inner : Outcome) (words : List (List ℕ)) (old mid : World) (errors : Option (List ℕ)) (faults : ℕ) → Performs inner words old mid → TakesPrefix mid.streams.errors errors (line_of inner)
+    → old.streams.errors_faults ≤ mid.streams.errors_faults → HasRisen mid.streams.errors_faults faults → Promises words old (told mid errors faults) outcome.ErrorsFault
+without_line inner words old mid errors faults did front counted rose = record {
+  headline = λ name options asked has. absurd has;
+  written = λ name options code asked is. absurd (no_code code is);
+  complete = complete_failed words old (told mid errors faults) mid.streams.errors_faults counted rose;
+  prefixes = prefixes inner words old mid errors faults did;
+  files = files_after inner words old mid errors faults did;
+  faults = go.still_rising old.streams.errors_faults mid.streams.errors_faults faults counted rose;
+  refused = tt;
+  refuses = line_failed inner words old mid errors faults did front counted rose;
+  unchanged = tt;
+  ran = ran_without_line inner words old mid errors faults did front;
+  went = went_without_line inner words old mid errors faults did front;
+  meant = meant_without_line inner words old mid errors faults did front;
+  told = tells_without_line inner words old mid errors faults did front;
+  line = tt;
+}

@@ -1,15 +1,17 @@
 -- What `go` did with the files, with the last line.
 use Rattle.std.proofs.Common.{◌≡◌, inl, inr, ℕ, List, Option, Some, None, IfSome, sym, subst}
-use Rattle.dos_runner.specs.tp_outside.Folder.{Folder}
+use Rattle.tp_outside.specs.Folder.{Folder, with_known_file}
 use Rattle.dos_runner.specs.declared.runner.RunEnd.{RunEnd}
-use Rattle.checked_front_end.specs.front_end.declared.outcomes.outcome.Outcome.{Outcome}
-use Rattle.checked_front_end.specs.front_end.declared.outcomes.outcome.Outcome.TheVariants as outcome
+use Rattle.front_end.specs.declared.outcomes.outcome.Outcome.{Outcome}
+use Rattle.front_end.specs.declared.outcomes.outcome.Outcome.TheVariants as outcome
 use Rattle.command_line.specs.declared.command.RunOptions.{RunOptions}
+use Rattle.commands.specs.declared.names.FileKind.TheVariants.{Executable}
 use Rattle.commands.specs.Ending.{outcome_of}
+use Rattle.commands.specs.Files.{file_of}
 use Rattle.commands.specs.Go.{HasNoRun, IsNotGone, RanBuilt, GoDid}
 use Rattle.commands.specs.Performs.{DidGo}
 use Rattle.commands.specs.Turbo.{AfterLine, GoesFiles, WentFiles}
-use Rattle.commands.specs.World.{World}
+use Rattle.commands.specs.World.{World, IsUntouched}
 use Rattle.commands.proofs.RanLaws.{told}
 
 no_run : (held : Folder) (result : Outcome) (name : List ℕ) (buffer : Option ℕ) (files files' : ℕ) → IsNotGone result name buffer (Some held) files files' → HasNoRun held result name buffer
@@ -19,30 +21,30 @@ no_run held outcome.NoMemory name buffer files files' reason = tt
 no_run held other name buffer files files' reason = absurd reason
 
 gave_up : (folder : Option Folder) (inner result : Outcome) (name : List ℕ) (options : RunOptions) (old mid : World) (errors : Option (List ℕ)) (faults : ℕ) → AfterLine result inner mid.streams.errors errors
-    → mid.streams ≡ old.streams → IsNotGone inner name options.buffer folder old.files_faults mid.files_faults → IfSome folder (λ held. GoesFiles held result name options old (told mid errors faults))
+    → IsUntouched old mid → IsNotGone inner name options.buffer folder old.files_faults mid.files_faults → IfSome folder (λ held. GoesFiles held result name options old (told mid errors faults))
 gave_up None inner result name options old mid errors faults line untouched reason = tt
 gave_up (Some held) inner result name options old mid errors faults line untouched reason = record {
   inner = inner;
   before = mid.streams.errors;
   before_faults = mid.streams.errors_faults;
-  did = inl (no_run held inner name options.buffer old.files_faults mid.files_faults reason, untouched);
+  did = inl (record { cause = no_run held inner name options.buffer old.files_faults mid.files_faults reason; folder = untouched.folder; streams = untouched.streams });
   line = line;
 }
 
-pub ran_out : (folder : Option Folder) (inner result : Outcome) (name : List ℕ) (options : RunOptions) (old mid : World) (errors : Option (List ℕ)) (faults : ℕ) → inner ≡ outcome.NoMemory → mid.streams ≡ old.streams → AfterLine result inner mid.streams.errors errors
+pub ran_out : (folder : Option Folder) (inner result : Outcome) (name : List ℕ) (options : RunOptions) (old mid : World) (errors : Option (List ℕ)) (faults : ℕ) → inner ≡ outcome.NoMemory → IsUntouched old mid → AfterLine result inner mid.streams.errors errors
     → IfSome folder (λ held. GoesFiles held result name options old (told mid errors faults))
 ran_out folder inner result name options old mid errors faults is untouched line =
     gave_up folder inner result name options old mid errors faults line untouched
     (subst (λ (o : Outcome). IsNotGone o name options.buffer folder old.files_faults mid.files_faults) (sym is) tt)
 
 ran_so : (folder : Option Folder) (inner result : Outcome) (end : RunEnd) (name bytes : List ℕ) (options : RunOptions) (old mid : World) (errors : Option (List ℕ)) (faults : ℕ) → AfterLine result inner mid.streams.errors errors → inner ≡ outcome_of end
-    → IfSome folder (λ held. RanBuilt held end name bytes options old.streams mid.streams) → IfSome folder (λ held. GoesFiles held result name options old (told mid errors faults))
-ran_so None inner result end name bytes options old mid errors faults line is run = tt
-ran_so (Some held) inner result end name bytes options old mid errors faults line is run = record {
+    → mid.folder ≡ with_known_file old.folder (file_of name Executable) bytes → IfSome folder (λ held. RanBuilt held end name bytes options old.streams mid.streams) → IfSome folder (λ held. GoesFiles held result name options old (told mid errors faults))
+ran_so None inner result end name bytes options old mid errors faults line is written run = tt
+ran_so (Some held) inner result end name bytes options old mid errors faults line is written run = record {
   inner = inner;
   before = mid.streams.errors;
   before_faults = mid.streams.errors_faults;
-  did = inr (end, bytes, is, run);
+  did = inr (record { bytes = bytes; written = written; end = end; is = is; ran = run });
   line = line;
 }
 
@@ -50,5 +52,5 @@ pub went : (inner result : Outcome) (words : List (List ℕ)) (old mid : World) 
 went inner result words old mid errors faults did line = λ name options asked. by name options (did.did name options asked)
   where
     by : (name : List ℕ) (options : RunOptions) → GoDid inner name options old mid → IfSome old.folder (λ held. GoesFiles held result name options old (told mid errors faults))
-    by name options (inl gave) = gave_up old.folder inner result name options old mid errors faults line gave.untouched.streams gave.reason
-    by name options (inr ran) = ran_so old.folder inner result ran.0 name ran.2.bytes options old mid errors faults line ran.1 ran.2.run
+    by name options (inl gave) = gave_up old.folder inner result name options old mid errors faults line gave.untouched gave.reason
+    by name options (inr ran) = ran_so old.folder inner result ran.0 name ran.2.bytes options old mid errors faults line ran.1 ran.2.written ran.2.run

@@ -1,38 +1,40 @@
 -- What `go` does before its last line.
-use Rattle.std.specs.Prelude.{◌≡◌, ◌⊎◌, ◌<◌, ◌≤◌, ℕ, List, [], ◌∷◌, Option, Some, IfSome}
-use Rattle.dos_runner.specs.tp_outside.Faults.{HasRisen}
-use Rattle.dos_runner.specs.tp_outside.Folder.{Folder, with_known_file}
-use Rattle.interpreter.specs.type_layout.declared.texts.Place.{Place}
-use Rattle.checked_front_end.specs.tp_lexer.declared.token.Text.{Text}
-use Rattle.checked_front_end.specs.tp_lexer.declared.token.Feature.TheVariants.{NotYet}
-use Rattle.literal_form_laws.specs.source_graph.declared.sources.Source.{Source}
-use Rattle.literal_form_laws.specs.source_graph.Texts.{at}
-use Rattle.literal_form_laws.specs.source_graph.Walk.{Gathers}
-use Rattle.interpreter.specs.typed_tree.declared.units.Program.{Program}
-use Rattle.interpreter.specs.tp_meaning.Meaning.{mean}
-use Rattle.checked_front_end.specs.front_end.declared.program.TypedSources.{TypedSources}
-use Rattle.checked_front_end.specs.front_end.Typed.{IsProgram, IsProgramIn}
-use Rattle.checked_front_end.specs.front_end.Untyped.{IsRefusing}
+use Rattle.std.specs.Prelude.{◌≡◌, ◌⊎◌, ◌<◌, ◌≤◌, ℕ, List, [], ◌∷◌, length, Option, Some, IfSome}
+use Rattle.tp_outside.specs.Faults.{HasRisen}
+use Rattle.tp_outside.specs.Folder.{Folder, with_known_file}
+use Rattle.type_layout.specs.declared.texts.Place.{Place}
+use Rattle.tp_lexer.specs.declared.token.Text.{Text}
+use Rattle.tp_lexer.specs.declared.token.Feature.TheVariants.{NotYet}
+use Rattle.source_graph.specs.declared.sources.Source.{Source}
+use Rattle.source_graph.specs.Texts.{at}
+use Rattle.source_graph.specs.Walk.{Gathers}
+use Rattle.typed_tree.specs.declared.units.Program.{Program}
+use Rattle.tp_meaning.specs.Meaning.{mean}
+use Rattle.front_end.specs.declared.program.TypedSources.{TypedSources}
+use Rattle.front_end.specs.Typed.{IsProgram, IsProgramIn}
+use Rattle.front_end.specs.Untyped.{IsRefusing}
 use Rattle.checked_front_end.specs.Formed.{AreFormed}
 use Rattle.checked_front_end.specs.interfaces_consistent.determinism.Folder.{FoundNone}
-use Rattle.literal_form_laws.specs.literal_programs.Literals.{IsLiteral}
-use Rattle.literal_form_laws.specs.literal_programs.Agrees.{Agrees}
-use Rattle.literal_form_laws.specs.literal_programs.Memory.{HasMemoryOf}
-use Rattle.literal_form_laws.specs.literal_programs.literal_code.Ends.{EndsWithin}
+use Rattle.literal_programs.specs.Literals.{IsLiteral}
+use Rattle.literal_programs.specs.Agrees.{Agrees}
+use Rattle.literal_programs.specs.Memory.{HasMemoryOf}
+use Rattle.literal_programs.specs.literal_code.Ends.{EndsWithin}
+use Rattle.literal_programs.specs.literal_code.Size.{image_size}
 use Rattle.literal_form_laws.specs.literal_places.Places.{place_outside}
-use Rattle.dos_runner.specs.cpu_8086.State.{State}
-use Rattle.dos_runner.specs.mz_file.Format.{exe_of}
-use Rattle.dos_runner.specs.mz_file.Load.{loaded}
+use Rattle.cpu_8086.specs.State.{State}
+use Rattle.mz_file.specs.Format.{exe_of}
+use Rattle.mz_file.specs.Load.{loaded}
+use Rattle.mz_file.specs.Spelling.{spelling}
 use Rattle.dos_runner.specs.declared.runner.RunEnd.{RunEnd}
 use Rattle.dos_runner.specs.declared.runner.RunEnd.TheVariants as ends
 use Rattle.dos_runner.specs.Outside.{Outside, RunsTo}
 use Rattle.dos_runner.specs.plain_opening.Laws.{needed}
 use Rattle.dos_runner.specs.overlay_runner.Event.{Rises}
 use Rattle.command_line.specs.declared.command.RunOptions.{RunOptions}
-use Rattle.checked_front_end.specs.front_end.declared.outcomes.refusal.Refusal.{Refusal}
-use Rattle.checked_front_end.specs.front_end.declared.outcomes.refusal.Refusal.TheVariants as refusal
-use Rattle.checked_front_end.specs.front_end.declared.outcomes.outcome.Outcome.{Outcome}
-use Rattle.checked_front_end.specs.front_end.declared.outcomes.outcome.Outcome.TheVariants as outcome
+use Rattle.front_end.specs.declared.outcomes.refusal.Refusal.{Refusal}
+use Rattle.front_end.specs.declared.outcomes.refusal.Refusal.TheVariants as refusal
+use Rattle.front_end.specs.declared.outcomes.outcome.Outcome.{Outcome}
+use Rattle.front_end.specs.declared.outcomes.outcome.Outcome.TheVariants as outcome
 use Rattle.commands.specs.declared.names.FileKind.TheVariants.{Executable}
 use Rattle.commands.specs.Files.{file_of}
 use Rattle.commands.specs.Ending.{outcome_of}
@@ -59,10 +61,13 @@ pub record IsOfOtherForm (held : Folder) (name : List ℕ) (r : Refusal) : Type 
   pub refused : (texts : List Text) (sources : List Source) (one : Program) → Gathers held name texts sources → IsProgram sources one
       → r ≡ refusal.NotInProfile (at texts (place_of_first sources one)) NotYet
 
--- A program is of the literal form, and these bytes do what it means, soon, without overlays, in the memory that it asks for.
+-- A program is of the literal form, and these bytes do what it means, soon, without overlays, in the memory that it asks for. They are those
+-- of an executable as it is written, with nothing behind it, and its image is just as large as what the program says asks for.
 pub record DoesSoon (program : Program) (bytes : List ℕ) : Type 0 where
   pub literal : IsLiteral program
   pub plain : (exe_of bytes).block.stubs ≡ []
+  pub spelled : bytes ≡ spelling (exe_of bytes)
+  pub size : length (exe_of bytes).image ≡ image_size literal.statements
   pub memory : HasMemoryOf program (exe_of bytes)
   pub agrees : Agrees program bytes
   pub soon : (input : List ℕ) (turns : ℕ) → EndsWithin 16389 bytes input (mean program input turns)
@@ -81,7 +86,8 @@ pub record IsBuiltFrom (held : Folder) (name bytes : List ℕ) : Type 0 where
   pub formed : AreFormed program
   pub does : (one : Program) → IsProgramIn held name one → DoesSoon one bytes
 
--- The executable of such a program would not begin: with the buffer that is asked for it takes more than the memory below segment A000h.
+-- The executable of such a program would not begin: with the buffer that is asked for it takes more than the memory below segment A000h. How
+-- much it takes is settled by the program: by the size of its image, its stack and its heap.
 pub record CannotBegin (held : Folder) (name : List ℕ) (buffer : Option ℕ) (r : Refusal) : Type 0 where
   pub bytes : List ℕ
   pub built : IsBuiltFrom held name bytes

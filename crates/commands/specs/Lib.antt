@@ -4,6 +4,7 @@ pub mod Go
 pub mod Mean
 pub mod Performs
 pub mod Prepared
+pub mod Specifications
 pub mod Run
 pub mod Texts
 pub mod Turbo

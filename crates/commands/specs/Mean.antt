@@ -1,13 +1,13 @@
 -- What `mean` does before its last line.
 use Rattle.std.specs.Prelude.{◌≡◌, ◌⊎◌, ℕ, List, Option, unwrap_or, IfSome}
-use Rattle.dos_runner.specs.tp_outside.Faults.{HasRisen}
+use Rattle.tp_outside.specs.Faults.{HasRisen}
 use Rattle.dos_runner.specs.Outside.{Outside}
-use Rattle.interpreter.specs.typed_tree.declared.units.Program.{Program}
-use Rattle.checked_front_end.specs.front_end.declared.outcomes.outcome.Outcome.{Outcome}
-use Rattle.checked_front_end.specs.front_end.declared.outcomes.outcome.Outcome.TheVariants as outcome
+use Rattle.typed_tree.specs.declared.units.Program.{Program}
+use Rattle.front_end.specs.declared.outcomes.outcome.Outcome.{Outcome}
+use Rattle.front_end.specs.declared.outcomes.outcome.Outcome.TheVariants as outcome
 use Rattle.commands.specs.mean_program.Shown.{Sinks, streams, Shows}
-use Rattle.checked_front_end.specs.front_end.Typed.{IsProgramIn}
-use Rattle.checked_front_end.specs.front_end.Untyped.{IsDeclining}
+use Rattle.front_end.specs.Typed.{IsProgramIn}
+use Rattle.front_end.specs.Untyped.{IsDeclining}
 use Rattle.checked_front_end.specs.Formed.{AreFormed}
 use Rattle.checked_front_end.specs.interfaces_consistent.determinism.Folder.{FoundNone}
 use Rattle.commands.specs.World.{World, IsUntouched}

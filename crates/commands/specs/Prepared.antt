@@ -1,8 +1,8 @@
 -- What `go` has made before it writes.
 use Rattle.std.specs.Prelude.{◌≡◌, ◌≤◌, ℕ, List, Option}
-use Rattle.dos_runner.specs.tp_outside.Folder.{Folder}
-use Rattle.dos_runner.specs.mz_file.Format.{exe_of}
-use Rattle.dos_runner.specs.mz_file.Load.{loaded}
+use Rattle.tp_outside.specs.Folder.{Folder}
+use Rattle.mz_file.specs.Format.{exe_of}
+use Rattle.mz_file.specs.Load.{loaded}
 use Rattle.dos_runner.specs.plain_opening.Laws.{needed}
 use Rattle.commands.specs.declared.go.Prepared.{Prepared}
 use Rattle.commands.specs.Go.{IsBuiltFrom}

@@ -1,19 +1,19 @@
 -- What the top call promises. Its clauses cite these.
 use Rattle.std.specs.Prelude.{◌≡◌, ◌⊎◌, ◌<◌, ℕ, List, Option, Some, None, IfSome}
 use Rattle.std.specs.Io.KnownBytes.{append_known}
-use Rattle.dos_runner.specs.tp_outside.Faults.{HasRisen}
-use Rattle.dos_runner.specs.tp_outside.Folder.{Folder, with_known_file}
-use Rattle.dos_runner.specs.tp_outside.Streams.{TakesPrefix}
-use Rattle.interpreter.specs.common_values.behaviour.Seen.{Seen, Ended}
-use Rattle.interpreter.specs.typed_tree.declared.units.Program.{Program}
-use Rattle.interpreter.specs.tp_meaning.Meaning.{mean}
-use Rattle.dos_runner.specs.tp_outside.whole_input.Input.{IsWhole, HasMore}
-use Rattle.checked_front_end.specs.front_end.Typed.{IsProgramIn}
+use Rattle.tp_outside.specs.Faults.{HasRisen}
+use Rattle.tp_outside.specs.Folder.{Folder, with_known_file}
+use Rattle.tp_outside.specs.Streams.{TakesPrefix}
+use Rattle.common_values.specs.behaviour.Seen.{Seen, Ended}
+use Rattle.typed_tree.specs.declared.units.Program.{Program}
+use Rattle.tp_meaning.specs.Meaning.{mean}
+use Rattle.tp_outside.specs.whole_input.Input.{IsWhole, HasMore}
+use Rattle.front_end.specs.Typed.{IsProgramIn}
 use Rattle.checked_front_end.specs.interfaces_consistent.determinism.Folder.{FoundNone}
 use Rattle.checked_front_end.specs.Formed.{AreFormed}
 use Rattle.commands.specs.mean_program.Shown.{WritesAll, Shows, Stands}
-use Rattle.literal_form_laws.specs.literal_programs.Literals.{IsLiteral}
-use Rattle.literal_form_laws.specs.literal_programs.Agrees.{Agrees}
+use Rattle.literal_programs.specs.Literals.{IsLiteral}
+use Rattle.literal_programs.specs.Agrees.{Agrees}
 use Rattle.dos_runner.specs.declared.runner.RunEnd.{RunEnd}
 use Rattle.dos_runner.specs.Outside.{Outside}
 use Rattle.dos_runner.specs.declared.opened_program.error.OpenError.{OpenError}
@@ -21,13 +21,13 @@ use Rattle.dos_runner.specs.declared.overlay_runner.runner.Runner.{Runner}
 use Rattle.dos_runner.specs.opened_program.Opening.{HasReason}
 use Rattle.commands.specs.declared.names.FileKind.TheVariants.{Source, Executable}
 use Rattle.command_line.specs.declared.command.RunOptions.{RunOptions}
-use Rattle.checked_front_end.specs.front_end.declared.outcomes.refusal.Refusal.{Refusal}
-use Rattle.checked_front_end.specs.front_end.declared.outcomes.refusal.Refusal.TheVariants as refusal
-use Rattle.checked_front_end.specs.front_end.declared.outcomes.refusal.What.TheVariants as what
-use Rattle.checked_front_end.specs.front_end.declared.outcomes.outcome.Outcome.{Outcome}
-use Rattle.checked_front_end.specs.front_end.declared.outcomes.outcome.Outcome.TheVariants as outcome
+use Rattle.front_end.specs.declared.outcomes.refusal.Refusal.{Refusal}
+use Rattle.front_end.specs.declared.outcomes.refusal.Refusal.TheVariants as refusal
+use Rattle.front_end.specs.declared.outcomes.refusal.What.TheVariants as what
+use Rattle.front_end.specs.declared.outcomes.outcome.Outcome.{Outcome}
+use Rattle.front_end.specs.declared.outcomes.outcome.Outcome.TheVariants as outcome
 use Rattle.commands.specs.Files.{file_of}
-use Rattle.checked_front_end.specs.front_end.outcomes.Line.{line_of}
+use Rattle.front_end.specs.outcomes.Line.{line_of}
 use Rattle.command_line.specs.Words.{IsGo, IsRun, IsMean}
 use Rattle.commands.specs.World.{World, Holds, Lacks}
 use Rattle.commands.specs.Go.{IsOfOtherForm, IsBuiltFrom, IsNotBuilt, HasNoRun, RanBuilt}
@@ -241,18 +241,35 @@ abbrev pub RanFiles : List (List ℕ) → World → World → Outcome → Type 0
 RanFiles words old new result =
     (name : List ℕ) (options : RunOptions) → IsRun words name options → IfSome old.folder (λ held. RunsFiles held result name options old new)
 
--- What `go` did with the files that a folder holds: nothing was written, and nothing was read or written besides; or the process of an
--- executable that does what their program means came to an end, and the outcome is that end's; then came the line.
+-- No executable was written: no file changed, and nothing was read or written besides.
+pub record StaysAway (held : Folder) (inner : Outcome) (name : List ℕ) (options : RunOptions) (old now : World) : Type 0 where
+  pub cause : HasNoRun held inner name options.buffer
+  pub folder : now.folder ≡ old.folder
+  pub streams : now.streams ≡ old.streams
+
+-- The folder holds an executable that does what the files' program means, and no other file changed; the process of just these bytes came to
+-- an end, and the outcome is that end's.
+pub record RunsWritten (held : Folder) (inner : Outcome) (name : List ℕ) (options : RunOptions) (old now : World) : Type 0 where
+  pub bytes : List ℕ
+  pub written : now.folder ≡ with_known_file old.folder (file_of name Executable) bytes
+  pub end : RunEnd
+  pub is : inner ≡ outcome_of end
+  pub ran : RanBuilt held end name bytes options old.streams now.streams
+
+-- the world before the last line
+abbrev pub before_line : World → Option (List ℕ) → ℕ → World
+before_line new errors faults = record new { streams = streams_before new errors faults }
+
+-- What `go` did with the files that a folder holds, and then the line.
 pub record GoesFiles (held : Folder) (result : Outcome) (name : List ℕ) (options : RunOptions) (old new : World) : Type 0 where
   pub inner : Outcome
   pub before : Option (List ℕ)
   pub before_faults : ℕ
-  pub did : (HasNoRun held inner name options.buffer × (streams_before new before before_faults ≡ old.streams))
-      ⊎ ((end : RunEnd) × (bytes : List ℕ) × (inner ≡ outcome_of end) × RanBuilt held end name bytes options old.streams (streams_before new before before_faults))
+  pub did : StaysAway held inner name options old (before_line new before before_faults) ⊎ RunsWritten held inner name options old (before_line new before before_faults)
   pub line : AfterLine result inner before new.streams.errors
 
--- Where the words ask for it and the files tell what they hold, output and errors grew by the run of the executable, and the outcome is its
--- end.
+-- Where the words ask for it and the files tell what they hold, output and errors grew by the run of the executable that the folder then
+-- holds, and the outcome is its end.
 abbrev pub WentFiles : List (List ℕ) → World → World → Outcome → Type 0
 WentFiles words old new result =
     (name : List ℕ) (options : RunOptions) → IsGo words name options → IfSome old.folder (λ held. GoesFiles held result name options old new)

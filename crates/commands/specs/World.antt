@@ -1,7 +1,7 @@
 -- What stands outside a command: the files, the input, the output and the errors, where they tell what they hold,
 -- and their counts of faults.
 use Rattle.std.specs.Prelude.{◌≡◌, ℕ, List, Option, Some, None}
-use Rattle.dos_runner.specs.tp_outside.Folder.{Folder}
+use Rattle.tp_outside.specs.Folder.{Folder}
 use Rattle.dos_runner.specs.Outside.{Outside}
 
 pub record World : Type 0 where

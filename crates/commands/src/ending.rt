@@ -3,8 +3,8 @@
 ghost use Rattle.std.specs.Prelude.{◌≡◌};
 ghost use Rattle.commands.specs.Ending.{outcome_of};
 
-use checked_front_end::front_end::outcomes::Outcome;
 use dos_runner::RunEnd;
+use front_end::outcomes::Outcome;
 
 /// The outcome of a run that ended so.
 pub fn outcome_of(end: RunEnd) -> Outcome

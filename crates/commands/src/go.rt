@@ -1,9 +1,9 @@
 //! The command `go`, before its last line.
 
 ghost use Rattle.std.specs.Prelude.{◌≡◌, ◌≤◌, ℕ, Option, IfOk, IfErr, IfSome};
-ghost use Rattle.dos_runner.specs.mz_file.Format.{Denotes};
-ghost use Rattle.dos_runner.specs.mz_file.Spelling.{IsWritable};
-ghost use Rattle.checked_front_end.specs.front_end.declared.outcomes.outcome.Outcome.{Outcome};
+ghost use Rattle.mz_file.specs.Format.{Denotes};
+ghost use Rattle.mz_file.specs.Spelling.{IsWritable, spelling};
+ghost use Rattle.front_end.specs.declared.outcomes.outcome.Outcome.{Outcome};
 ghost use Rattle.commands.specs.Go.{place_of_first, other_form, DoesSoon, IsBuiltFrom, IsNotMade, IsNotGone, GoDid};
 ghost use Rattle.commands.specs.Prepared.{IsPrepared};
 ghost use Rattle.commands.specs.World.{world};
@@ -12,24 +12,24 @@ use crate::ending::outcome_of;
 use crate::names::{FileKind, file_name};
 use crate::run::{LIMIT, refused_as};
 use checked_front_end::formed_sources;
-use checked_front_end::front_end::TypedSources;
-use checked_front_end::front_end::outcomes::{Outcome, Refusal};
-use checked_front_end::tp_lexer::Feature;
 use command_line::RunOptions;
-use dos_runner::cpu_8086::Machine;
-use dos_runner::mz_file::{Exe, write_exe};
+use cpu_8086::Machine;
 use dos_runner::opened_program::{Opened, open_program};
 use dos_runner::run;
-use dos_runner::tp_outside::{Files, Sink, Source, WriteError};
-use interpreter::type_layout::{Bytes, Name, Place};
-use interpreter::typed_tree::Program;
+use front_end::TypedSources;
+use front_end::outcomes::{Outcome, Refusal};
 use literal_form_laws::literal_places::place_outside;
-use literal_form_laws::literal_programs::literal_executable;
-use literal_form_laws::source_graph::at;
+use literal_programs::literal_executable;
+use mz_file::{Exe, write_exe};
+use source_graph::at;
 use std::alloc::Global;
+use tp_lexer::Feature;
+use tp_outside::{Files, Sink, Source, WriteError};
+use type_layout::{Bytes, Name, Place};
+use typed_tree::Program;
 
 // Where sources leave the literal form.
-fn place_of_first(sources: &[literal_form_laws::source_graph::Source], program: &Program) -> Place
+fn place_of_first(sources: &[source_graph::Source], program: &Program) -> Place
     ensures { result ≡ place_of_first sources.now program.now }
 {
     match sources {
@@ -56,6 +56,7 @@ fn other_form(found: &TypedSources) -> Refusal
 // The bytes of an executable.
 fn spelled(alloc: Global, exe: &Exe) -> Result<Bytes, Outcome>
     requires { IsWritable exe.now }
+    ensures exact { IfOk result (λ bytes. bytes ≡ spelling exe.now) }
     ensures denotes { IfOk result (λ bytes. Denotes bytes exe.now) }
     ensures memory { IfErr result (λ error. error ≡ Outcome.NoMemory) }
 {

@@ -11,6 +11,4 @@ mod run;
 mod texts;
 mod top;
 
-pub use checked_front_end::front_end;
-pub use dos_runner::tp_outside;
 pub use top::turbo;

@@ -6,11 +6,11 @@ ghost use Rattle.commands.specs.World.{world};
 
 use crate::mean_program::show_meaning;
 use checked_front_end::formed_sources;
-use checked_front_end::front_end::outcomes::Outcome;
-use checked_front_end::type_soundness::programs::sound_program_laws;
-use dos_runner::tp_outside::{Files, Sink, Source};
-use interpreter::type_layout::Name;
+use front_end::outcomes::Outcome;
 use std::alloc::Global;
+use tp_outside::{Files, Sink, Source};
+use type_layout::Name;
+use type_soundness::programs::sound_program_laws;
 
 /// How many turns a program may take where the words don't say it.
 const TURNS: u64 = 1_000_000;

@@ -5,8 +5,8 @@ ghost use Rattle.std.specs.Char.{to_ascii_lowercase};
 ghost use Rattle.commands.specs.Files.{extension, file_of};
 
 use arrayvec::ArrayVec;
-use interpreter::type_layout::{FILE_NAME_LEN, FileName, Name};
 use std::str;
+use type_layout::{FILE_NAME_LEN, FileName, Name};
 
 /// The files that belong to a program.
 #[derive(Clone, Copy, PartialEq, Eq, Debug)]

@@ -8,10 +8,10 @@ use crate::go::go;
 use crate::mean::mean;
 use crate::run::run_program;
 use crate::texts::{help_text, show, version_text};
-use checked_front_end::front_end::outcomes::{Outcome, Refusal};
 use command_line::{Command, command_of};
-use dos_runner::tp_outside::{Files, Sink, Source};
+use front_end::outcomes::{Outcome, Refusal};
 use std::alloc::Global;
+use tp_outside::{Files, Sink, Source};
 
 /// Does what the words say.
 pub fn perform<F: Files, S: Source, K: Sink, E: Sink>(

@@ -1,7 +1,7 @@
 //! The command `run`, before its last line.
 
 ghost use Rattle.std.specs.Prelude.{◌≡◌, ◌≤◌, ℕ, List, Some, None, IfSome, IfOk, IfErr};
-ghost use Rattle.dos_runner.specs.tp_outside.Faults.{HasRisen};
+ghost use Rattle.tp_outside.specs.Faults.{HasRisen};
 ghost use Rattle.dos_runner.specs.overlay_runner.Runner.{Begins};
 ghost use Rattle.commands.specs.Files.{file_of};
 ghost use Rattle.commands.specs.Run.{refused_as, IsAbsent, IsNotRun, BeginsNamed, RunDid};
@@ -10,12 +10,12 @@ ghost use Rattle.commands.specs.declared.names.FileKind.{FileKind};
 
 use crate::ending::outcome_of;
 use crate::names::{FileKind, file_name};
-use checked_front_end::front_end::outcomes::{Outcome, Refusal};
 use command_line::RunOptions;
 use dos_runner::overlay_runner::{OpenError, Runner};
-use dos_runner::tp_outside::{self, Files, Sink, Source, read_file};
-use interpreter::type_layout::{FileName, Name};
+use front_end::outcomes::{Outcome, Refusal};
 use std::alloc::Global;
+use tp_outside::{self, Files, Sink, Source, read_file};
+use type_layout::{FileName, Name};
 
 /// How many instructions a program may take where the words don't say it.
 pub(crate) const LIMIT: u64 = 1_000_000_000;
@@ -37,8 +37,8 @@ fn read_executable<F: Files>(
         Ok(None) => Err(Outcome::Refused(Refusal::MissingFile {
             name: executable.copied(),
         })),
-        Err(dos_runner::tp_outside::ReadError::Failed) => Err(Outcome::FilesFault),
-        Err(dos_runner::tp_outside::ReadError::NoMemory) => Err(Outcome::NoMemory),
+        Err(tp_outside::ReadError::Failed) => Err(Outcome::FilesFault),
+        Err(tp_outside::ReadError::NoMemory) => Err(Outcome::NoMemory),
     }
 }
 

@@ -1,12 +1,12 @@
 //! The texts that words ask for.
 
 ghost use Rattle.std.specs.Prelude.{◌≡◌, ◌≤◌};
-ghost use Rattle.dos_runner.specs.tp_outside.Streams.{TakesPrefix};
+ghost use Rattle.tp_outside.specs.Streams.{TakesPrefix};
 ghost use Rattle.commands.specs.Performs.{Shown};
 ghost use Rattle.commands.specs.Texts.{help_text, version_text};
 
-use checked_front_end::front_end::outcomes::Outcome;
-use dos_runner::tp_outside::{Sink, write_all};
+use front_end::outcomes::Outcome;
+use tp_outside::{Sink, write_all};
 
 /// What words there are.
 #[tactic(auto, unfolding(crate::specs::Texts::help_text))]

@@ -1,13 +1,12 @@
 //! The top call.
 
 ghost use Rattle.std.specs.Prelude.{map, string_bytes};
-ghost use Rattle.commands.specs.Turbo.{Headline, Written, Complete, Prefixes, FilesAfter, Faults, Refused, Refuses, Unchanged, WentFiles, RanFiles, MeantFiles, Tells, EndsWithLine};
-ghost use Rattle.commands.specs.World.{world};
+ghost use Rattle.commands.specs.Specifications.{Promises};
 
 use crate::perform::perform;
-use checked_front_end::front_end::outcomes::{Outcome, write_line};
-use dos_runner::tp_outside::{Files, Sink, Source};
+use front_end::outcomes::{Outcome, write_line};
 use std::alloc::Global;
+use tp_outside::{Files, Sink, Source};
 
 /// Does what the words say, after the program's own name: `go NAME` reads the program's sources, writes its
 /// executable, and runs that; `run NAME` runs the program that stands in its executable and its overlay file; `mean NAME` shows what the
@@ -21,74 +20,31 @@ pub fn turbo<F: Files, S: Source, K: Sink, E: Sink>(
     output: &mut K,
     errors: &mut E,
 ) -> Outcome
-    ensures headline { Headline (map string_bytes words.now)
-        (world (F.folder files.old) (F.faults files.old) (S.remaining input.old) (K.contents output.old)
-        (E.contents errors.old) (S.faults input.old) (K.faults output.old) (E.faults errors.old))
-        (world (F.folder files.new) (F.faults files.new) (S.remaining input.new) (K.contents output.new)
-        (E.contents errors.new) (S.faults input.new) (K.faults output.new) (E.faults errors.new)) result }
-    ensures written { Written (map string_bytes words.now)
-        (world (F.folder files.old) (F.faults files.old) (S.remaining input.old) (K.contents output.old)
-        (E.contents errors.old) (S.faults input.old) (K.faults output.old) (E.faults errors.old))
-        (world (F.folder files.new) (F.faults files.new) (S.remaining input.new) (K.contents output.new)
-        (E.contents errors.new) (S.faults input.new) (K.faults output.new) (E.faults errors.new)) result }
-    ensures complete { Complete (map string_bytes words.now)
-        (world (F.folder files.old) (F.faults files.old) (S.remaining input.old) (K.contents output.old)
-        (E.contents errors.old) (S.faults input.old) (K.faults output.old) (E.faults errors.old))
-        (world (F.folder files.new) (F.faults files.new) (S.remaining input.new) (K.contents output.new)
-        (E.contents errors.new) (S.faults input.new) (K.faults output.new) (E.faults errors.new)) result }
-    ensures prefixes { Prefixes (map string_bytes words.now)
-        (world (F.folder files.old) (F.faults files.old) (S.remaining input.old) (K.contents output.old)
-        (E.contents errors.old) (S.faults input.old) (K.faults output.old) (E.faults errors.old))
-        (world (F.folder files.new) (F.faults files.new) (S.remaining input.new) (K.contents output.new)
-        (E.contents errors.new) (S.faults input.new) (K.faults output.new) (E.faults errors.new)) }
-    ensures files { FilesAfter (map string_bytes words.now)
-        (world (F.folder files.old) (F.faults files.old) (S.remaining input.old) (K.contents output.old)
-        (E.contents errors.old) (S.faults input.old) (K.faults output.old) (E.faults errors.old))
-        (world (F.folder files.new) (F.faults files.new) (S.remaining input.new) (K.contents output.new)
-        (E.contents errors.new) (S.faults input.new) (K.faults output.new) (E.faults errors.new)) }
-    ensures faults { Faults
-        (world (F.folder files.old) (F.faults files.old) (S.remaining input.old) (K.contents output.old)
-        (E.contents errors.old) (S.faults input.old) (K.faults output.old) (E.faults errors.old))
-        (world (F.folder files.new) (F.faults files.new) (S.remaining input.new) (K.contents output.new)
-        (E.contents errors.new) (S.faults input.new) (K.faults output.new) (E.faults errors.new)) result }
-    ensures refused { Refused (map string_bytes words.now)
-        (world (F.folder files.old) (F.faults files.old) (S.remaining input.old) (K.contents output.old)
-        (E.contents errors.old) (S.faults input.old) (K.faults output.old) (E.faults errors.old)) result }
-    ensures refuses { Refuses (map string_bytes words.now)
-        (world (F.folder files.old) (F.faults files.old) (S.remaining input.old) (K.contents output.old)
-        (E.contents errors.old) (S.faults input.old) (K.faults output.old) (E.faults errors.old))
-        (world (F.folder files.new) (F.faults files.new) (S.remaining input.new) (K.contents output.new)
-        (E.contents errors.new) (S.faults input.new) (K.faults output.new) (E.faults errors.new)) result }
-    ensures unchanged { Unchanged (map string_bytes words.now)
-        (world (F.folder files.old) (F.faults files.old) (S.remaining input.old) (K.contents output.old)
-        (E.contents errors.old) (S.faults input.old) (K.faults output.old) (E.faults errors.old))
-        (world (F.folder files.new) (F.faults files.new) (S.remaining input.new) (K.contents output.new)
-        (E.contents errors.new) (S.faults input.new) (K.faults output.new) (E.faults errors.new)) result }
-    ensures ran { RanFiles (map string_bytes words.now)
-        (world (F.folder files.old) (F.faults files.old) (S.remaining input.old) (K.contents output.old)
-        (E.contents errors.old) (S.faults input.old) (K.faults output.old) (E.faults errors.old))
-        (world (F.folder files.new) (F.faults files.new) (S.remaining input.new) (K.contents output.new)
-        (E.contents errors.new) (S.faults input.new) (K.faults output.new) (E.faults errors.new)) result }
-    ensures went { WentFiles (map string_bytes words.now)
-        (world (F.folder files.old) (F.faults files.old) (S.remaining input.old) (K.contents output.old)
-        (E.contents errors.old) (S.faults input.old) (K.faults output.old) (E.faults errors.old))
-        (world (F.folder files.new) (F.faults files.new) (S.remaining input.new) (K.contents output.new)
-        (E.contents errors.new) (S.faults input.new) (K.faults output.new) (E.faults errors.new)) result }
-    ensures meant { MeantFiles (map string_bytes words.now)
-        (world (F.folder files.old) (F.faults files.old) (S.remaining input.old) (K.contents output.old)
-        (E.contents errors.old) (S.faults input.old) (K.faults output.old) (E.faults errors.old))
-        (world (F.folder files.new) (F.faults files.new) (S.remaining input.new) (K.contents output.new)
-        (E.contents errors.new) (S.faults input.new) (K.faults output.new) (E.faults errors.new)) result }
-    ensures told { Tells (map string_bytes words.now)
-        (world (F.folder files.old) (F.faults files.old) (S.remaining input.old) (K.contents output.old)
-        (E.contents errors.old) (S.faults input.old) (K.faults output.old) (E.faults errors.old))
-        (world (F.folder files.new) (F.faults files.new) (S.remaining input.new) (K.contents output.new)
-        (E.contents errors.new) (S.faults input.new) (K.faults output.new) (E.faults errors.new)) result }
-    ensures line { EndsWithLine (map string_bytes words.now)
-        (world (F.folder files.old) (F.faults files.old) (S.remaining input.old) (K.contents output.old)
-        (E.contents errors.old) (S.faults input.old) (K.faults output.old) (E.faults errors.old))
-        (world (F.folder files.new) (F.faults files.new) (S.remaining input.new) (K.contents output.new)
-        (E.contents errors.new) (S.faults input.new) (K.faults output.new) (E.faults errors.new)) result }
+    ensures promises { Promises (map string_bytes words.now)
+        (record {
+          folder = F.folder files.old;
+          files_faults = F.faults files.old;
+          streams = record {
+            input = S.remaining input.old;
+            output = K.contents output.old;
+            errors = E.contents errors.old;
+            input_faults = S.faults input.old;
+            output_faults = K.faults output.old;
+            errors_faults = E.faults errors.old;
+          };
+        })
+        (record {
+          folder = F.folder files.new;
+          files_faults = F.faults files.new;
+          streams = record {
+            input = S.remaining input.new;
+            output = K.contents output.new;
+            errors = E.contents errors.new;
+            input_faults = S.faults input.new;
+            output_faults = K.faults output.new;
+            errors_faults = E.faults errors.new;
+          };
+        }) result }
 {
     let outcome = perform(alloc, words, files, input, output, errors);
     match write_line(errors, &outcome) {

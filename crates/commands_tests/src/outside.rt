@@ -1,10 +1,10 @@
 //! A command over objects in memory. Each step has a function of its own, since the proof of a function grows with what it holds at each of its exits.
 
-use commands::front_end::outcomes::Outcome;
-use commands::tp_outside::{MemoryFiles, MemorySink, MemorySource};
 use commands::turbo;
+use front_end::outcomes::Outcome;
 use std::alloc::{AllocError, Global};
 use std::test::Fail;
+use tp_outside::{MemoryFiles, MemorySink, MemorySource};
 
 /// For each object the number of its call that fails, counted from 1; 0 where none does.
 #[derive(Clone, Copy)]

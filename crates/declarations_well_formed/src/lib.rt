@@ -8,5 +8,5 @@ pub mod parts;
 pub mod tables;
 pub mod values;
 
-pub use bodies_well_formed::{syntax_tree, tp_lexer, well_formed};
+pub use bodies_well_formed::well_formed;
 pub use imported_types_agree;

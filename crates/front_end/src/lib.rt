@@ -8,4 +8,3 @@ pub mod source_interfaces;
 mod units;
 
 pub use program::{TypedSources, typed_program, typed_sources};
-pub use tp_outside;

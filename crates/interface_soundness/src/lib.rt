@@ -4,6 +4,3 @@
 pub mod interfaces;
 pub mod programs;
 pub mod tables;
-
-pub use front_end;
-pub use front_end::tp_outside;

@@ -5,4 +5,3 @@ pub mod determinism;
 pub mod interfaces;
 
 pub use interface_soundness;
-pub use interface_soundness::{front_end, tp_outside};

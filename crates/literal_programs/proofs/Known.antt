@@ -28,7 +28,7 @@ pub agrees : (program : Program) (statements : List Statement) (bytes : List ℕ
 agrees program statements bytes says always = record {
   executable = always.executable;
   fits = always.fits;
-  runs = λ buffer small fits input turns. subst (EndsAs bytes input) (sym (means statements program input turns says)) (always.runs buffer small fits input);
+  runs = λ input turns. subst (EndsAs bytes input) (sym (means statements program input turns says)) (always.runs input);
 }
 
 pub within : (program : Program) (statements : List Statement) (most : ℕ) (bytes input : List ℕ) (turns : ℕ) → Says program statements

@@ -5,3 +5,4 @@ pub mod ImageLaws
 pub mod Whole
 pub mod CodeLaws
 pub mod Pool
+pub mod Sizes

@@ -4,3 +4,4 @@ pub mod LiteralProgram
 pub mod Code
 pub mod Image
 pub mod Ends
+pub mod Size

@@ -1,4 +1,4 @@
-//! Files of objects and overlays, and the manager of overlays, against bytes that were written by hand.
+//! Files of objects and overlays, the ring of overlays and their manager, against bytes that were written by hand.
 
 #[cfg(test)]
 mod load_tests;
@@ -8,5 +8,7 @@ mod object_tests;
 mod opening_tests;
 #[cfg(test)]
 mod overlay_tests;
+#[cfg(test)]
+mod ring_tests;
 #[cfg(test)]
 mod service_tests;

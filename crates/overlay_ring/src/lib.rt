@@ -4,8 +4,6 @@
 mod ring;
 mod seat;
 mod seating;
-#[cfg(test)]
-mod tests;
 
 pub use ring::Ring;
 pub use seat::{Placement, Seat};

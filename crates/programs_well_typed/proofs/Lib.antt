@@ -1,4 +1,1 @@
 pub use Rattle.shared_types_agree.proofs.interfaces_consistent_proofs as interfaces_consistent_proofs
-pub use Rattle.shared_types_agree.proofs.tp_check_decl_proofs as tp_check_decl_proofs
-pub use Rattle.shared_types_agree.proofs.type_layout_proofs as type_layout_proofs
-pub use Rattle.shared_types_agree.proofs.unit_interface_proofs as unit_interface_proofs

@@ -3,8 +3,8 @@ use Rattle.std.proofs.Common.{refl, sym}
 use Rattle.flat_code.specs.Program.{FlatProgram, Choice}
 use Rattle.flat_code.specs.Legal.{StackFits}
 use Rattle.flat_code.specs.Runtime.{IsRuntime}
-use Rattle.rt_strings.specs.numbers.Specifications.{NumbersWork}
-use Rattle.rt_strings.proofs.numbers.Laws as law
+use Rattle.rt_strings.specs.long_integers.Specifications.{NumbersWork}
+use Rattle.rt_strings.proofs.long_integers.Laws as law
 use Rattle.rt_strings.specs.Unit.{strings_code, HoldsStrings}
 
 module _ (program : FlatProgram) (choice : Choice) (fits : StackFits program choice) (holds : HoldsStrings program) where

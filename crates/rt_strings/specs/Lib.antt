@@ -1,6 +1,6 @@
 pub mod Unit
 pub mod Specifications
-pub mod numbers
+pub mod long_integers
 pub mod set_constructors
 pub mod set_relations
 pub mod sets

@@ -2,8 +2,8 @@
 use Rattle.std.specs.Prelude.{◌≡◌, List, [], ◌∷◌, ◌++◌, Some, None, false, codes}
 use Rattle.flat_code.specs.Program.{Routine, UnitCode, FlatProgram, strings_unit}
 use Rattle.flat_code.specs.Runtime.{negation_routine}
-use Rattle.rt_strings.specs.numbers.Routines.{product_routine, less_routine, sum_routine, difference_routine, equal_routine, left_shift_routine, right_shift_routine, range_routine}
-use Rattle.rt_strings.specs.numbers.Division.{quotient_routine, remainder_routine}
+use Rattle.rt_strings.specs.long_integers.Routines.{product_routine, less_routine, sum_routine, difference_routine, equal_routine, left_shift_routine, right_shift_routine, range_routine}
+use Rattle.rt_strings.specs.long_integers.Division.{quotient_routine, remainder_routine}
 use Rattle.rt_strings.specs.short_strings.Routines.{assign_routine}
 use Rattle.rt_strings.specs.string_joins.Routines.{concat_routine, insert_routine}
 use Rattle.rt_strings.specs.string_parts.Routines.{copy_routine, delete_routine, upper_routine}

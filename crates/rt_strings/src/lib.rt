@@ -1,7 +1,7 @@
 //! The unit of the runtime's routines on numbers, strings and sets, as flat code.
 #![tactic(auto)]
 
-pub mod numbers;
+pub mod long_integers;
 pub mod set_constructors;
 pub mod set_relations;
 pub mod sets;
@@ -18,11 +18,11 @@ ghost use Rattle.flat_code.specs.Runtime.{IsRuntime};
 ghost use Rattle.flat_code.specs.Plain.{view_unit};
 ghost use Rattle.flat_code.specs.Weights.{unit_weight};
 ghost use Rattle.flat_code.specs.leaf_routines.Leaves.{AreLeaves};
-ghost use Rattle.rt_strings.specs.numbers.Specifications.{NumbersWork};
+ghost use Rattle.rt_strings.specs.long_integers.Specifications.{NumbersWork};
 ghost use Rattle.rt_strings.specs.Unit.{strings_code, HoldsStrings};
 ghost use Rattle.rt_strings.specs.Specifications.{StringsWork, SetsWork};
 
-use crate::numbers::{
+use crate::long_integers::{
     difference, equal, left_shift, less, negation, product, quotient, range, remainder,
     right_shift, sum,
 };

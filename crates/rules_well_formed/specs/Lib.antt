@@ -1,4 +1,3 @@
-pub use Rattle.call_rules.specs as call_rules
 pub use Rattle.well_formed.specs as well_formed
 pub mod allocations
 pub mod calls

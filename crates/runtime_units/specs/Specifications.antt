@@ -1,7 +1,7 @@
 -- What the runtime promises, whole: of each routine, and as a program starts.
 use Rattle.flat_code.specs.Program.{FlatProgram, Choice}
 use Rattle.flat_code.specs.Runtime.{IsRuntime}
-use Rattle.rt_strings.specs.numbers.Specifications.{NumbersWork}
+use Rattle.rt_strings.specs.long_integers.Specifications.{NumbersWork}
 use Rattle.rt_strings.specs.Specifications.{StringsWork, SetsWork}
 use Rattle.rt_text.specs.Specifications.{TextWorks, StartsText}
 use Rattle.heap_runtime.specs.Specifications.{HeapWorks, StartsHeap}

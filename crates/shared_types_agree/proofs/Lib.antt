@@ -4,7 +4,6 @@ pub use Rattle.interfaces_consistent.proofs as interfaces_consistent_proofs
 pub use Rattle.interfaces_consistent.proofs.source_graph_proofs as source_graph_proofs
 pub use Rattle.unit_references.proofs.store_typing_proofs as store_typing_proofs
 pub use Rattle.units_well_formed.proofs.tables_closed_proofs as tables_closed_proofs
-pub use Rattle.units_well_formed.proofs.tp_check_decl_proofs as tp_check_decl_proofs
 pub use Rattle.unit_references.proofs.type_layout_proofs as type_layout_proofs
 pub use Rattle.units_well_formed.proofs.unit_interface_proofs as unit_interface_proofs
 pub use Rattle.units_well_formed.proofs as units_well_formed_proofs

@@ -4,7 +4,6 @@ pub use Rattle.units_well_formed.specs.declaration_checker as declaration_checke
 pub use Rattle.units_well_formed.specs.declarations_well_formed as declarations_well_formed
 pub use Rattle.interfaces_consistent.specs.front_end as front_end
 pub use Rattle.interfaces_consistent.specs as interfaces_consistent
-pub use Rattle.unit_references.specs.object_vmt as object_vmt
 pub use Rattle.unit_references.specs.program_typing as program_typing
 pub use Rattle.units_well_formed.specs.scopes as scopes
 pub use Rattle.interfaces_consistent.specs.source_graph as source_graph

@@ -1,13 +1,12 @@
 //! Typed statements in short.
 
-use crate::line::{Line, put};
-use crate::shown_expressions::{
-    put_numbered, show_args, show_expr, show_place, show_routine, show_slot, show_type,
-    show_variable,
-};
 use type_layout::TypeId;
 use typed_tree::{
     Arm, Destructor, Expr, LabelRange, PlaceExpr, ReadItem, Stmt, Variable, WriteItem,
+};
+use typing_samples::{
+    Line, put, put_numbered, show_args, show_expr, show_place, show_routine, show_slot, show_type,
+    show_variable,
 };
 
 /// One of two texts.

@@ -1,27 +1,27 @@
 -- Sources are judged lawfully.
 use Rattle.std.proofs.Common.{◌≡◌, ℕ, ◌≤◌, nat_le, true, false, not, List, [], ◌∷◌, ◌++◌, Option, Some, None, drop}
 use Rattle.std.proofs.lemmas.Bool.{leb-true, le-leb}
-use Rattle.unit_interface.specs.type_layout.declared.definitions.TypeDef.{TypeDef}
-use Rattle.unit_interface.specs.type_layout.declared.texts.Place.{Place}
-use Rattle.tp_check_stmt.specs.syntax_tree.declared.identifier.Identifier.{Identifier}
-use Rattle.tp_check_stmt.specs.syntax_tree.declared.statement.CompoundStatement.{CompoundStatement}
-use Rattle.tp_check_stmt.specs.tp_lexer.declared.source_directives.collected.Overlaid.{Overlaid}
-use Rattle.tp_check_stmt.specs.tp_lexer.declared.source_directives.collected.Directives.{Directives}
-use Rattle.tp_check_stmt.specs.syntax_tree.declared.source_tree.source.InterfaceDeclaration.{InterfaceDeclaration}
-use Rattle.tp_check_stmt.specs.syntax_tree.declared.source_tree.source.InterfaceDeclaration.TheVariants as i
-use Rattle.tp_check_stmt.specs.syntax_tree.declared.source_tree.source.Tree.{Tree}
-use Rattle.tp_check_stmt.specs.syntax_tree.declared.source_tree.source.Tree.TheVariants as t
-use Rattle.unit_interface.specs.typed_tree.declared.units.Item.{Item}
-use Rattle.unit_interface.specs.scopes.Environment.{Environment}
+use Rattle.type_layout.specs.declared.definitions.TypeDef.{TypeDef}
+use Rattle.type_layout.specs.declared.texts.Place.{Place}
+use Rattle.syntax_tree.specs.declared.identifier.Identifier.{Identifier}
+use Rattle.syntax_tree.specs.declared.statement.CompoundStatement.{CompoundStatement}
+use Rattle.tp_lexer.specs.declared.source_directives.collected.Overlaid.{Overlaid}
+use Rattle.tp_lexer.specs.declared.source_directives.collected.Directives.{Directives}
+use Rattle.syntax_tree.specs.declared.source_tree.source.InterfaceDeclaration.{InterfaceDeclaration}
+use Rattle.syntax_tree.specs.declared.source_tree.source.InterfaceDeclaration.TheVariants as i
+use Rattle.syntax_tree.specs.declared.source_tree.source.Tree.{Tree}
+use Rattle.syntax_tree.specs.declared.source_tree.source.Tree.TheVariants as t
+use Rattle.typed_tree.specs.declared.units.Item.{Item}
+use Rattle.scopes.specs.Environment.{Environment}
 use Rattle.unit_interface.specs.declared.interfaces.Interface.{Interface}
 use Rattle.unit_interface.specs.Resolve.{with_use}
 use Rattle.unit_interface.specs.Fitting.{use_fits}
-use Rattle.tp_check_stmt.specs.typing_rules.declared.faults.Rule.TheVariants as rules
-use Rattle.tp_check_stmt.specs.typing_rules.Faults.{broken, too_large}
-use Rattle.tp_check_stmt.specs.typing_rules.Judgements.{Judgement, makes, part}
-use Rattle.tp_check_stmt.specs.typing_rules.Selectors.{asking}
-use Rattle.tp_check_stmt.specs.typing_rules.Laws.{Lawful}
-use Rattle.tp_check_stmt.proofs.typing_rules_proofs.JudgementLaws.{lawful_makes, lawful_refuses, lawful_rule, lawful_part, lawful_parts}
+use Rattle.typing_rules.specs.declared.faults.Rule.TheVariants as rules
+use Rattle.typing_rules.specs.Faults.{broken, too_large}
+use Rattle.typing_rules.specs.Judgements.{Judgement, makes, part}
+use Rattle.typing_rules.specs.Selectors.{asking}
+use Rattle.typing_rules.specs.Laws.{Lawful}
+use Rattle.typing_rules.proofs.JudgementLaws.{lawful_makes, lawful_refuses, lawful_rule, lawful_part, lawful_parts}
 use Rattle.declaration_checker.proofs.headers.HeaderLaws.{tells_not}
 use Rattle.tp_check_decl.specs.declared.routines.drafts.Announced.{Announced}
 use Rattle.tp_check_decl.specs.routines.Trees.{Works, view_declarations}

@@ -1,12 +1,12 @@
 -- Routines that are finished one after the other.
 use Rattle.std.proofs.Common.{◌≡◌, ◌∙◌, List, [], ◌∷◌, ◌++◌, length, Result, Ok, refl, sym, ap, append-nil, arith}
-use Rattle.unit_interface.specs.type_layout.declared.definitions.TypeDef.{TypeDef}
-use Rattle.tp_check_stmt.specs.typing_rules.declared.faults.Fault.{Fault}
-use Rattle.tp_check_stmt.specs.typing_rules.declared.faults.Refusal.{Refusal}
-use Rattle.tp_check_stmt.specs.typing_rules.declared.faults.Refusal.TheVariants as refusal
-use Rattle.tp_check_stmt.specs.typing_rules.Judgements.{FailsAs}
-use Rattle.tp_check_stmt.specs.call_rules.Lists.{behind}
-use Rattle.tp_check_stmt.proofs.call_rules_proofs.ListLaws.{step, stop}
+use Rattle.type_layout.specs.declared.definitions.TypeDef.{TypeDef}
+use Rattle.typing_rules.specs.declared.faults.Fault.{Fault}
+use Rattle.typing_rules.specs.declared.faults.Refusal.{Refusal}
+use Rattle.typing_rules.specs.declared.faults.Refusal.TheVariants as refusal
+use Rattle.typing_rules.specs.Judgements.{FailsAs}
+use Rattle.call_rules.specs.Lists.{behind}
+use Rattle.call_rules.proofs.ListLaws.{step, stop}
 use Rattle.tp_check_decl.specs.routines.Drafts.{Numbered}
 use Rattle.tp_check_decl.specs.Units.{Finished}
 use Rattle.tp_check_decl.specs.Endings.{finished_by, all_finished}

@@ -2,9 +2,9 @@
 use Rattle.std.proofs.Common.{◌≡◌, ◌∙◌, ℕ, suc, ◌+◌, List, ◌∷◌, ◌++◌, Some, get_or, drop, slice_get, sym, ap, append_assoc, arith}
 use Rattle.std.proofs.Math.Seq.{drop-cons}
 use Rattle.std.proofs.lemmas.Option.{slice_get_within, get_or_from_slice_get}
-use Rattle.unit_interface.specs.typed_tree.declared.units.Item.{Item}
-use Rattle.unit_interface.specs.scopes.declared.entries.Entry.{Entry}
-use Rattle.unit_interface.specs.scopes.Symbols.{SymbolList}
+use Rattle.typed_tree.specs.declared.units.Item.{Item}
+use Rattle.scopes.specs.declared.entries.Entry.{Entry}
+use Rattle.scopes.specs.Symbols.{SymbolList}
 use Rattle.tp_check_decl.specs.Interfaces.{item_of, items_in}
 
 cut : {X : Type 0} (xs : List X) (i : ℕ) (x : X) → slice_get xs i ≡ Some x → drop i xs ≡ x ∷ drop (i + 1) xs

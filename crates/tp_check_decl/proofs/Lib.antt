@@ -1,4 +1,4 @@
-pub use Rattle.unit_interface.proofs.type_layout_proofs as type_layout_proofs
+pub use Rattle.type_layout.proofs as type_layout_proofs
 pub use Rattle.unit_interface.proofs as unit_interface_proofs
 pub mod CheckLaws
 mod Finishing

@@ -1,16 +1,16 @@
 -- Units and interfaces have the name of the file.
 use Rattle.std.proofs.Common.{◌≡◌, ℕ, List, [], Option, Some, None, Result, Ok, Err, IfOk, ap}
-use Rattle.tp_check_stmt.specs.syntax_tree.declared.statement.CompoundStatement.{CompoundStatement}
-use Rattle.tp_check_stmt.specs.syntax_tree.declared.source_tree.source.Tree.{Tree}
-use Rattle.tp_check_stmt.specs.syntax_tree.declared.source_tree.source.Tree.TheVariants as t
-use Rattle.tp_check_stmt.specs.tp_lexer.declared.source_directives.collected.Directives.{Directives}
-use Rattle.unit_interface.specs.typed_tree.declared.units.Item.{Item}
-use Rattle.unit_interface.specs.typed_tree.declared.units.Unit as typed
-use Rattle.unit_interface.specs.scopes.Environment.{Environment}
-use Rattle.tp_check_stmt.specs.typing_rules.declared.faults.Refusal.{Refusal}
-use Rattle.tp_check_stmt.specs.typing_rules.Faults.{answer_of}
-use Rattle.tp_check_stmt.specs.typing_rules.Judgements.{Gives}
-use Rattle.tp_check_stmt.proofs.typing_rules_proofs.JudgementLaws.{typed_answer}
+use Rattle.syntax_tree.specs.declared.statement.CompoundStatement.{CompoundStatement}
+use Rattle.syntax_tree.specs.declared.source_tree.source.Tree.{Tree}
+use Rattle.syntax_tree.specs.declared.source_tree.source.Tree.TheVariants as t
+use Rattle.tp_lexer.specs.declared.source_directives.collected.Directives.{Directives}
+use Rattle.typed_tree.specs.declared.units.Item.{Item}
+use Rattle.typed_tree.specs.declared.units.Unit as typed
+use Rattle.scopes.specs.Environment.{Environment}
+use Rattle.typing_rules.specs.declared.faults.Refusal.{Refusal}
+use Rattle.typing_rules.specs.Faults.{answer_of}
+use Rattle.typing_rules.specs.Judgements.{Gives}
+use Rattle.typing_rules.proofs.JudgementLaws.{typed_answer}
 use Rattle.tp_check_decl.specs.routines.Drafts.{Drafted}
 use Rattle.unit_interface.specs.declared.interfaces.Interface.{Interface}
 use Rattle.unit_interface.specs.Exports.{IsInterfaceOf}

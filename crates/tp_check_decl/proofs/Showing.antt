@@ -1,14 +1,14 @@
 -- What a source shows, by the unit of its interface part.
 use Rattle.std.proofs.Common.{◌≡◌, Ok, Err, subst, sym}
-use Rattle.unit_interface.specs.typed_tree.declared.units.Unit as typed
+use Rattle.typed_tree.specs.declared.units.Unit as typed
 use Rattle.unit_interface.specs.declared.interfaces.Interface.{Interface}
 use Rattle.unit_interface.specs.Exports.{IsInterfaceOf}
-use Rattle.tp_check_stmt.specs.typing_rules.declared.faults.Refusal.{Refusal}
-use Rattle.tp_check_stmt.specs.typing_rules.declared.faults.Refusal.TheVariants as refusal
-use Rattle.tp_check_stmt.specs.typing_rules.Faults.{error_for, IsAnswered}
-use Rattle.tp_check_stmt.specs.typing_rules.Judgements.{Judgement, FailsAs}
-use Rattle.tp_check_stmt.specs.typing_rules.Laws.{Lawful}
-use Rattle.tp_check_stmt.proofs.typing_rules_proofs.JudgementLaws.{typed_answer, complete_answer, is_fault, excluded}
+use Rattle.typing_rules.specs.declared.faults.Refusal.{Refusal}
+use Rattle.typing_rules.specs.declared.faults.Refusal.TheVariants as refusal
+use Rattle.typing_rules.specs.Faults.{error_for, IsAnswered}
+use Rattle.typing_rules.specs.Judgements.{Judgement, FailsAs}
+use Rattle.typing_rules.specs.Laws.{Lawful}
+use Rattle.typing_rules.proofs.JudgementLaws.{typed_answer, complete_answer, is_fault, excluded}
 use Rattle.tp_check_decl.specs.Units.{Whole, view_unit}
 use Rattle.tp_check_decl.specs.Shown.{Shows}
 

@@ -2,25 +2,25 @@
 use Rattle.std.proofs.Common.{◌≡◌, ℕ, zero, suc, ◌+◌, ◌<◌, ◌≤◌, ◌^◌, true, List, [], ◌∷◌, ◌++◌, map, length, Option, Some, None, Result, Ok, Err, IfOk, refl, sym, subst, arith, length-append}
 use Rattle.std.proofs.lemmas.List.{length-map}
 use Rattle.std.specs.Prelude.{All, slice_get, ◌-◌, min}
-use Rattle.unit_interface.specs.type_layout.declared.definitions.TypeDef.{TypeDef}
-use Rattle.unit_interface.specs.type_layout.declared.definitions.Kind.TheVariants as kind
-use Rattle.tp_check_stmt.specs.syntax_tree.declared.statement.CompoundStatement.{CompoundStatement}
-use Rattle.tp_check_stmt.specs.syntax_tree.declared.source_tree.source.Tree.{Tree}
-use Rattle.tp_check_stmt.specs.syntax_tree.declared.source_tree.source.Tree.TheVariants as t
-use Rattle.tp_check_stmt.specs.tp_lexer.declared.source_directives.collected.Directives.{Directives}
-use Rattle.unit_interface.specs.typed_tree.declared.units.Item.{Item}
-use Rattle.unit_interface.specs.typed_tree.declared.units.Routine.{Routine}
-use Rattle.unit_interface.specs.typed_tree.declared.units.Unit as typed
-use Rattle.unit_interface.specs.typed_tree.Statements.{view_stmt}
-use Rattle.unit_interface.specs.typed_tree.Needs.{statement_need}
-use Rattle.unit_interface.specs.scopes.Members.{narrow}
-use Rattle.unit_interface.specs.scopes.Environment.{Environment}
-use Rattle.unit_interface.specs.typed_tree.type_fits.Routines.{IsInitial, HasInitial}
-use Rattle.tp_check_stmt.specs.typing_rules.declared.faults.Refusal.{Refusal}
+use Rattle.type_layout.specs.declared.definitions.TypeDef.{TypeDef}
+use Rattle.type_layout.specs.declared.definitions.Kind.TheVariants as kind
+use Rattle.syntax_tree.specs.declared.statement.CompoundStatement.{CompoundStatement}
+use Rattle.syntax_tree.specs.declared.source_tree.source.Tree.{Tree}
+use Rattle.syntax_tree.specs.declared.source_tree.source.Tree.TheVariants as t
+use Rattle.tp_lexer.specs.declared.source_directives.collected.Directives.{Directives}
+use Rattle.typed_tree.specs.declared.units.Item.{Item}
+use Rattle.typed_tree.specs.declared.units.Routine.{Routine}
+use Rattle.typed_tree.specs.declared.units.Unit as typed
+use Rattle.typed_tree.specs.Statements.{view_stmt}
+use Rattle.typed_tree.specs.Needs.{statement_need}
+use Rattle.scopes.specs.Members.{narrow}
+use Rattle.scopes.specs.Environment.{Environment}
+use Rattle.typed_tree.specs.type_fits.Routines.{IsInitial, HasInitial}
+use Rattle.typing_rules.specs.declared.faults.Refusal.{Refusal}
 use Rattle.unit_interface.specs.declared.interfaces.Interface.{Interface}
-use Rattle.tp_check_stmt.specs.typing_rules.Faults.{answer_of}
-use Rattle.tp_check_stmt.specs.typing_rules.Judgements.{Gives}
-use Rattle.tp_check_stmt.proofs.typing_rules_proofs.JudgementLaws.{typed_answer}
+use Rattle.typing_rules.specs.Faults.{answer_of}
+use Rattle.typing_rules.specs.Judgements.{Gives}
+use Rattle.typing_rules.proofs.JudgementLaws.{typed_answer}
 use Rattle.tp_check_decl.specs.declared.routines.drafts.Announced.{Announced}
 use Rattle.tp_check_decl.specs.routines.Drafts.{Drafted, Done, Numbered}
 use Rattle.tp_check_decl.specs.declared.fronts.Front.{Front}

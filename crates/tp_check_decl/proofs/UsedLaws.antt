@@ -1,12 +1,12 @@
 -- The scope behind further used units.
 use Rattle.std.proofs.Common.{◌≡◌, ◌∙◌, List, [], ◌∷◌, map, Ok, refl, ap}
-use Rattle.tp_check_stmt.specs.syntax_tree.declared.identifier.Identifier.{Identifier}
-use Rattle.unit_interface.specs.scopes.Environment.{Environment}
+use Rattle.syntax_tree.specs.declared.identifier.Identifier.{Identifier}
+use Rattle.scopes.specs.Environment.{Environment}
 use Rattle.unit_interface.specs.declared.interfaces.Interface.{Interface}
 use Rattle.unit_interface.specs.Resolve.{with_uses}
-use Rattle.tp_check_stmt.specs.typing_rules.declared.faults.Refusal.{Refusal}
-use Rattle.tp_check_stmt.specs.typing_rules.declared.faults.Refusal.TheVariants as refusal
-use Rattle.tp_check_stmt.specs.typing_rules.Judgements.{Judgement, part, FailsAs}
+use Rattle.typing_rules.specs.declared.faults.Refusal.{Refusal}
+use Rattle.typing_rules.specs.declared.faults.Refusal.TheVariants as refusal
+use Rattle.typing_rules.specs.Judgements.{Judgement, part, FailsAs}
 use Rattle.tp_check_decl.specs.Interfaces.{all_used}
 
 -- It is the scope with what each of them brings, one after the other.

@@ -1,12 +1,12 @@
 -- Sources.
 use Rattle.std.specs.Prelude.{ℕ, List}
-use Rattle.tp_check_stmt.specs.tp_lexer.declared.source_directives.collected.Directives.{Directives}
-use Rattle.tp_check_stmt.specs.syntax_tree.declared.source_tree.source.Tree.{Tree}
-use Rattle.tp_check_stmt.specs.syntax_tree.declared.source_tree.source.Tree.TheVariants as t
-use Rattle.unit_interface.specs.scopes.Environment.{Environment}
+use Rattle.tp_lexer.specs.declared.source_directives.collected.Directives.{Directives}
+use Rattle.syntax_tree.specs.declared.source_tree.source.Tree.{Tree}
+use Rattle.syntax_tree.specs.declared.source_tree.source.Tree.TheVariants as t
+use Rattle.scopes.specs.Environment.{Environment}
 use Rattle.unit_interface.specs.declared.interfaces.Interface.{Interface}
-use Rattle.tp_check_stmt.specs.typing_rules.declared.faults.Fault.{Fault}
-use Rattle.tp_check_stmt.specs.typing_rules.Judgements.{Judgement}
+use Rattle.typing_rules.specs.declared.faults.Fault.{Fault}
+use Rattle.typing_rules.specs.Judgements.{Judgement}
 use Rattle.tp_check_decl.specs.routines.Trees.{view_declarations}
 use Rattle.tp_check_decl.specs.Units.{Whole}
 use Rattle.tp_check_decl.specs.Programs.{program_judged}

@@ -1,14 +1,14 @@
 -- Units behind their declarations.
 use Rattle.std.specs.Prelude.{ℕ, List, [], ◌∷◌, ◌++◌, Option, Some, None, length}
-use Rattle.unit_interface.specs.type_layout.declared.definitions.TypeDef.{TypeDef}
-use Rattle.tp_check_stmt.specs.syntax_tree.declared.statement.CompoundStatement.{CompoundStatement}
-use Rattle.unit_interface.specs.typed_tree.declared.units.Item.{Item}
-use Rattle.unit_interface.specs.scopes.Members.{narrow}
-use Rattle.unit_interface.specs.scopes.Environment.{Environment}
-use Rattle.tp_check_stmt.specs.typing_rules.declared.faults.Rule.TheVariants as rules
-use Rattle.tp_check_stmt.specs.typing_rules.Faults.{broken}
-use Rattle.tp_check_stmt.specs.typing_rules.Judgements.{Judgement, makes, refuses, part, parts}
-use Rattle.tp_check_stmt.specs.typing_rules.Selectors.{asking}
+use Rattle.type_layout.specs.declared.definitions.TypeDef.{TypeDef}
+use Rattle.syntax_tree.specs.declared.statement.CompoundStatement.{CompoundStatement}
+use Rattle.typed_tree.specs.declared.units.Item.{Item}
+use Rattle.scopes.specs.Members.{narrow}
+use Rattle.scopes.specs.Environment.{Environment}
+use Rattle.typing_rules.specs.declared.faults.Rule.TheVariants as rules
+use Rattle.typing_rules.specs.Faults.{broken}
+use Rattle.typing_rules.specs.Judgements.{Judgement, makes, refuses, part, parts}
+use Rattle.typing_rules.specs.Selectors.{asking}
 use Rattle.tp_check_decl.specs.declared.routines.drafts.Announced.{Announced}
 use Rattle.tp_check_decl.specs.routines.Drafts.{Drafted, Done, Numbered}
 use Rattle.tp_check_decl.specs.routines.Insides.{statements_of}

@@ -1,14 +1,14 @@
 -- What stands in front of the declarations of a source: the units that it uses, and what its directives say.
 use Rattle.std.specs.Prelude.{◌≡◌, ℕ, Bool, true, false, not, ◌&&◌, ◌||◌, cond, codes, List, [], ◌∷◌, ◌++◌}
 use Rattle.std.specs.List.{list_any}
-use Rattle.unit_interface.specs.type_layout.Words.{same_bytes}
-use Rattle.tp_check_stmt.specs.syntax_tree.declared.identifier.Identifier.{Identifier}
-use Rattle.tp_check_stmt.specs.tp_lexer.declared.source_directives.collected.Overlaid.{Overlaid}
-use Rattle.tp_check_stmt.specs.tp_lexer.declared.source_directives.collected.Directives.{Directives}
-use Rattle.tp_check_stmt.specs.typing_rules.declared.faults.Rule.TheVariants as rules
-use Rattle.tp_check_stmt.specs.typing_rules.Faults.{broken}
-use Rattle.tp_check_stmt.specs.typing_rules.Judgements.{Judgement, makes, rule, part}
-use Rattle.tp_check_stmt.specs.typing_rules.Selectors.{asking}
+use Rattle.type_layout.specs.Words.{same_bytes}
+use Rattle.syntax_tree.specs.declared.identifier.Identifier.{Identifier}
+use Rattle.tp_lexer.specs.declared.source_directives.collected.Overlaid.{Overlaid}
+use Rattle.tp_lexer.specs.declared.source_directives.collected.Directives.{Directives}
+use Rattle.typing_rules.specs.declared.faults.Rule.TheVariants as rules
+use Rattle.typing_rules.specs.Faults.{broken}
+use Rattle.typing_rules.specs.Judgements.{Judgement, makes, rule, part}
+use Rattle.typing_rules.specs.Selectors.{asking}
 use Rattle.tp_check_decl.specs.declared.fronts.Front.{Front}
 
 abbrev pub is_system : List ℕ → Bool

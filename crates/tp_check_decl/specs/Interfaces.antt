@@ -1,24 +1,24 @@
 -- Interface parts, and units.
 use Rattle.std.specs.Prelude.{◌≡◌, ℕ, Bool, true, not, ◌&&◌, ◌||◌, List, [], ◌∷◌, ◌++◌, Option, Some, None, drop}
-use Rattle.unit_interface.specs.type_layout.Words.{same_bytes}
-use Rattle.tp_check_stmt.specs.syntax_tree.declared.identifier.Identifier.{Identifier}
-use Rattle.tp_check_stmt.specs.syntax_tree.declared.statement.CompoundStatement.{CompoundStatement}
-use Rattle.tp_check_stmt.specs.syntax_tree.declared.source_tree.source.InterfaceDeclaration.{InterfaceDeclaration}
-use Rattle.tp_check_stmt.specs.syntax_tree.declared.source_tree.source.InterfaceDeclaration.TheVariants as i
-use Rattle.tp_check_stmt.specs.tp_lexer.declared.source_directives.collected.Directives.{Directives}
-use Rattle.unit_interface.specs.typed_tree.declared.units.Item.{Item}
-use Rattle.unit_interface.specs.typed_tree.declared.units.Item.TheVariants as item
-use Rattle.unit_interface.specs.scopes.declared.entries.Entry.{Entry}
-use Rattle.unit_interface.specs.scopes.declared.entries.Entry.TheVariants as entry
-use Rattle.unit_interface.specs.scopes.Symbols.{SymbolList}
-use Rattle.unit_interface.specs.scopes.Environment.{Environment, own_symbols}
+use Rattle.type_layout.specs.Words.{same_bytes}
+use Rattle.syntax_tree.specs.declared.identifier.Identifier.{Identifier}
+use Rattle.syntax_tree.specs.declared.statement.CompoundStatement.{CompoundStatement}
+use Rattle.syntax_tree.specs.declared.source_tree.source.InterfaceDeclaration.{InterfaceDeclaration}
+use Rattle.syntax_tree.specs.declared.source_tree.source.InterfaceDeclaration.TheVariants as i
+use Rattle.tp_lexer.specs.declared.source_directives.collected.Directives.{Directives}
+use Rattle.typed_tree.specs.declared.units.Item.{Item}
+use Rattle.typed_tree.specs.declared.units.Item.TheVariants as item
+use Rattle.scopes.specs.declared.entries.Entry.{Entry}
+use Rattle.scopes.specs.declared.entries.Entry.TheVariants as entry
+use Rattle.scopes.specs.Symbols.{SymbolList}
+use Rattle.scopes.specs.Environment.{Environment, own_symbols}
 use Rattle.unit_interface.specs.declared.interfaces.Interface.{Interface}
 use Rattle.unit_interface.specs.Resolve.{with_use}
 use Rattle.unit_interface.specs.Fitting.{use_fits}
-use Rattle.tp_check_stmt.specs.typing_rules.declared.faults.Rule.TheVariants as rules
-use Rattle.tp_check_stmt.specs.typing_rules.Faults.{broken}
-use Rattle.tp_check_stmt.specs.typing_rules.Judgements.{Judgement, makes, rule, part}
-use Rattle.tp_check_stmt.specs.typing_rules.Selectors.{asking}
+use Rattle.typing_rules.specs.declared.faults.Rule.TheVariants as rules
+use Rattle.typing_rules.specs.Faults.{broken}
+use Rattle.typing_rules.specs.Judgements.{Judgement, makes, rule, part}
+use Rattle.typing_rules.specs.Selectors.{asking}
 use Rattle.tp_check_decl.specs.routines.Trees.{Works}
 use Rattle.tp_check_decl.specs.routines.Drafts.{Drafted, knowing, Stage, stage}
 use Rattle.tp_check_decl.specs.routines.Headings.{heading}

@@ -1,14 +1,14 @@
 -- The limit on what a routine takes of the stack.
 use Rattle.std.specs.Prelude.{ℕ, ◌+◌, ◌≤◌, nat_le, List, sum_by}
-use Rattle.unit_interface.specs.type_layout.declared.definitions.TypeDef.{TypeDef}
-use Rattle.unit_interface.specs.type_layout.declared.texts.Place.{Place}
-use Rattle.unit_interface.specs.typed_tree.Slots.{capped}
-use Rattle.unit_interface.specs.typed_tree.Needs.{statement_need}
-use Rattle.unit_interface.specs.typed_tree.declared.units.Routine.{Routine}
-use Rattle.unit_interface.specs.typed_tree.Frames as frames
-use Rattle.unit_interface.specs.typed_tree.Frames.{even_size, copy_bytes, result_bytes}
-use Rattle.tp_check_stmt.specs.typing_rules.Faults.{too_large}
-use Rattle.tp_check_stmt.specs.typing_rules.Judgements.{Judgement, rule}
+use Rattle.type_layout.specs.declared.definitions.TypeDef.{TypeDef}
+use Rattle.type_layout.specs.declared.texts.Place.{Place}
+use Rattle.typed_tree.specs.Slots.{capped}
+use Rattle.typed_tree.specs.Needs.{statement_need}
+use Rattle.typed_tree.specs.declared.units.Routine.{Routine}
+use Rattle.typed_tree.specs.Frames as frames
+use Rattle.typed_tree.specs.Frames.{even_size, copy_bytes, result_bytes}
+use Rattle.typing_rules.specs.Faults.{too_large}
+use Rattle.typing_rules.specs.Judgements.{Judgement, rule}
 use Rattle.tp_check_decl.specs.Units.{Finished}
 
 -- the variables of a routine, its copies of arguments, and a result that is no string

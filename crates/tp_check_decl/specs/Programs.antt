@@ -1,15 +1,15 @@
 -- Programs.
 use Rattle.std.specs.Prelude.{◌≡◌, ℕ, Bool, true, not, ◌||◌, List, [], Option, Some, None}
-use Rattle.unit_interface.specs.type_layout.declared.texts.Place.{Place}
-use Rattle.tp_check_stmt.specs.syntax_tree.declared.identifier.Identifier.{Identifier}
-use Rattle.tp_check_stmt.specs.syntax_tree.declared.statement.CompoundStatement.{CompoundStatement}
-use Rattle.tp_check_stmt.specs.tp_lexer.declared.source_directives.collected.Directives.{Directives}
-use Rattle.unit_interface.specs.scopes.declared.entries.BlockKind.TheVariants.{Part}
-use Rattle.unit_interface.specs.scopes.Environment.{Environment, with_block}
-use Rattle.tp_check_stmt.specs.typing_rules.declared.faults.Rule.TheVariants as rules
-use Rattle.tp_check_stmt.specs.typing_rules.Faults.{broken}
-use Rattle.tp_check_stmt.specs.typing_rules.Judgements.{Judgement, makes, rule, part}
-use Rattle.tp_check_stmt.specs.typing_rules.Selectors.{asking}
+use Rattle.type_layout.specs.declared.texts.Place.{Place}
+use Rattle.syntax_tree.specs.declared.identifier.Identifier.{Identifier}
+use Rattle.syntax_tree.specs.declared.statement.CompoundStatement.{CompoundStatement}
+use Rattle.tp_lexer.specs.declared.source_directives.collected.Directives.{Directives}
+use Rattle.scopes.specs.declared.entries.BlockKind.TheVariants.{Part}
+use Rattle.scopes.specs.Environment.{Environment, with_block}
+use Rattle.typing_rules.specs.declared.faults.Rule.TheVariants as rules
+use Rattle.typing_rules.specs.Faults.{broken}
+use Rattle.typing_rules.specs.Judgements.{Judgement, makes, rule, part}
+use Rattle.typing_rules.specs.Selectors.{asking}
 use Rattle.declaration_checker.specs.declared.declarations.homes.Home.TheVariants as home
 use Rattle.tp_check_decl.specs.declared.routines.drafts.Site.{Site}
 use Rattle.tp_check_decl.specs.routines.Trees.{Works}

@@ -1,16 +1,16 @@
 -- What a source shows to those that use it, by its interface part alone.
 use Rattle.std.specs.Prelude.{ℕ, List, [], None}
-use Rattle.tp_check_stmt.specs.syntax_tree.declared.identifier.Identifier.{Identifier}
-use Rattle.tp_check_stmt.specs.syntax_tree.declared.source_tree.source.InterfaceDeclaration.{InterfaceDeclaration}
-use Rattle.tp_check_stmt.specs.syntax_tree.declared.source_tree.source.Tree.{Tree}
-use Rattle.tp_check_stmt.specs.syntax_tree.declared.source_tree.source.Tree.TheVariants as t
-use Rattle.tp_check_stmt.specs.tp_lexer.declared.source_directives.collected.Directives.{Directives}
-use Rattle.unit_interface.specs.typed_tree.declared.units.Unit as typed
-use Rattle.unit_interface.specs.scopes.Environment.{Environment}
+use Rattle.syntax_tree.specs.declared.identifier.Identifier.{Identifier}
+use Rattle.syntax_tree.specs.declared.source_tree.source.InterfaceDeclaration.{InterfaceDeclaration}
+use Rattle.syntax_tree.specs.declared.source_tree.source.Tree.{Tree}
+use Rattle.syntax_tree.specs.declared.source_tree.source.Tree.TheVariants as t
+use Rattle.tp_lexer.specs.declared.source_directives.collected.Directives.{Directives}
+use Rattle.typed_tree.specs.declared.units.Unit as typed
+use Rattle.scopes.specs.Environment.{Environment}
 use Rattle.unit_interface.specs.declared.interfaces.Interface.{Interface}
 use Rattle.unit_interface.specs.Exports.{IsInterfaceOf}
-use Rattle.tp_check_stmt.specs.typing_rules.declared.faults.Fault.{Fault}
-use Rattle.tp_check_stmt.specs.typing_rules.Judgements.{Judgement, makes, part}
+use Rattle.typing_rules.specs.declared.faults.Fault.{Fault}
+use Rattle.typing_rules.specs.Judgements.{Judgement, makes, part}
 use Rattle.tp_check_decl.specs.Units.{Whole, whole}
 use Rattle.tp_check_decl.specs.Fronts.{front_judged}
 use Rattle.tp_check_decl.specs.Interfaces.{items_of, interface_judged, unit_front}

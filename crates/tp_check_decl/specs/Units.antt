@@ -1,15 +1,15 @@
 -- Typed units without where their statements lie in memory.
 use Rattle.std.specs.Prelude.{ℕ, Bool, true, List, [], map, Option, None}
-use Rattle.unit_interface.specs.type_layout.declared.definitions.TypeId.{TypeId}
-use Rattle.unit_interface.specs.type_layout.declared.definitions.Header.{Header}
-use Rattle.unit_interface.specs.type_layout.declared.definitions.Kind.TheVariants as kind
-use Rattle.unit_interface.specs.type_layout.Table.{Table}
-use Rattle.unit_interface.specs.typed_tree.declared.units.Global.{Global}
-use Rattle.unit_interface.specs.typed_tree.declared.units.Item.{Item}
-use Rattle.unit_interface.specs.typed_tree.declared.units.Routine as code
-use Rattle.unit_interface.specs.typed_tree.declared.units.Unit as typed
-use Rattle.unit_interface.specs.typed_tree.Statements.{Statement, view_stmt}
-use Rattle.unit_interface.specs.scopes.Environment.{Environment}
+use Rattle.type_layout.specs.declared.definitions.TypeId.{TypeId}
+use Rattle.type_layout.specs.declared.definitions.Header.{Header}
+use Rattle.type_layout.specs.declared.definitions.Kind.TheVariants as kind
+use Rattle.type_layout.specs.Table.{Table}
+use Rattle.typed_tree.specs.declared.units.Global.{Global}
+use Rattle.typed_tree.specs.declared.units.Item.{Item}
+use Rattle.typed_tree.specs.declared.units.Routine as code
+use Rattle.typed_tree.specs.declared.units.Unit as typed
+use Rattle.typed_tree.specs.Statements.{Statement, view_stmt}
+use Rattle.scopes.specs.Environment.{Environment}
 use Rattle.tp_check_decl.specs.declared.fronts.Front.{Front}
 use Rattle.tp_check_decl.specs.declared.routines.drafts.Announced.{Announced}
 use Rattle.tp_check_decl.specs.routines.Drafts.{Done}

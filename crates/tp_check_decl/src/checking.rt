@@ -1,9 +1,9 @@
 //! The checker of sources.
 
 ghost use Rattle.std.specs.Prelude.{◌≡◌, ◌<◌, ◌^◌, All, IfOk, IfErr, length};
-ghost use Rattle.unit_interface.specs.typed_tree.type_fits.Routines.{HasInitial};
-ghost use Rattle.tp_check_stmt.specs.typing_rules.Faults.{Tells, answer_of, IsAnswered};
-ghost use Rattle.tp_check_stmt.specs.typing_rules.Judgements.{Gives};
+ghost use Rattle.typed_tree.specs.type_fits.Routines.{HasInitial};
+ghost use Rattle.typing_rules.specs.Faults.{Tells, answer_of, IsAnswered};
+ghost use Rattle.typing_rules.specs.Judgements.{Gives};
 ghost use Rattle.tp_check_decl.specs.Units.{Whole, view_unit};
 ghost use Rattle.tp_check_decl.specs.Limits.{KeepsLimit};
 ghost use Rattle.tp_check_decl.specs.Checked.{judged, IsTypedAs, FailsAt};
@@ -11,14 +11,14 @@ ghost use Rattle.tp_check_decl.specs.Laws.{AreExact};
 
 use crate::interfaces::unit_judged;
 use crate::programs::program_judged;
+use scopes::Scope;
 use std::alloc::Global;
-use tp_check_stmt::syntax_tree::source_tree::Tree;
-use tp_check_stmt::tp_lexer::source_directives::Directives;
-use tp_check_stmt::typing_rules::{CheckError, Refusal, error_for};
+use syntax_tree::source_tree::Tree;
+use tp_lexer::source_directives::Directives;
+use type_layout::Name;
+use typed_tree::Unit;
+use typing_rules::{CheckError, Refusal, error_for};
 use unit_interface::Interface;
-use unit_interface::scopes::Scope;
-use unit_interface::type_layout::Name;
-use unit_interface::typed_tree::Unit;
 
 fn judged(
     alloc: Global,

@@ -1,9 +1,9 @@
 //! Units behind their declarations.
 
 ghost use Rattle.std.specs.Prelude.{◌≡◌, map, length, option_copied};
-ghost use Rattle.unit_interface.specs.typed_tree.Statements.{view_stmt};
-ghost use Rattle.unit_interface.specs.scopes.Members.{narrow};
-ghost use Rattle.tp_check_stmt.specs.typing_rules.Judgements.{Gives};
+ghost use Rattle.typed_tree.specs.Statements.{view_stmt};
+ghost use Rattle.scopes.specs.Members.{narrow};
+ghost use Rattle.typing_rules.specs.Judgements.{Gives};
 ghost use Rattle.tp_check_decl.specs.routines.Drafts.{view_slot, drafted};
 ghost use Rattle.tp_check_decl.specs.Units.{view_routine, view_unit, main_part, whole};
 ghost use Rattle.tp_check_decl.specs.Endings.{finished_by, all_finished, main_judged, ended};
@@ -11,13 +11,13 @@ ghost use Rattle.tp_check_decl.specs.Endings.{finished_by, all_finished, main_ju
 use crate::fronts::Front;
 use crate::limits::within_limit;
 use crate::routines::{Draft, Made, Slot};
+use scopes::Scope;
 use std::alloc::Global;
+use syntax_tree::CompoundStatement;
 use tp_check_stmt::compound;
-use tp_check_stmt::syntax_tree::CompoundStatement;
-use tp_check_stmt::typing_rules::{Refusal, Rule, broken};
-use unit_interface::scopes::Scope;
-use unit_interface::type_layout::{Header, Kind, Name, Params, Types};
-use unit_interface::typed_tree::{Globals, Items, Locals, Routine, Routines, Stmt, Unit};
+use type_layout::{Header, Kind, Name, Params, Types};
+use typed_tree::{Globals, Items, Locals, Routine, Routines, Stmt, Unit};
+use typing_rules::{Refusal, Rule, broken};
 
 fn finished(types: &Types, slot: Slot) -> Result<Routine, Refusal>
     ensures { Gives view_routine result (finished_by types.now.types (view_slot slot).first (view_slot slot).done).run }

@@ -1,14 +1,14 @@
 //! What stands in front of the declarations of a source.
 
 ghost use Rattle.std.specs.Prelude.{◌≡◌, [], OnOk};
-ghost use Rattle.tp_check_stmt.specs.typing_rules.Judgements.{Gives};
+ghost use Rattle.typing_rules.specs.Judgements.{Gives};
 ghost use Rattle.tp_check_decl.specs.Fronts.{is_system, is_overlay, is_listed, is_taken, uses_onto, may_overlay, with_new, overlaid_onto, front_judged};
 
 use std::alloc::{AllocError, Global};
-use tp_check_stmt::syntax_tree::Identifier;
-use tp_check_stmt::tp_lexer::source_directives::{Directives, Overlaid};
-use tp_check_stmt::typing_rules::{Refusal, Rule, broken};
-use unit_interface::type_layout::{Name, Names};
+use syntax_tree::Identifier;
+use tp_lexer::source_directives::{Directives, Overlaid};
+use type_layout::{Name, Names};
+use typing_rules::{Refusal, Rule, broken};
 
 /// The units that a source uses and overlays, and what else its directives say.
 #[derive(Drop)]

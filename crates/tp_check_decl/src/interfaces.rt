@@ -1,7 +1,7 @@
 //! Interface parts, and units.
 
 ghost use Rattle.std.specs.Prelude.{◌≡◌, drop, option_copied};
-ghost use Rattle.tp_check_stmt.specs.typing_rules.Judgements.{Gives};
+ghost use Rattle.typing_rules.specs.Judgements.{Gives};
 ghost use Rattle.tp_check_decl.specs.routines.Trees.{view_declarations};
 ghost use Rattle.tp_check_decl.specs.routines.Drafts.{drafted, stage};
 ghost use Rattle.tp_check_decl.specs.Units.{view_unit};
@@ -12,14 +12,14 @@ use crate::fronts::{Front, front_judged, is_overlay, is_system};
 use crate::items::items_of;
 use crate::programs::{empty_draft, opened, unit_site};
 use crate::routines::{Draft, all_judged, heading, part_judged};
+use scopes::Scope;
 use std::alloc::Global;
-use tp_check_stmt::syntax_tree::source_tree::{Declaration, InterfaceDeclaration};
-use tp_check_stmt::syntax_tree::{CompoundStatement, Identifier};
-use tp_check_stmt::tp_lexer::source_directives::Directives;
-use tp_check_stmt::typing_rules::{Refusal, Rule, broken};
-use unit_interface::scopes::Scope;
-use unit_interface::type_layout::Name;
-use unit_interface::typed_tree::{Items, Locals, Unit};
+use syntax_tree::source_tree::{Declaration, InterfaceDeclaration};
+use syntax_tree::{CompoundStatement, Identifier};
+use tp_lexer::source_directives::Directives;
+use type_layout::Name;
+use typed_tree::{Items, Locals, Unit};
+use typing_rules::{Refusal, Rule, broken};
 use unit_interface::{Interface, MergeError, use_unit};
 
 fn declared(

@@ -3,10 +3,10 @@
 ghost use Rattle.std.specs.Prelude.{◌≡◌, ◌++◌, IfOk, OnOk};
 ghost use Rattle.tp_check_decl.specs.Interfaces.{item_of, items_in, items_of};
 
+use scopes::{Entry, Scope, Symbols};
 use std::alloc::{AllocError, Global};
-use unit_interface::scopes::{Entry, Scope, Symbols};
-use unit_interface::type_layout::Name;
-use unit_interface::typed_tree::{Item, Items, Value};
+use type_layout::Name;
+use typed_tree::{Item, Items, Value};
 
 fn copied_value(alloc: Global, value: &Value) -> Result<Value, AllocError>
     ensures { IfOk result (λ copy. copy ≡ value.now) }

@@ -1,13 +1,13 @@
 //! The limit on what a routine takes of the stack.
 
 ghost use Rattle.std.specs.Prelude.{◌≡◌};
-ghost use Rattle.tp_check_stmt.specs.typing_rules.Judgements.{Gives};
+ghost use Rattle.typing_rules.specs.Judgements.{Gives};
 ghost use Rattle.tp_check_decl.specs.Units.{view_routine};
 ghost use Rattle.tp_check_decl.specs.Limits.{own_bytes, within_limit};
 
-use tp_check_stmt::typing_rules::{Refusal, too_large};
-use unit_interface::type_layout::{Place, Types};
-use unit_interface::typed_tree::Routine;
+use type_layout::{Place, Types};
+use typed_tree::Routine;
+use typing_rules::{Refusal, too_large};
 
 /// The most bytes that a routine may take for itself: its variables, its copies of arguments, its result, and what its statements
 /// take at most.
@@ -17,7 +17,7 @@ pub const OWN_LIMIT: u64 = 65_000;
 fn own_bytes(types: &Types, one: &Routine) -> u64
     ensures { result ≡ own_bytes types.now.types (view_routine one.now) }
 {
-    unit_interface::typed_tree::own_bytes(types, one)
+    typed_tree::own_bytes(types, one)
 }
 
 /// A routine whose block begins at a place, and which takes no more bytes than may be.

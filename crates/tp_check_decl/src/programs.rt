@@ -1,9 +1,9 @@
 //! Programs.
 
 ghost use Rattle.std.specs.Prelude.{◌≡◌, [], IfOk};
-ghost use Rattle.unit_interface.specs.scopes.declared.entries.BlockKind.TheVariants.{Part};
-ghost use Rattle.unit_interface.specs.scopes.Environment.{with_block};
-ghost use Rattle.tp_check_stmt.specs.typing_rules.Judgements.{Gives};
+ghost use Rattle.scopes.specs.declared.entries.BlockKind.TheVariants.{Part};
+ghost use Rattle.scopes.specs.Environment.{with_block};
+ghost use Rattle.typing_rules.specs.Judgements.{Gives};
 ghost use Rattle.tp_check_decl.specs.routines.Trees.{view_declarations};
 ghost use Rattle.tp_check_decl.specs.routines.Drafts.{drafted};
 ghost use Rattle.tp_check_decl.specs.Units.{view_unit};
@@ -13,14 +13,14 @@ use crate::endings::ended;
 use crate::fronts::{front_judged, is_overlay, is_system};
 use crate::routines::{Draft, Site, all_judged};
 use declaration_checker::declarations::Home;
+use scopes::{BlockKind, Scope};
 use std::alloc::{AllocError, Global};
-use tp_check_stmt::syntax_tree::source_tree::Declaration;
-use tp_check_stmt::syntax_tree::{CompoundStatement, Identifier};
-use tp_check_stmt::tp_lexer::source_directives::Directives;
-use tp_check_stmt::typing_rules::{Refusal, Rule, broken};
-use unit_interface::scopes::{BlockKind, Scope};
-use unit_interface::type_layout::{Name, Place};
-use unit_interface::typed_tree::{Globals, Items, Locals, Unit};
+use syntax_tree::source_tree::Declaration;
+use syntax_tree::{CompoundStatement, Identifier};
+use tp_lexer::source_directives::Directives;
+use type_layout::{Name, Place};
+use typed_tree::{Globals, Items, Locals, Unit};
+use typing_rules::{Refusal, Rule, broken};
 
 /// The unit's own block.
 pub(crate) fn unit_site() -> Site

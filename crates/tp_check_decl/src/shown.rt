@@ -1,8 +1,8 @@
 //! What a source shows.
 
 ghost use Rattle.std.specs.Prelude.{◌≡◌, IfOk, IfErr};
-ghost use Rattle.tp_check_stmt.specs.typing_rules.Faults.{Tells, IsAnswered};
-ghost use Rattle.tp_check_stmt.specs.typing_rules.Judgements.{Gives};
+ghost use Rattle.typing_rules.specs.Faults.{Tells, IsAnswered};
+ghost use Rattle.typing_rules.specs.Judgements.{Gives};
 ghost use Rattle.unit_interface.specs.declared.interfaces.Interface.{Interface};
 ghost use Rattle.tp_check_decl.specs.Units.{view_unit};
 ghost use Rattle.tp_check_decl.specs.Shown.{outline, nothing_shown, outlined, IsShownAs, FailsInInterface};
@@ -12,14 +12,14 @@ use crate::fronts::front_judged;
 use crate::interfaces::{interface_judged, unit_front};
 use crate::items::items_of;
 use crate::routines::Draft;
+use scopes::Scope;
 use std::alloc::Global;
-use tp_check_stmt::syntax_tree::Identifier;
-use tp_check_stmt::syntax_tree::source_tree::{InterfaceDeclaration, Tree};
-use tp_check_stmt::tp_lexer::source_directives::Directives;
-use tp_check_stmt::typing_rules::{CheckError, Refusal, error_for};
-use unit_interface::scopes::Scope;
-use unit_interface::type_layout::Name;
-use unit_interface::typed_tree::{Globals, Items, Routines, Unit};
+use syntax_tree::Identifier;
+use syntax_tree::source_tree::{InterfaceDeclaration, Tree};
+use tp_lexer::source_directives::Directives;
+use type_layout::Name;
+use typed_tree::{Globals, Items, Routines, Unit};
+use typing_rules::{CheckError, Refusal, error_for};
 use unit_interface::{Interface, interface_of};
 
 // The unit of an interface part, without what the implementation part declares.

@@ -4,8 +4,8 @@ use Rattle.std.specs.List.{list_any}
 use Rattle.std.proofs.lemmas.List.Folds.{list_any_more}
 use Rattle.std.proofs.lemmas.Option.{get_or_from_slice_get, slice_get_cases}
 use Rattle.std.proofs.lemmas.Bool.{ltb-true, ltb-false}
-use Rattle.constant_checker.specs.scopes.declared.searches.OpenBlock.{OpenBlock}
-use Rattle.constant_checker.specs.scopes.Environment.{Environment, first_open, block_count, kind_in, kind_of}
+use Rattle.scopes.specs.declared.searches.OpenBlock.{OpenBlock}
+use Rattle.scopes.specs.Environment.{Environment, first_open, block_count, kind_in, kind_of}
 use Rattle.tp_check_stmt.specs.Assignments.{is_open_body, is_body_at}
 
 or_none : (b : Bool) → b ≡ (b || false)

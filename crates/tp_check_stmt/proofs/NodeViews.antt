@@ -1,12 +1,12 @@
 -- Statements and branches as a node has them.
 use Rattle.std.proofs.Common.{◌≡◌, List, [], ◌∷◌, map, refl, ap, ◌∙◌, Vec, Box, Global}
-use Rattle.constant_checker.specs.typed_tree.declared.expressions.Expr.{Expr}
-use Rattle.constant_checker.specs.typed_tree.declared.statements.Stmt.{Stmt}
-use Rattle.constant_checker.specs.typed_tree.declared.statements.Stmt.TheVariants as stmt
-use Rattle.constant_checker.specs.typed_tree.declared.statements.Arm.{Arm}
-use Rattle.constant_checker.specs.typed_tree.Expressions.{view_expr}
-use Rattle.constant_checker.specs.typed_tree.Statements.{Statements, Arms, Block, Case, Then, Branch, view_stmt, view_stmts, view_arms}
-use Rattle.constant_checker.proofs.typed_tree_proofs.StatementViews.{view_block, view_case}
+use Rattle.typed_tree.specs.declared.expressions.Expr.{Expr}
+use Rattle.typed_tree.specs.declared.statements.Stmt.{Stmt}
+use Rattle.typed_tree.specs.declared.statements.Stmt.TheVariants as stmt
+use Rattle.typed_tree.specs.declared.statements.Arm.{Arm}
+use Rattle.typed_tree.specs.Expressions.{view_expr}
+use Rattle.typed_tree.specs.Statements.{Statements, Arms, Block, Case, Then, Branch, view_stmt, view_stmts, view_arms}
+use Rattle.typed_tree.proofs.StatementViews.{view_block, view_case}
 use Rattle.tp_check_stmt.specs.Typed.{view_arm, statements_of, arms_of, block_of}
 
 statements_viewed : (all : List Stmt) → view_stmts all ≡ statements_of (map view_stmt all)

@@ -3,59 +3,59 @@ use Rattle.std.proofs.Common.{◌≡◌, ◌⊎◌, ℕ, ℤ, ◌<ℤ◌, ◌≤
 use Rattle.std.specs.List.{list_all}
 use Rattle.std.proofs.lemmas.Int.{ints}
 use Rattle.std.proofs.lemmas.Bool.Decides.{Decides-and, Decides-or, Decides-eqb, Decides-by_and}
-use Rattle.constant_checker.specs.type_layout.declared.definitions.TypeId.{TypeId}
-use Rattle.constant_checker.specs.type_layout.declared.definitions.RoutineId.{RoutineId}
-use Rattle.constant_checker.specs.type_layout.declared.definitions.Header.{Header}
-use Rattle.constant_checker.specs.type_layout.declared.definitions.Method.{Method}
-use Rattle.constant_checker.specs.type_layout.declared.definitions.TypeDef.{TypeDef}
-use Rattle.constant_checker.specs.type_layout.declared.definitions.TypeDef.TheVariants as type
-use Rattle.constant_checker.specs.type_layout.declared.texts.Place.{Place}
-use Rattle.constant_checker.specs.tp_lexer.declared.token.Feature.{Feature}
-use Rattle.constant_checker.specs.tp_lexer.left_out_names.Names.{feature_of}
-use Rattle.constant_checker.specs.pascal_grammar.declared.lexeme.Position.{Position}
-use Rattle.constant_checker.specs.syntax_tree.expression_tree.Trees.{Tree, Operand, Operands, plain, wide, no_operands, and_operand, number, text, control, nil, set, call, signed, negated, combined, name, field, index, followed}
-use Rattle.constant_checker.specs.syntax_tree.statement_tree.Trees.{Label, alone, from_to, Task, Tasks, Branches, empty, assignment, run, compound, choice, selection, while_loop, repeat_loop, for_loop, opened, no_tasks, and_task, no_branches, and_branch}
-use Rattle.constant_checker.specs.syntax_tree.statement_tree.Places.{place_of}
-use Rattle.constant_checker.specs.typed_tree.declared.expressions.Variable.{Variable}
-use Rattle.constant_checker.specs.typed_tree.declared.statements.LabelRange.{LabelRange}
-use Rattle.constant_checker.specs.typed_tree.Expressions as tree
-use Rattle.constant_checker.specs.typed_tree.Expressions.{Expression, type_of}
-use Rattle.constant_checker.specs.typed_tree.Statements.{Statement, Written, Run, Assign, Halt, Case, With}
-use Rattle.constant_checker.specs.scopes.declared.entries.Entry.{Entry}
-use Rattle.constant_checker.specs.scopes.declared.entries.Entry.TheVariants as entry
-use Rattle.constant_checker.specs.scopes.declared.entries.BlockKind.{BlockKind}
-use Rattle.constant_checker.specs.scopes.declared.entries.BlockKind.TheVariants as block
-use Rattle.constant_checker.specs.scopes.declared.members.Member.{Member}
-use Rattle.constant_checker.specs.scopes.Environment.{Environment, Meaning, named, member, find, kind_of}
-use Rattle.constant_checker.specs.typed_tree.type_fits.Fits.{definition}
+use Rattle.type_layout.specs.declared.definitions.TypeId.{TypeId}
+use Rattle.type_layout.specs.declared.definitions.RoutineId.{RoutineId}
+use Rattle.type_layout.specs.declared.definitions.Header.{Header}
+use Rattle.type_layout.specs.declared.definitions.Method.{Method}
+use Rattle.type_layout.specs.declared.definitions.TypeDef.{TypeDef}
+use Rattle.type_layout.specs.declared.definitions.TypeDef.TheVariants as type
+use Rattle.type_layout.specs.declared.texts.Place.{Place}
+use Rattle.tp_lexer.specs.declared.token.Feature.{Feature}
+use Rattle.tp_lexer.specs.left_out_names.Names.{feature_of}
+use Rattle.pascal_grammar.specs.declared.lexeme.Position.{Position}
+use Rattle.syntax_tree.specs.expression_tree.Trees.{Tree, Operand, Operands, plain, wide, no_operands, and_operand, number, text, control, nil, set, call, signed, negated, combined, name, field, index, followed}
+use Rattle.syntax_tree.specs.statement_tree.Trees.{Label, alone, from_to, Task, Tasks, Branches, empty, assignment, run, compound, choice, selection, while_loop, repeat_loop, for_loop, opened, no_tasks, and_task, no_branches, and_branch}
+use Rattle.syntax_tree.specs.statement_tree.Places.{place_of}
+use Rattle.typed_tree.specs.declared.expressions.Variable.{Variable}
+use Rattle.typed_tree.specs.declared.statements.LabelRange.{LabelRange}
+use Rattle.typed_tree.specs.Expressions as tree
+use Rattle.typed_tree.specs.Expressions.{Expression, type_of}
+use Rattle.typed_tree.specs.Statements.{Statement, Written, Run, Assign, Halt, Case, With}
+use Rattle.scopes.specs.declared.entries.Entry.{Entry}
+use Rattle.scopes.specs.declared.entries.Entry.TheVariants as entry
+use Rattle.scopes.specs.declared.entries.BlockKind.{BlockKind}
+use Rattle.scopes.specs.declared.entries.BlockKind.TheVariants as block
+use Rattle.scopes.specs.declared.members.Member.{Member}
+use Rattle.scopes.specs.Environment.{Environment, Meaning, named, member, find, kind_of}
+use Rattle.typed_tree.specs.type_fits.Fits.{definition}
 use Rattle.constant_checker.specs.constant_expressions.Constants as constants
 use Rattle.constant_checker.specs.constant_expressions.Values.{number_of}
 use Rattle.constant_checker.proofs.constant_expressions.ConstantLaws as constant
-use Rattle.constant_checker.specs.typing_rules.declared.faults.Fault.{Fault}
-use Rattle.constant_checker.specs.typing_rules.declared.faults.Rule.{Rule}
-use Rattle.constant_checker.specs.typing_rules.declared.faults.Rule.TheVariants as rules
-use Rattle.constant_checker.specs.typing_rules.declared.sorts.Sort.{Sort}
-use Rattle.constant_checker.specs.typing_rules.declared.sorts.Sort.TheVariants as sort
-use Rattle.constant_checker.specs.typing_rules.Faults.{broken}
-use Rattle.constant_checker.specs.typing_rules.Judgements.{Judgement, makes, refuses, rule, part, parts}
-use Rattle.constant_checker.specs.typing_rules.Sorts.{sort_of_type, sort_of}
-use Rattle.constant_checker.specs.typing_rules.Plans.{IsBoolean, is_boolean, IsInteger, is_integer, AreOfOneHost, are_of_one_host}
-use Rattle.constant_checker.specs.typing_rules.Wanted.{stored_of}
-use Rattle.constant_checker.specs.typing_rules.Assignments.{IsAssignable, is_assignable, assigned_by, assigned}
-use Rattle.constant_checker.specs.typing_rules.Laws.{Lawful}
-use Rattle.constant_checker.proofs.typing_rules_proofs.JudgementLaws.{lawful_makes, lawful_refuses, lawful_rule, lawful_either, lawful_part, lawful_parts}
-use Rattle.constant_checker.proofs.typing_rules_proofs.PlanLaws.{yes, no, tells_integer, tells_one_host}
-use Rattle.constant_checker.proofs.typing_rules_proofs.AssignmentLaws.{tells_assignable, lawful_assigned}
-use Rattle.constant_checker.specs.call_rules.Casts.{IsOrdinal, is_ordinal}
-use Rattle.constant_checker.specs.call_rules.Given.{performed}
-use Rattle.constant_checker.proofs.call_rules_proofs.CallLaws.{tells_ordinal, lawful_performed}
-use Rattle.constant_checker.specs.call_rules.method_rules.Methods.{method_in, routine_in}
-use Rattle.constant_checker.specs.call_rules.method_rules.Calls.{performed_on}
-use Rattle.constant_checker.proofs.call_rules_proofs.method_rules.MethodLaws as methods
-use Rattle.constant_checker.specs.call_rules.procedural_rules.Through.{performed_through}
-use Rattle.constant_checker.proofs.call_rules_proofs.procedural_rules.ProceduralLaws.{lawful_performed_through}
-use Rattle.constant_checker.specs.call_rules.allocation_rules.Allocations.{destructor_of, unmade}
-use Rattle.constant_checker.proofs.call_rules_proofs.allocation_rules.AllocationLaws.{lawful_destructor, lawful_unmade}
+use Rattle.typing_rules.specs.declared.faults.Fault.{Fault}
+use Rattle.typing_rules.specs.declared.faults.Rule.{Rule}
+use Rattle.typing_rules.specs.declared.faults.Rule.TheVariants as rules
+use Rattle.typing_rules.specs.declared.sorts.Sort.{Sort}
+use Rattle.typing_rules.specs.declared.sorts.Sort.TheVariants as sort
+use Rattle.typing_rules.specs.Faults.{broken}
+use Rattle.typing_rules.specs.Judgements.{Judgement, makes, refuses, rule, part, parts}
+use Rattle.typing_rules.specs.Sorts.{sort_of_type, sort_of}
+use Rattle.typing_rules.specs.Plans.{IsBoolean, is_boolean, IsInteger, is_integer, AreOfOneHost, are_of_one_host}
+use Rattle.typing_rules.specs.Wanted.{stored_of}
+use Rattle.typing_rules.specs.Assignments.{IsAssignable, is_assignable, assigned_by, assigned}
+use Rattle.typing_rules.specs.Laws.{Lawful}
+use Rattle.typing_rules.proofs.JudgementLaws.{lawful_makes, lawful_refuses, lawful_rule, lawful_either, lawful_part, lawful_parts}
+use Rattle.typing_rules.proofs.PlanLaws.{yes, no, tells_integer, tells_one_host}
+use Rattle.typing_rules.proofs.AssignmentLaws.{tells_assignable, lawful_assigned}
+use Rattle.call_rules.specs.Casts.{IsOrdinal, is_ordinal}
+use Rattle.call_rules.specs.Given.{performed}
+use Rattle.call_rules.proofs.CallLaws.{tells_ordinal, lawful_performed}
+use Rattle.call_rules.specs.method_rules.Methods.{method_in, routine_in}
+use Rattle.call_rules.specs.method_rules.Calls.{performed_on}
+use Rattle.call_rules.proofs.method_rules.MethodLaws as methods
+use Rattle.call_rules.specs.procedural_rules.Through.{performed_through}
+use Rattle.call_rules.proofs.procedural_rules.ProceduralLaws.{lawful_performed_through}
+use Rattle.call_rules.specs.allocation_rules.Allocations.{destructor_of, unmade}
+use Rattle.call_rules.proofs.allocation_rules.AllocationLaws.{lawful_destructor, lawful_unmade}
 use Rattle.tp_check_expr.specs.declared.names.Purpose.{Purpose}
 use Rattle.tp_check_expr.specs.declared.names.Purpose.TheVariants as purpose
 use Rattle.tp_check_expr.specs.Names.{variable, purpose_for}
@@ -69,9 +69,9 @@ use Rattle.tp_check_stmt.specs.Lists.{each}
 use Rattle.tp_check_stmt.specs.Places.{Spot, spot_of, present}
 use Rattle.tp_check_stmt.specs.Asked.{such, condition, selector, IsWritable, is_writable, written_value, width, IsReadable, is_readable}
 use Rattle.tp_check_stmt.specs.Assignments.{held_target, is_inside, result_spot, result_target, method_result, is_numbered, method_target, member_target, meant_target, target, is_structured, copied, stored, assigned_to}
-use Rattle.constant_checker.specs.call_rules.procedure_rules.Procedures.{standard_performed, told}
-use Rattle.constant_checker.proofs.call_rules_proofs.procedure_rules.ProcedureLaws as procedure
-use Rattle.constant_checker.proofs.call_rules_proofs.procedure_rules.ProcedureLaws.{lawful_told}
+use Rattle.call_rules.specs.procedure_rules.Procedures.{standard_performed, told}
+use Rattle.call_rules.proofs.procedure_rules.ProcedureLaws as procedure
+use Rattle.call_rules.proofs.procedure_rules.ProcedureLaws.{lawful_told}
 use Rattle.tp_check_stmt.specs.Arguments.{sized, NamedCall, named_call}
 use Rattle.tp_check_stmt.specs.Standard.{item, written, taken_from, taken_one, taken, values, halted, left, told_of, misgiven, told_two, are_two, telling, proceeding, made_to, creating, ended_with, ended_by, ending, is_creating, Pair, plain_pair, managed, managing, standard_of, standard_run}
 use Rattle.tp_check_stmt.specs.Calls.{run_node, performed_entry, run_entry, run_target, run_of}

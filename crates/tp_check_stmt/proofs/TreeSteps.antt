@@ -1,24 +1,24 @@
 -- Statements round a list that lies in a vector, by the judgements of their parts.
 use Rattle.std.proofs.Common.{◌≡◌, Bool, List, [], Result, Ok, Err, ap, refl, ◌∙◌, Vec, Global}
-use Rattle.constant_checker.specs.pascal_grammar.declared.lexeme.Position.{Position}
-use Rattle.constant_checker.specs.syntax_tree.declared.expression.Expression as source
-use Rattle.constant_checker.specs.syntax_tree.declared.statement.CaseArm.{CaseArm}
-use Rattle.constant_checker.specs.syntax_tree.declared.statement.CaseElse.{CaseElse}
-use Rattle.constant_checker.specs.syntax_tree.declared.statement.CompoundStatement.{CompoundStatement}
-use Rattle.constant_checker.specs.syntax_tree.declared.statement.Statement as tree
-use Rattle.constant_checker.specs.syntax_tree.declared.statement.Statement.TheVariants as s
-use Rattle.constant_checker.specs.syntax_tree.expression_tree.Trees.{view_expression}
-use Rattle.constant_checker.specs.syntax_tree.statement_tree.Trees.{Task, view_statement, view_statements, view_case_else, view_arms}
-use Rattle.constant_checker.proofs.syntax_tree_proofs.statement_tree.Views.{view_compound, view_repeat, view_case}
-use Rattle.constant_checker.specs.typed_tree.declared.statements.Stmt.{Stmt}
-use Rattle.constant_checker.specs.typed_tree.Expressions.{Expression}
-use Rattle.constant_checker.specs.typed_tree.Statements.{Statement, Case, view_stmt}
-use Rattle.constant_checker.specs.scopes.Environment.{Environment}
-use Rattle.constant_checker.specs.typing_rules.declared.faults.Fault.{Fault}
-use Rattle.constant_checker.specs.typing_rules.declared.faults.Refusal.{Refusal}
-use Rattle.constant_checker.specs.typing_rules.declared.faults.Refusal.TheVariants as refusal
-use Rattle.constant_checker.specs.typing_rules.Judgements.{Gives, FailsAs, part}
-use Rattle.constant_checker.specs.typing_rules.Sorts.{sort_of}
+use Rattle.pascal_grammar.specs.declared.lexeme.Position.{Position}
+use Rattle.syntax_tree.specs.declared.expression.Expression as source
+use Rattle.syntax_tree.specs.declared.statement.CaseArm.{CaseArm}
+use Rattle.syntax_tree.specs.declared.statement.CaseElse.{CaseElse}
+use Rattle.syntax_tree.specs.declared.statement.CompoundStatement.{CompoundStatement}
+use Rattle.syntax_tree.specs.declared.statement.Statement as tree
+use Rattle.syntax_tree.specs.declared.statement.Statement.TheVariants as s
+use Rattle.syntax_tree.specs.expression_tree.Trees.{view_expression}
+use Rattle.syntax_tree.specs.statement_tree.Trees.{Task, view_statement, view_statements, view_case_else, view_arms}
+use Rattle.syntax_tree.proofs.statement_tree.Views.{view_compound, view_repeat, view_case}
+use Rattle.typed_tree.specs.declared.statements.Stmt.{Stmt}
+use Rattle.typed_tree.specs.Expressions.{Expression}
+use Rattle.typed_tree.specs.Statements.{Statement, Case, view_stmt}
+use Rattle.scopes.specs.Environment.{Environment}
+use Rattle.typing_rules.specs.declared.faults.Fault.{Fault}
+use Rattle.typing_rules.specs.declared.faults.Refusal.{Refusal}
+use Rattle.typing_rules.specs.declared.faults.Refusal.TheVariants as refusal
+use Rattle.typing_rules.specs.Judgements.{Gives, FailsAs, part}
+use Rattle.typing_rules.specs.Sorts.{sort_of}
 use Rattle.tp_check_stmt.specs.Asked.{condition, selector}
 use Rattle.tp_check_stmt.specs.Typed.{Armed, arms_of, block_of, blocked, repeating, stated, listed, branched, chosen}
 

@@ -1,10 +1,10 @@
 -- Arguments of calls.
 use Rattle.std.specs.Prelude.{ℕ, List, Option, Some, None}
-use Rattle.constant_checker.specs.pascal_grammar.declared.lexeme.Position.{Position}
-use Rattle.constant_checker.specs.syntax_tree.expression_tree.Trees.{Tree, name, call, Operand, Operands, plain, wide, no_operands, view_arguments}
-use Rattle.constant_checker.specs.typed_tree.Statements.{Written}
-use Rattle.constant_checker.specs.scopes.Environment.{Environment}
-use Rattle.constant_checker.specs.typing_rules.Judgements.{Judgement, makes, part, parts}
+use Rattle.pascal_grammar.specs.declared.lexeme.Position.{Position}
+use Rattle.syntax_tree.specs.expression_tree.Trees.{Tree, name, call, Operand, Operands, plain, wide, no_operands, view_arguments}
+use Rattle.typed_tree.specs.Statements.{Written}
+use Rattle.scopes.specs.Environment.{Environment}
+use Rattle.typing_rules.specs.Judgements.{Judgement, makes, part, parts}
 use Rattle.tp_check_expr.specs.Typed.{judged}
 use Rattle.tp_check_stmt.specs.declared.arguments.SoleCall.{SoleCall}
 

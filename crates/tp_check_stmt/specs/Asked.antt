@@ -1,18 +1,18 @@
 -- Expressions of which a statement asks something.
 use Rattle.std.specs.Prelude.{Bool, true, false}
-use Rattle.constant_checker.specs.syntax_tree.expression_tree.Trees.{Tree}
-use Rattle.constant_checker.specs.syntax_tree.statement_tree.Places.{place_of}
-use Rattle.constant_checker.specs.scopes.Environment.{Environment}
-use Rattle.constant_checker.specs.typed_tree.Expressions.{Expression}
-use Rattle.constant_checker.specs.typing_rules.declared.faults.Rule.{Rule}
-use Rattle.constant_checker.specs.typing_rules.declared.faults.Rule.TheVariants as rules
-use Rattle.constant_checker.specs.typing_rules.declared.sorts.Sort.{Sort}
-use Rattle.constant_checker.specs.typing_rules.declared.sorts.Sort.TheVariants as sort
-use Rattle.constant_checker.specs.typing_rules.Faults.{broken}
-use Rattle.constant_checker.specs.typing_rules.Judgements.{Judgement, rule, part}
-use Rattle.constant_checker.specs.typing_rules.Sorts.{sort_of}
-use Rattle.constant_checker.specs.typing_rules.Plans.{IsBoolean, is_boolean, IsInteger, is_integer}
-use Rattle.constant_checker.specs.call_rules.Casts.{IsOrdinal, is_ordinal}
+use Rattle.syntax_tree.specs.expression_tree.Trees.{Tree}
+use Rattle.syntax_tree.specs.statement_tree.Places.{place_of}
+use Rattle.scopes.specs.Environment.{Environment}
+use Rattle.typed_tree.specs.Expressions.{Expression}
+use Rattle.typing_rules.specs.declared.faults.Rule.{Rule}
+use Rattle.typing_rules.specs.declared.faults.Rule.TheVariants as rules
+use Rattle.typing_rules.specs.declared.sorts.Sort.{Sort}
+use Rattle.typing_rules.specs.declared.sorts.Sort.TheVariants as sort
+use Rattle.typing_rules.specs.Faults.{broken}
+use Rattle.typing_rules.specs.Judgements.{Judgement, rule, part}
+use Rattle.typing_rules.specs.Sorts.{sort_of}
+use Rattle.typing_rules.specs.Plans.{IsBoolean, is_boolean, IsInteger, is_integer}
+use Rattle.call_rules.specs.Casts.{IsOrdinal, is_ordinal}
 use Rattle.tp_check_expr.specs.Typed.{judged}
 
 -- an expression whose sort passes, else this rule is broken where the expression stands

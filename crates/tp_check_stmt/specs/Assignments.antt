@@ -1,35 +1,35 @@
 -- Assignments: what may be assigned to, and the node.
 use Rattle.std.specs.Prelude.{ℕ, ◌+◌, ◌==◌, ◌&&◌, Bool, true, false, length, List, Option, Some, None}
 use Rattle.std.specs.List.{list_any}
-use Rattle.constant_checker.specs.type_layout.declared.definitions.TypeId.{TypeId}
-use Rattle.constant_checker.specs.type_layout.declared.definitions.RoutineId.{RoutineId}
-use Rattle.constant_checker.specs.type_layout.declared.definitions.Header.{Header}
-use Rattle.constant_checker.specs.type_layout.declared.definitions.Method.{Method}
-use Rattle.constant_checker.specs.type_layout.declared.definitions.TypeDef.{TypeDef}
-use Rattle.constant_checker.specs.type_layout.declared.definitions.TypeDef.TheVariants as type
-use Rattle.constant_checker.specs.type_layout.declared.texts.Place.{Place}
-use Rattle.constant_checker.specs.pascal_grammar.declared.lexeme.Position.{Position}
-use Rattle.constant_checker.specs.syntax_tree.expression_tree.Trees.{Tree, name}
-use Rattle.constant_checker.specs.syntax_tree.statement_tree.Places.{place_of}
-use Rattle.constant_checker.specs.typed_tree.Expressions as tree
-use Rattle.constant_checker.specs.typed_tree.Expressions.{Expression, Var}
-use Rattle.constant_checker.specs.typed_tree.Statements.{Statement, Assign, CopyAll}
-use Rattle.constant_checker.specs.scopes.declared.entries.Entry.{Entry}
-use Rattle.constant_checker.specs.scopes.declared.entries.Entry.TheVariants as entry
-use Rattle.constant_checker.specs.scopes.declared.entries.BlockKind.{BlockKind}
-use Rattle.constant_checker.specs.scopes.declared.entries.BlockKind.TheVariants as block
-use Rattle.constant_checker.specs.scopes.declared.searches.OpenBlock.{OpenBlock}
-use Rattle.constant_checker.specs.scopes.Environment.{Environment, Meaning, named, member, find, kind_of}
-use Rattle.constant_checker.specs.scopes.declared.members.Member.{Member}
-use Rattle.constant_checker.specs.scopes.Members.{narrow}
-use Rattle.constant_checker.specs.typed_tree.type_fits.Fits.{definition}
-use Rattle.constant_checker.specs.typing_rules.declared.faults.Rule.TheVariants as rules
-use Rattle.constant_checker.specs.typing_rules.Faults.{broken}
-use Rattle.constant_checker.specs.typing_rules.Judgements.{Judgement, makes, refuses, either, part}
-use Rattle.constant_checker.specs.typing_rules.Assignments.{assigned}
+use Rattle.type_layout.specs.declared.definitions.TypeId.{TypeId}
+use Rattle.type_layout.specs.declared.definitions.RoutineId.{RoutineId}
+use Rattle.type_layout.specs.declared.definitions.Header.{Header}
+use Rattle.type_layout.specs.declared.definitions.Method.{Method}
+use Rattle.type_layout.specs.declared.definitions.TypeDef.{TypeDef}
+use Rattle.type_layout.specs.declared.definitions.TypeDef.TheVariants as type
+use Rattle.type_layout.specs.declared.texts.Place.{Place}
+use Rattle.pascal_grammar.specs.declared.lexeme.Position.{Position}
+use Rattle.syntax_tree.specs.expression_tree.Trees.{Tree, name}
+use Rattle.syntax_tree.specs.statement_tree.Places.{place_of}
+use Rattle.typed_tree.specs.Expressions as tree
+use Rattle.typed_tree.specs.Expressions.{Expression, Var}
+use Rattle.typed_tree.specs.Statements.{Statement, Assign, CopyAll}
+use Rattle.scopes.specs.declared.entries.Entry.{Entry}
+use Rattle.scopes.specs.declared.entries.Entry.TheVariants as entry
+use Rattle.scopes.specs.declared.entries.BlockKind.{BlockKind}
+use Rattle.scopes.specs.declared.entries.BlockKind.TheVariants as block
+use Rattle.scopes.specs.declared.searches.OpenBlock.{OpenBlock}
+use Rattle.scopes.specs.Environment.{Environment, Meaning, named, member, find, kind_of}
+use Rattle.scopes.specs.declared.members.Member.{Member}
+use Rattle.scopes.specs.Members.{narrow}
+use Rattle.typed_tree.specs.type_fits.Fits.{definition}
+use Rattle.typing_rules.specs.declared.faults.Rule.TheVariants as rules
+use Rattle.typing_rules.specs.Faults.{broken}
+use Rattle.typing_rules.specs.Judgements.{Judgement, makes, refuses, either, part}
+use Rattle.typing_rules.specs.Assignments.{assigned}
 use Rattle.tp_check_expr.specs.Names.{variable}
 use Rattle.tp_check_expr.specs.Typed.{judged_as}
-use Rattle.constant_checker.specs.call_rules.method_rules.Methods.{method_in, routine_in}
+use Rattle.call_rules.specs.method_rules.Methods.{method_in, routine_in}
 use Rattle.tp_check_expr.specs.declared.names.Purpose.TheVariants as purpose
 use Rattle.tp_check_stmt.specs.Places.{Spot, spot_of, present}
 

@@ -1,19 +1,19 @@
 -- Calls as statements.
 use Rattle.std.specs.Prelude.{List}
-use Rattle.constant_checker.specs.type_layout.declared.definitions.TypeDef.{TypeDef}
-use Rattle.constant_checker.specs.pascal_grammar.declared.lexeme.Position.{Position}
-use Rattle.constant_checker.specs.syntax_tree.expression_tree.Trees.{Tree, Operands}
-use Rattle.constant_checker.specs.typed_tree.Expressions.{Expression}
-use Rattle.constant_checker.specs.typed_tree.Statements.{Statement, Run}
-use Rattle.constant_checker.specs.scopes.declared.entries.Entry.{Entry}
-use Rattle.constant_checker.specs.scopes.declared.entries.Entry.TheVariants as entry
-use Rattle.constant_checker.specs.scopes.Environment.{Environment}
-use Rattle.constant_checker.specs.typing_rules.declared.faults.Rule.TheVariants as rules
-use Rattle.constant_checker.specs.typing_rules.Faults.{broken}
-use Rattle.constant_checker.specs.typing_rules.Judgements.{Judgement, makes, refuses, part}
-use Rattle.constant_checker.specs.call_rules.Given.{performed}
-use Rattle.constant_checker.specs.call_rules.method_rules.Calls.{performed_on}
-use Rattle.constant_checker.specs.call_rules.procedural_rules.Through.{performed_through}
+use Rattle.type_layout.specs.declared.definitions.TypeDef.{TypeDef}
+use Rattle.pascal_grammar.specs.declared.lexeme.Position.{Position}
+use Rattle.syntax_tree.specs.expression_tree.Trees.{Tree, Operands}
+use Rattle.typed_tree.specs.Expressions.{Expression}
+use Rattle.typed_tree.specs.Statements.{Statement, Run}
+use Rattle.scopes.specs.declared.entries.Entry.{Entry}
+use Rattle.scopes.specs.declared.entries.Entry.TheVariants as entry
+use Rattle.scopes.specs.Environment.{Environment}
+use Rattle.typing_rules.specs.declared.faults.Rule.TheVariants as rules
+use Rattle.typing_rules.specs.Faults.{broken}
+use Rattle.typing_rules.specs.Judgements.{Judgement, makes, refuses, part}
+use Rattle.call_rules.specs.Given.{performed}
+use Rattle.call_rules.specs.method_rules.Calls.{performed_on}
+use Rattle.call_rules.specs.procedural_rules.Through.{performed_through}
 use Rattle.tp_check_expr.specs.Calls.{Callable, declared, method, through, maker, params_of_entry}
 use Rattle.tp_check_expr.specs.Typed.{callable, all_given}
 use Rattle.tp_check_stmt.specs.Standard.{standard_of, standard_run}

@@ -1,20 +1,20 @@
 -- Labels of a `case`: constants of the selector's host, each met once.
 use Rattle.std.specs.Prelude.{◌≡◌, ◌⊎◌, ℤ, ◌<ℤ◌, ◌≤ℤ◌, int_lt, int_le, Bool, ◌||◌, All, List, [], ◌∷◌, ◌++◌}
 use Rattle.std.specs.List.{list_all}
-use Rattle.constant_checker.specs.type_layout.declared.texts.Place.{Place}
-use Rattle.constant_checker.specs.syntax_tree.expression_tree.Trees.{Tree}
-use Rattle.constant_checker.specs.syntax_tree.statement_tree.Trees.{Label, alone, from_to}
-use Rattle.constant_checker.specs.syntax_tree.statement_tree.Places.{place_of}
-use Rattle.constant_checker.specs.typed_tree.declared.statements.LabelRange.{LabelRange}
-use Rattle.constant_checker.specs.scopes.Environment.{Environment}
+use Rattle.type_layout.specs.declared.texts.Place.{Place}
+use Rattle.syntax_tree.specs.expression_tree.Trees.{Tree}
+use Rattle.syntax_tree.specs.statement_tree.Trees.{Label, alone, from_to}
+use Rattle.syntax_tree.specs.statement_tree.Places.{place_of}
+use Rattle.typed_tree.specs.declared.statements.LabelRange.{LabelRange}
+use Rattle.scopes.specs.Environment.{Environment}
 use Rattle.constant_checker.specs.constant_expressions.Constants as constants
 use Rattle.constant_checker.specs.constant_expressions.Values.{number_of}
-use Rattle.constant_checker.specs.typing_rules.declared.faults.Rule.TheVariants as rules
-use Rattle.constant_checker.specs.typing_rules.declared.sorts.Sort.{Sort}
-use Rattle.constant_checker.specs.typing_rules.Faults.{broken}
-use Rattle.constant_checker.specs.typing_rules.Judgements.{Judgement, makes, rule, part, parts}
-use Rattle.constant_checker.specs.typing_rules.Sorts.{sort_of_type}
-use Rattle.constant_checker.specs.typing_rules.Plans.{AreOfOneHost, are_of_one_host}
+use Rattle.typing_rules.specs.declared.faults.Rule.TheVariants as rules
+use Rattle.typing_rules.specs.declared.sorts.Sort.{Sort}
+use Rattle.typing_rules.specs.Faults.{broken}
+use Rattle.typing_rules.specs.Judgements.{Judgement, makes, rule, part, parts}
+use Rattle.typing_rules.specs.Sorts.{sort_of_type}
+use Rattle.typing_rules.specs.Plans.{AreOfOneHost, are_of_one_host}
 
 -- for `Gives`, what lies nowhere in memory
 abbrev pub number_itself : ℤ → ℤ

@@ -1,6 +1,6 @@
 -- What follows from the rules of statements, for every scope and every tree.
-use Rattle.constant_checker.specs.scopes.Environment.{Environment}
-use Rattle.constant_checker.specs.typing_rules.Laws.{IsExact}
+use Rattle.scopes.specs.Environment.{Environment}
+use Rattle.typing_rules.specs.Laws.{IsExact}
 use Rattle.tp_check_stmt.specs.Typed.{stated}
 
 -- A statement has one node at most; it has one exactly where no fault is in it.

@@ -1,7 +1,7 @@
 -- Judgements of each argument of a call.
 use Rattle.std.specs.Prelude.{List, [], ◌∷◌}
-use Rattle.constant_checker.specs.syntax_tree.expression_tree.Trees.{Operand, Operands, no_operands, and_operand}
-use Rattle.constant_checker.specs.typing_rules.Judgements.{Judgement, makes, parts}
+use Rattle.syntax_tree.specs.expression_tree.Trees.{Operand, Operands, no_operands, and_operand}
+use Rattle.typing_rules.specs.Judgements.{Judgement, makes, parts}
 
 -- one by one, each by itself
 abbrev pub each : {C : Type 0} → (Operand → Judgement C) → Operands → Judgement (List C)

@@ -1,28 +1,28 @@
 -- What a `for` counts by, and from where to where.
 use Rattle.std.specs.Prelude.{◌≡◌, ◌⊎◌, ℕ, ◌==◌, Bool, true, false, ◌&&◌, ◌||◌, List, Option, Some, None}
-use Rattle.constant_checker.specs.type_layout.declared.definitions.TypeId.{TypeId}
-use Rattle.constant_checker.specs.type_layout.declared.definitions.TypeDef.{TypeDef}
-use Rattle.constant_checker.specs.type_layout.declared.definitions.TypeDef.TheVariants as type
-use Rattle.constant_checker.specs.type_layout.declared.texts.Place.{Place}
-use Rattle.constant_checker.specs.type_layout.Storage.{least_of, greatest_of, storage_of}
-use Rattle.constant_checker.specs.tp_lexer.declared.token.Feature.{Feature}
-use Rattle.constant_checker.specs.tp_lexer.left_out_names.Names.{feature_of}
-use Rattle.constant_checker.specs.pascal_grammar.declared.operator.Direction.{Direction}
-use Rattle.constant_checker.specs.pascal_grammar.declared.operator.Direction.TheVariants as direction
-use Rattle.constant_checker.specs.syntax_tree.expression_tree.Trees.{Tree}
-use Rattle.constant_checker.specs.syntax_tree.statement_tree.Places.{place_of}
-use Rattle.constant_checker.specs.typed_tree.declared.expressions.Variable.{Variable}
-use Rattle.constant_checker.specs.typed_tree.Expressions.{Expression, type_of, view_expr}
-use Rattle.constant_checker.specs.scopes.declared.entries.Entry.{Entry}
-use Rattle.constant_checker.specs.scopes.declared.entries.Entry.TheVariants as entry
-use Rattle.constant_checker.specs.scopes.Environment.{Environment, Meaning, named, member, find}
-use Rattle.constant_checker.specs.typed_tree.type_fits.Fits.{definition}
-use Rattle.constant_checker.specs.typing_rules.declared.faults.Rule.TheVariants as rules
-use Rattle.constant_checker.specs.typing_rules.Faults.{broken, undeclared}
-use Rattle.constant_checker.specs.typing_rules.Judgements.{Judgement, makes, refuses, rule, part, parts}
-use Rattle.constant_checker.specs.typing_rules.Sorts.{sort_of_type, sort_of}
-use Rattle.constant_checker.specs.typing_rules.Wanted.{stored_of}
-use Rattle.constant_checker.specs.typing_rules.Assignments.{IsAssignable, is_assignable, assigned_by}
+use Rattle.type_layout.specs.declared.definitions.TypeId.{TypeId}
+use Rattle.type_layout.specs.declared.definitions.TypeDef.{TypeDef}
+use Rattle.type_layout.specs.declared.definitions.TypeDef.TheVariants as type
+use Rattle.type_layout.specs.declared.texts.Place.{Place}
+use Rattle.type_layout.specs.Storage.{least_of, greatest_of, storage_of}
+use Rattle.tp_lexer.specs.declared.token.Feature.{Feature}
+use Rattle.tp_lexer.specs.left_out_names.Names.{feature_of}
+use Rattle.pascal_grammar.specs.declared.operator.Direction.{Direction}
+use Rattle.pascal_grammar.specs.declared.operator.Direction.TheVariants as direction
+use Rattle.syntax_tree.specs.expression_tree.Trees.{Tree}
+use Rattle.syntax_tree.specs.statement_tree.Places.{place_of}
+use Rattle.typed_tree.specs.declared.expressions.Variable.{Variable}
+use Rattle.typed_tree.specs.Expressions.{Expression, type_of, view_expr}
+use Rattle.scopes.specs.declared.entries.Entry.{Entry}
+use Rattle.scopes.specs.declared.entries.Entry.TheVariants as entry
+use Rattle.scopes.specs.Environment.{Environment, Meaning, named, member, find}
+use Rattle.typed_tree.specs.type_fits.Fits.{definition}
+use Rattle.typing_rules.specs.declared.faults.Rule.TheVariants as rules
+use Rattle.typing_rules.specs.Faults.{broken, undeclared}
+use Rattle.typing_rules.specs.Judgements.{Judgement, makes, refuses, rule, part, parts}
+use Rattle.typing_rules.specs.Sorts.{sort_of_type, sort_of}
+use Rattle.typing_rules.specs.Wanted.{stored_of}
+use Rattle.typing_rules.specs.Assignments.{IsAssignable, is_assignable, assigned_by}
 use Rattle.tp_check_expr.specs.Names.{variable}
 use Rattle.tp_check_expr.specs.Typed.{judged}
 use Rattle.tp_check_stmt.specs.declared.loops.Counter.{Counter}

@@ -1,10 +1,10 @@
 -- Places that expressions load from, and what must stand for one.
 use Rattle.std.specs.Prelude.{List, Option, Some, None}
-use Rattle.constant_checker.specs.type_layout.declared.definitions.TypeId.{TypeId}
-use Rattle.constant_checker.specs.typed_tree.Expressions as tree
-use Rattle.constant_checker.specs.typed_tree.Expressions.{Expression, Load, view_place}
-use Rattle.constant_checker.specs.typing_rules.declared.faults.Fault.{Fault}
-use Rattle.constant_checker.specs.typing_rules.Judgements.{Judgement, makes, refuses}
+use Rattle.type_layout.specs.declared.definitions.TypeId.{TypeId}
+use Rattle.typed_tree.specs.Expressions as tree
+use Rattle.typed_tree.specs.Expressions.{Expression, Load, view_place}
+use Rattle.typing_rules.specs.declared.faults.Fault.{Fault}
+use Rattle.typing_rules.specs.Judgements.{Judgement, makes, refuses}
 use Rattle.tp_check_stmt.specs.declared.places.Target.{Target}
 
 -- a place and the type of what it holds

@@ -1,20 +1,20 @@
 -- Standard routines as statements.
 use Rattle.std.specs.Prelude.{ℕ, ◌==◌, pos, Bool, true, false, cond, List, [], ◌∷◌, Option, Some, None}
-use Rattle.constant_checker.specs.type_layout.declared.definitions.TypeDef.{TypeDef}
-use Rattle.constant_checker.specs.type_layout.declared.texts.Place.{Place}
-use Rattle.constant_checker.specs.pascal_grammar.declared.lexeme.Position.{Position}
-use Rattle.constant_checker.specs.syntax_tree.expression_tree.Trees.{Tree, Operand, Operands, plain, wide, no_operands, and_operand, view_expression}
-use Rattle.constant_checker.specs.syntax_tree.statement_tree.Places.{place_of}
-use Rattle.constant_checker.specs.typed_tree.declared.expressions.Value.TheVariants as value
-use Rattle.constant_checker.specs.typed_tree.Expressions.{Expression, Const}
-use Rattle.constant_checker.specs.typed_tree.Statements.{Statement, Written, Taken, Run, WriteItems, ReadItems, Halt, Exit}
-use Rattle.constant_checker.specs.typed_tree.Standard as routine
-use Rattle.constant_checker.specs.scopes.Environment.{Environment}
-use Rattle.constant_checker.specs.typing_rules.declared.faults.Rule.TheVariants as rules
-use Rattle.constant_checker.specs.typing_rules.Faults.{broken}
-use Rattle.constant_checker.specs.typing_rules.Judgements.{Judgement, makes, refuses, rule, either, part, parts}
-use Rattle.constant_checker.specs.typing_rules.Sorts.{integer, sort_of_type, sort_of}
-use Rattle.constant_checker.specs.typing_rules.Plans.{IsInteger, is_integer}
+use Rattle.type_layout.specs.declared.definitions.TypeDef.{TypeDef}
+use Rattle.type_layout.specs.declared.texts.Place.{Place}
+use Rattle.pascal_grammar.specs.declared.lexeme.Position.{Position}
+use Rattle.syntax_tree.specs.expression_tree.Trees.{Tree, Operand, Operands, plain, wide, no_operands, and_operand, view_expression}
+use Rattle.syntax_tree.specs.statement_tree.Places.{place_of}
+use Rattle.typed_tree.specs.declared.expressions.Value.TheVariants as value
+use Rattle.typed_tree.specs.Expressions.{Expression, Const}
+use Rattle.typed_tree.specs.Statements.{Statement, Written, Taken, Run, WriteItems, ReadItems, Halt, Exit}
+use Rattle.typed_tree.specs.Standard as routine
+use Rattle.scopes.specs.Environment.{Environment}
+use Rattle.typing_rules.specs.declared.faults.Rule.TheVariants as rules
+use Rattle.typing_rules.specs.Faults.{broken}
+use Rattle.typing_rules.specs.Judgements.{Judgement, makes, refuses, rule, either, part, parts}
+use Rattle.typing_rules.specs.Sorts.{integer, sort_of_type, sort_of}
+use Rattle.typing_rules.specs.Plans.{IsInteger, is_integer}
 use Rattle.tp_check_expr.specs.Typed.{judged}
 use Rattle.tp_check_stmt.specs.declared.standard.StandardStatement.{StandardStatement}
 use Rattle.tp_check_stmt.specs.declared.standard.StandardStatement.TheVariants as standard
@@ -22,8 +22,8 @@ use Rattle.tp_check_stmt.specs.declared.standard.PlainPair.{PlainPair}
 use Rattle.tp_check_stmt.specs.Lists.{each}
 use Rattle.tp_check_stmt.specs.Places.{Spot, spot_of}
 use Rattle.tp_check_stmt.specs.Asked.{written_value, width, IsReadable, is_readable}
-use Rattle.constant_checker.specs.call_rules.procedure_rules.Procedures.{standard_performed, told}
-use Rattle.constant_checker.specs.call_rules.allocation_rules.Allocations.{Unmaker, destructor_of, unmade}
+use Rattle.call_rules.specs.procedure_rules.Procedures.{standard_performed, told}
+use Rattle.call_rules.specs.allocation_rules.Allocations.{Unmaker, destructor_of, unmade}
 use Rattle.tp_check_expr.specs.Typed.{all_given, made_by}
 use Rattle.tp_check_stmt.specs.Arguments.{sized, NamedCall, named_call}
 use Rattle.tp_check_stmt.specs.Assignments.{assigned_to}

@@ -1,27 +1,27 @@
 -- When a statement is typed, and when a fault is in it.
 use Rattle.std.specs.Prelude.{Bool, true, false, cond, List, [], ◌∷◌, ◌++◌, Option, Some, None}
-use Rattle.constant_checker.specs.type_layout.declared.definitions.TypeId.{TypeId}
-use Rattle.constant_checker.specs.type_layout.declared.definitions.TypeDef.{TypeDef}
-use Rattle.constant_checker.specs.type_layout.declared.definitions.TypeDef.TheVariants as type
-use Rattle.constant_checker.specs.type_layout.declared.texts.Place.{Place}
-use Rattle.constant_checker.specs.pascal_grammar.declared.lexeme.Position.{Position}
-use Rattle.constant_checker.specs.pascal_grammar.declared.operator.Direction.{Direction}
-use Rattle.constant_checker.specs.syntax_tree.declared.expression.Designator.{Designator}
-use Rattle.constant_checker.specs.syntax_tree.expression_tree.Trees.{Tree, begins, view_designator}
-use Rattle.constant_checker.specs.syntax_tree.statement_tree.Trees.{Task, Tasks, Branches, empty, assignment, run, compound, choice, selection, while_loop, repeat_loop, for_loop, opened, no_tasks, and_task, no_branches, and_branch}
-use Rattle.constant_checker.specs.typed_tree.declared.statements.LabelRange.{LabelRange}
-use Rattle.constant_checker.specs.typed_tree.declared.statements.Arm.{Arm}
-use Rattle.constant_checker.specs.typed_tree.Expressions.{Expression}
-use Rattle.constant_checker.specs.typed_tree.Statements.{Statement, Statements, Arms, If, While, Repeat, Block, Case, For, With, NoStatements, Then, NoArms, Branch, view_stmt}
-use Rattle.constant_checker.specs.scopes.declared.entries.BlockKind.TheVariants as block
-use Rattle.constant_checker.specs.scopes.Environment.{Environment, with_block}
-use Rattle.constant_checker.specs.typed_tree.type_fits.Fits.{definition}
-use Rattle.constant_checker.specs.typing_rules.declared.faults.Fault.{Fault}
-use Rattle.constant_checker.specs.typing_rules.declared.faults.Rule.TheVariants as rules
-use Rattle.constant_checker.specs.typing_rules.declared.sorts.Sort.{Sort}
-use Rattle.constant_checker.specs.typing_rules.Faults.{broken}
-use Rattle.constant_checker.specs.typing_rules.Judgements.{Judgement, makes, refuses, rule, part, parts}
-use Rattle.constant_checker.specs.typing_rules.Sorts.{sort_of}
+use Rattle.type_layout.specs.declared.definitions.TypeId.{TypeId}
+use Rattle.type_layout.specs.declared.definitions.TypeDef.{TypeDef}
+use Rattle.type_layout.specs.declared.definitions.TypeDef.TheVariants as type
+use Rattle.type_layout.specs.declared.texts.Place.{Place}
+use Rattle.pascal_grammar.specs.declared.lexeme.Position.{Position}
+use Rattle.pascal_grammar.specs.declared.operator.Direction.{Direction}
+use Rattle.syntax_tree.specs.declared.expression.Designator.{Designator}
+use Rattle.syntax_tree.specs.expression_tree.Trees.{Tree, begins, view_designator}
+use Rattle.syntax_tree.specs.statement_tree.Trees.{Task, Tasks, Branches, empty, assignment, run, compound, choice, selection, while_loop, repeat_loop, for_loop, opened, no_tasks, and_task, no_branches, and_branch}
+use Rattle.typed_tree.specs.declared.statements.LabelRange.{LabelRange}
+use Rattle.typed_tree.specs.declared.statements.Arm.{Arm}
+use Rattle.typed_tree.specs.Expressions.{Expression}
+use Rattle.typed_tree.specs.Statements.{Statement, Statements, Arms, If, While, Repeat, Block, Case, For, With, NoStatements, Then, NoArms, Branch, view_stmt}
+use Rattle.scopes.specs.declared.entries.BlockKind.TheVariants as block
+use Rattle.scopes.specs.Environment.{Environment, with_block}
+use Rattle.typed_tree.specs.type_fits.Fits.{definition}
+use Rattle.typing_rules.specs.declared.faults.Fault.{Fault}
+use Rattle.typing_rules.specs.declared.faults.Rule.TheVariants as rules
+use Rattle.typing_rules.specs.declared.sorts.Sort.{Sort}
+use Rattle.typing_rules.specs.Faults.{broken}
+use Rattle.typing_rules.specs.Judgements.{Judgement, makes, refuses, rule, part, parts}
+use Rattle.typing_rules.specs.Sorts.{sort_of}
 use Rattle.tp_check_expr.specs.Names.{purpose_for}
 use Rattle.tp_check_expr.specs.Typed.{judged, judged_as}
 use Rattle.tp_check_stmt.specs.Places.{Spot, spot_of}

@@ -2,20 +2,18 @@
 
 ghost use Rattle.std.specs.Prelude.{◌≡◌};
 ghost use Rattle.std.specs.Option.{option_map};
-ghost use Rattle.constant_checker.specs.typed_tree.Statements.{view_written};
-ghost use Rattle.constant_checker.specs.syntax_tree.expression_tree.Trees.{call, begins, view_expression, view_simple, view_term, view_factor, view_designator, view_argument, view_arguments};
-ghost use Rattle.constant_checker.specs.typing_rules.Judgements.{Gives};
+ghost use Rattle.typed_tree.specs.Statements.{view_written};
+ghost use Rattle.syntax_tree.specs.expression_tree.Trees.{call, begins, view_expression, view_simple, view_term, view_factor, view_designator, view_argument, view_arguments};
+ghost use Rattle.typing_rules.specs.Judgements.{Gives};
 ghost use Rattle.tp_check_stmt.specs.Arguments.{view_named, named_call, sized};
 
 use crate::nodes::{plain_item, wide_item};
-use constant_checker::scopes::Scope;
-use constant_checker::syntax_tree::{
-    Argument, Designator, Expression, Factor, Identifier, SimpleExpression, Term,
-};
-use constant_checker::typed_tree::WriteItem;
-use constant_checker::typing_rules::Refusal;
+use scopes::Scope;
 use std::alloc::Global;
+use syntax_tree::{Argument, Designator, Expression, Factor, Identifier, SimpleExpression, Term};
 use tp_check_expr::judged_expression;
+use typed_tree::WriteItem;
+use typing_rules::Refusal;
 
 /// A name, alone or before arguments.
 #[derive(Clone, Copy)]

@@ -1,21 +1,19 @@
 //! Expressions of which a statement asks something.
 
 ghost use Rattle.std.specs.Prelude.{◌≡◌};
-ghost use Rattle.constant_checker.specs.typed_tree.Expressions.{view_expr};
-ghost use Rattle.constant_checker.specs.syntax_tree.expression_tree.Trees.{view_expression};
-ghost use Rattle.constant_checker.specs.typing_rules.Judgements.{Gives};
+ghost use Rattle.typed_tree.specs.Expressions.{view_expr};
+ghost use Rattle.syntax_tree.specs.expression_tree.Trees.{view_expression};
+ghost use Rattle.typing_rules.specs.Judgements.{Gives};
 ghost use Rattle.tp_check_stmt.specs.Asked.{condition, selector, written_value, width, is_writable, is_readable};
 
-use constant_checker::call_rules::is_ordinal;
-use constant_checker::scopes::Scope;
-use constant_checker::syntax_tree::Expression;
-use constant_checker::syntax_tree::statement_tree::place_of;
-use constant_checker::typed_tree::Expr;
-use constant_checker::typing_rules::{
-    Refusal, Rule, Sort, broken, is_boolean, is_integer, sort_of,
-};
+use call_rules::is_ordinal;
+use scopes::Scope;
 use std::alloc::Global;
+use syntax_tree::Expression;
+use syntax_tree::statement_tree::place_of;
 use tp_check_expr::judged_expression;
+use typed_tree::Expr;
+use typing_rules::{Refusal, Rule, Sort, broken, is_boolean, is_integer, sort_of};
 
 /// The node of a condition.
 pub(crate) fn condition(alloc: Global, tree: &Expression, scope: &Scope) -> Result<Expr, Refusal>

@@ -2,29 +2,27 @@
 
 ghost use Rattle.std.specs.Prelude.{◌≡◌, ◌||◌, option_copied};
 ghost use Rattle.std.specs.Option.{option_map};
-ghost use Rattle.constant_checker.specs.scopes.Environment.{find};
-ghost use Rattle.constant_checker.specs.scopes.Members.{narrow};
-ghost use Rattle.constant_checker.specs.typed_tree.Expressions.{view_expr, view_place};
-ghost use Rattle.constant_checker.specs.typed_tree.Statements.{view_stmt};
-ghost use Rattle.constant_checker.specs.syntax_tree.expression_tree.Trees.{view_designator};
-ghost use Rattle.constant_checker.specs.typing_rules.Judgements.{Gives};
+ghost use Rattle.scopes.specs.Environment.{find};
+ghost use Rattle.scopes.specs.Members.{narrow};
+ghost use Rattle.typed_tree.specs.Expressions.{view_expr, view_place};
+ghost use Rattle.typed_tree.specs.Statements.{view_stmt};
+ghost use Rattle.syntax_tree.specs.expression_tree.Trees.{view_designator};
+ghost use Rattle.typing_rules.specs.Judgements.{Gives};
 ghost use Rattle.tp_check_stmt.specs.Places.{view_target};
 ghost use Rattle.tp_check_stmt.specs.Assignments.{held_target, is_body_at, is_inside, result_spot, result_target, method_result, is_numbered, method_target, entry_target, meant_target, target, is_structured, stored, assigned_to};
 
 use crate::nodes::{assign_node, copy_node};
 use crate::places::{Target, spot_of};
-use constant_checker::call_rules::method_rules::{method_in, routine_in};
-use constant_checker::pascal_grammar::Position;
-use constant_checker::scopes::{BlockKind, Entry, Found, Scope};
-use constant_checker::syntax_tree::Designator;
-use constant_checker::syntax_tree::statement_tree::place_of_designator;
-use constant_checker::type_layout::{
-    Header, Method, Name, Place, RoutineId, TypeDef, TypeId, Types,
-};
-use constant_checker::typed_tree::{Expr, PlaceExpr, Stmt};
-use constant_checker::typing_rules::{Refusal, Rule, assigned, broken, definition};
+use call_rules::method_rules::{method_in, routine_in};
+use pascal_grammar::Position;
+use scopes::{BlockKind, Entry, Found, Scope};
 use std::alloc::Global;
+use syntax_tree::Designator;
+use syntax_tree::statement_tree::place_of_designator;
 use tp_check_expr::{Purpose, designator_as, variable};
+use type_layout::{Header, Method, Name, Place, RoutineId, TypeDef, TypeId, Types};
+use typed_tree::{Expr, PlaceExpr, Stmt};
+use typing_rules::{Refusal, Rule, assigned, broken, definition};
 
 // A variable, or a part of one.
 fn held_target(alloc: Global, tree: &Designator, scope: &Scope) -> Result<Target, Refusal>

@@ -1,26 +1,26 @@
 //! Calls as statements.
 
 ghost use Rattle.std.specs.Prelude.{map};
-ghost use Rattle.constant_checker.specs.typed_tree.Expressions.{view_expr};
-ghost use Rattle.constant_checker.specs.typed_tree.Statements.{view_stmt};
-ghost use Rattle.constant_checker.specs.syntax_tree.expression_tree.Trees.{view_designator, view_arguments};
-ghost use Rattle.constant_checker.specs.typing_rules.Judgements.{Gives};
+ghost use Rattle.typed_tree.specs.Expressions.{view_expr};
+ghost use Rattle.typed_tree.specs.Statements.{view_stmt};
+ghost use Rattle.syntax_tree.specs.expression_tree.Trees.{view_designator, view_arguments};
+ghost use Rattle.typing_rules.specs.Judgements.{Gives};
 ghost use Rattle.tp_check_expr.specs.Calls.{view_callable};
 ghost use Rattle.tp_check_stmt.specs.Calls.{performed_entry, run_entry, run_target, run_of};
 
 use crate::nodes::run_node;
 use crate::standard::standard_run;
-use constant_checker::call_rules::method_rules::performed_on;
-use constant_checker::call_rules::performed;
-use constant_checker::call_rules::procedural_rules::performed_through;
-use constant_checker::pascal_grammar::Position;
-use constant_checker::scopes::{Entry, Scope};
-use constant_checker::syntax_tree::{Argument, Designator};
-use constant_checker::type_layout::Types;
-use constant_checker::typed_tree::{Expr, Stmt};
-use constant_checker::typing_rules::{Refusal, Rule, broken};
+use call_rules::method_rules::performed_on;
+use call_rules::performed;
+use call_rules::procedural_rules::performed_through;
+use pascal_grammar::Position;
+use scopes::{Entry, Scope};
 use std::alloc::Global;
+use syntax_tree::{Argument, Designator};
 use tp_check_expr::{CallTarget, callable, operands, params_of};
+use type_layout::Types;
+use typed_tree::{Expr, Stmt};
+use typing_rules::{Refusal, Rule, broken};
 
 fn performed_entry(
     alloc: Global,

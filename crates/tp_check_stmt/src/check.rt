@@ -1,18 +1,18 @@
 //! The checker of statements.
 
 ghost use Rattle.std.specs.Prelude.{◌≡◌, IfOk, IfErr};
-ghost use Rattle.constant_checker.specs.typed_tree.Statements.{Statement as TypedStatement, view_stmt};
-ghost use Rattle.constant_checker.specs.typing_rules.Faults.{Tells, answer_of, IsAnswered};
-ghost use Rattle.constant_checker.specs.syntax_tree.statement_tree.Trees.{view_statement};
+ghost use Rattle.typed_tree.specs.Statements.{Statement as TypedStatement, view_stmt};
+ghost use Rattle.typing_rules.specs.Faults.{Tells, answer_of, IsAnswered};
+ghost use Rattle.syntax_tree.specs.statement_tree.Trees.{view_statement};
 ghost use Rattle.tp_check_stmt.specs.Typed.{IsStatedAs, FailsAt};
 ghost use Rattle.tp_check_stmt.specs.Laws.{AreExact};
 
 use crate::statements::stated;
-use constant_checker::scopes::Scope;
-use constant_checker::syntax_tree::Statement;
-use constant_checker::typed_tree::Stmt;
-use constant_checker::typing_rules::{CheckError, Refusal, error_for};
+use scopes::Scope;
 use std::alloc::Global;
+use syntax_tree::Statement;
+use typed_tree::Stmt;
+use typing_rules::{CheckError, Refusal, error_for};
 
 // What users are told.
 fn answered(found: Result<Stmt, Refusal>) -> Result<Stmt, CheckError>

@@ -1,20 +1,20 @@
 //! Labels of a `case`.
 
 ghost use Rattle.std.specs.Prelude.{◌≡◌, ◌++◌, IfOk, map};
-ghost use Rattle.constant_checker.specs.syntax_tree.expression_tree.Trees.{view_simple};
-ghost use Rattle.constant_checker.specs.syntax_tree.statement_tree.Trees.{view_label};
-ghost use Rattle.constant_checker.specs.typing_rules.Judgements.{Gives};
+ghost use Rattle.syntax_tree.specs.expression_tree.Trees.{view_simple};
+ghost use Rattle.syntax_tree.specs.statement_tree.Trees.{view_label};
+ghost use Rattle.typing_rules.specs.Judgements.{Gives};
 ghost use Rattle.constant_checker.specs.constant_expressions.Values.{number_of};
 ghost use Rattle.tp_check_stmt.specs.Labels.{number_itself, range_itself, label_value, label_range, are_apart, is_new, label_place, new_label, labelled};
 
 use constant_checker::constant_expressions::{Constant, constant_of};
-use constant_checker::scopes::Scope;
-use constant_checker::syntax_tree::statement_tree::place_of_simple;
-use constant_checker::syntax_tree::{CaseLabel, SimpleExpression};
-use constant_checker::type_layout::Place;
-use constant_checker::typed_tree::{LabelRange, Value};
-use constant_checker::typing_rules::{Refusal, Rule, Sort, are_of_one_host, broken, sort_of_type};
+use scopes::Scope;
 use std::alloc::Global;
+use syntax_tree::statement_tree::place_of_simple;
+use syntax_tree::{CaseLabel, SimpleExpression};
+use type_layout::Place;
+use typed_tree::{LabelRange, Value};
+use typing_rules::{Refusal, Rule, Sort, are_of_one_host, broken, sort_of_type};
 
 fn number_of(constant: Constant) -> i32
     ensures { result ≡ number_of constant.value }

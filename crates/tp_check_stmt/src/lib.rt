@@ -14,5 +14,4 @@ mod standard;
 mod statements;
 
 pub use check::{check_stmt, statement_laws};
-pub use constant_checker::{object_vmt, pascal_grammar, syntax_tree, tp_lexer, typing_rules};
 pub use statements::compound;

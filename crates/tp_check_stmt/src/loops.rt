@@ -1,25 +1,25 @@
 //! What a `for` counts by.
 
 ghost use Rattle.std.specs.Prelude.{◌≡◌, Ok, option_copied};
-ghost use Rattle.constant_checker.specs.typed_tree.Expressions.{view_expr};
-ghost use Rattle.constant_checker.specs.syntax_tree.expression_tree.Trees.{view_expression};
-ghost use Rattle.constant_checker.specs.typing_rules.Judgements.{Gives};
-ghost use Rattle.constant_checker.specs.typing_rules.Assignments.{assigned_by};
+ghost use Rattle.typed_tree.specs.Expressions.{view_expr};
+ghost use Rattle.syntax_tree.specs.expression_tree.Trees.{view_expression};
+ghost use Rattle.typing_rules.specs.Judgements.{Gives};
+ghost use Rattle.typing_rules.specs.Assignments.{assigned_by};
 ghost use Rattle.tp_check_stmt.specs.Loops.{counter_itself, view_count, is_near, has_order, counter_of, counter_entry, counter, whole, bound_by, bound, counted, is_down};
 
-use constant_checker::pascal_grammar::Direction;
-use constant_checker::scopes::{Entry, Found, Scope};
-use constant_checker::syntax_tree::statement_tree::place_of;
-use constant_checker::syntax_tree::{Expression, Identifier};
-use constant_checker::tp_lexer::left_out_names::feature_of;
-use constant_checker::type_layout::{Host, Name, Place, TypeDef, TypeId, Types, storage_of};
-use constant_checker::typed_tree::{Expr, Variable};
-use constant_checker::typing_rules::{
+use pascal_grammar::Direction;
+use scopes::{Entry, Found, Scope};
+use std::alloc::Global;
+use syntax_tree::statement_tree::place_of;
+use syntax_tree::{Expression, Identifier};
+use tp_check_expr::{judged_expression, variable};
+use tp_lexer::left_out_names::feature_of;
+use type_layout::{Host, Name, Place, TypeDef, TypeId, Types, storage_of};
+use typed_tree::{Expr, Variable};
+use typing_rules::{
     Refusal, Rule, assigned_by, broken, definition, is_assignable, sort_of, sort_of_type,
     stored_of_type, type_of, undeclared,
 };
-use std::alloc::Global;
-use tp_check_expr::{judged_expression, variable};
 
 /// A variable that a `for` may count by, and its type.
 #[derive(Clone, Copy, Debug, PartialEq, Eq)]

@@ -1,18 +1,18 @@
 //! The nodes of statements from their parts.
 
 ghost use Rattle.std.specs.Prelude.{◌≡◌, [], Ok, Some, None, map};
-ghost use Rattle.constant_checker.specs.typed_tree.Expressions.{view_expr, view_place};
-ghost use Rattle.constant_checker.specs.typed_tree.Statements.{Assign, CopyAll, Run, If, While, Repeat, Case, With, Halt, view_stmt, view_written, view_taken};
-ghost use Rattle.constant_checker.specs.typing_rules.Judgements.{Gives};
+ghost use Rattle.typed_tree.specs.Expressions.{view_expr, view_place};
+ghost use Rattle.typed_tree.specs.Statements.{Assign, CopyAll, Run, If, While, Repeat, Case, With, Halt, view_stmt, view_written, view_taken};
+ghost use Rattle.typing_rules.specs.Judgements.{Gives};
 ghost use Rattle.tp_check_stmt.specs.Loops.{view_count};
 ghost use Rattle.tp_check_stmt.specs.Typed.{view_arm, arms_of, block_of, for_node};
 
 use crate::loops::{Count, is_down};
-use constant_checker::pascal_grammar::Direction;
-use constant_checker::type_layout::TypeId;
-use constant_checker::typed_tree::{Arm, Expr, PlaceExpr, ReadItem, Stmt, WriteItem};
-use constant_checker::typing_rules::Refusal;
+use pascal_grammar::Direction;
 use std::alloc::Global;
+use type_layout::TypeId;
+use typed_tree::{Arm, Expr, PlaceExpr, ReadItem, Stmt, WriteItem};
+use typing_rules::Refusal;
 
 /// A list of statements.
 pub(crate) fn block_of(statements: Vec<Stmt>) -> Stmt

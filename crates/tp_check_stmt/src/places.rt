@@ -2,11 +2,11 @@
 
 ghost use Rattle.std.specs.Prelude.{◌≡◌};
 ghost use Rattle.std.specs.Option.{option_map};
-ghost use Rattle.constant_checker.specs.typed_tree.Expressions.{view_expr};
+ghost use Rattle.typed_tree.specs.Expressions.{view_expr};
 ghost use Rattle.tp_check_stmt.specs.Places.{view_target, spot_of};
 
-use constant_checker::type_layout::TypeId;
-use constant_checker::typed_tree::{Expr, PlaceExpr};
+use type_layout::TypeId;
+use typed_tree::{Expr, PlaceExpr};
 
 /// A place, and the type of what it holds.
 #[derive(Drop)]

@@ -2,10 +2,10 @@
 
 ghost use Rattle.std.specs.Prelude.{◌≡◌, map};
 ghost use Rattle.std.specs.Option.{option_map};
-ghost use Rattle.constant_checker.specs.typed_tree.Expressions.{view_expr};
-ghost use Rattle.constant_checker.specs.typed_tree.Statements.{view_stmt, view_written, view_taken};
-ghost use Rattle.constant_checker.specs.syntax_tree.expression_tree.Trees.{and_operand, plain, view_argument, view_arguments, view_expression};
-ghost use Rattle.constant_checker.specs.typing_rules.Judgements.{Gives, parts};
+ghost use Rattle.typed_tree.specs.Expressions.{view_expr};
+ghost use Rattle.typed_tree.specs.Statements.{view_stmt, view_written, view_taken};
+ghost use Rattle.syntax_tree.specs.expression_tree.Trees.{and_operand, plain, view_argument, view_arguments, view_expression};
+ghost use Rattle.typing_rules.specs.Judgements.{Gives, parts};
 ghost use Rattle.tp_check_stmt.specs.Arguments.{view_named, sized};
 ghost use Rattle.tp_check_stmt.specs.Lists.{each};
 ghost use Rattle.tp_check_stmt.specs.Places.{spot_of};
@@ -16,20 +16,18 @@ use crate::asked::{is_readable, width, written_value};
 use crate::assignments::assigned_to;
 use crate::nodes::{halt_node, plain_item, read_item, run_node, wide_item};
 use crate::places::spot_of;
-use constant_checker::call_rules::allocation_rules::{destructor_of, unmade};
-use constant_checker::call_rules::procedure_rules::{standard_performed, told};
-use constant_checker::pascal_grammar::Position;
-use constant_checker::scopes::{INTEGER, Scope};
-use constant_checker::syntax_tree::statement_tree::place_of;
-use constant_checker::syntax_tree::{Argument, Expression};
-use constant_checker::type_layout::{Place, Types};
-use constant_checker::typed_tree::standard::{
-    DISPOSE, EXIT, HALT, NEW, READ, READ_LN, STR, WRITE, WRITE_LN,
-};
-use constant_checker::typed_tree::{Expr, ReadItem, Stmt, Value, WriteItem};
-use constant_checker::typing_rules::{Refusal, Rule, broken, is_integer, sort_of, sort_of_type};
+use call_rules::allocation_rules::{destructor_of, unmade};
+use call_rules::procedure_rules::{standard_performed, told};
+use pascal_grammar::Position;
+use scopes::{INTEGER, Scope};
 use std::alloc::Global;
+use syntax_tree::statement_tree::place_of;
+use syntax_tree::{Argument, Expression};
 use tp_check_expr::{judged_expression, made_by, operands};
+use type_layout::{Place, Types};
+use typed_tree::standard::{DISPOSE, EXIT, HALT, NEW, READ, READ_LN, STR, WRITE, WRITE_LN};
+use typed_tree::{Expr, ReadItem, Stmt, Value, WriteItem};
+use typing_rules::{Refusal, Rule, broken, is_integer, sort_of, sort_of_type};
 
 /// Which statement a standard routine is. `Heap` is New or Dispose. A function is none; it counts among the other ones.
 #[derive(Clone, Copy, Debug, PartialEq, Eq)]

@@ -1,11 +1,11 @@
 //! Statements, part by part.
 
 ghost use Rattle.std.specs.Prelude.{◌≡◌, [], ◌∷◌, ◌++◌, cond, OnOk, IfErr, map, option_copied};
-ghost use Rattle.constant_checker.specs.typed_tree.Statements.{view_stmt};
-ghost use Rattle.constant_checker.specs.syntax_tree.expression_tree.Trees.{begins, view_designator, view_expression};
-ghost use Rattle.constant_checker.specs.syntax_tree.statement_tree.Trees.{assignment, view_statement, view_statements, view_else, view_case_else, view_with, view_arms};
-ghost use Rattle.constant_checker.specs.typing_rules.declared.faults.Refusal.TheVariants.{NoMemory};
-ghost use Rattle.constant_checker.specs.typing_rules.Judgements.{Gives};
+ghost use Rattle.typed_tree.specs.Statements.{view_stmt};
+ghost use Rattle.syntax_tree.specs.expression_tree.Trees.{begins, view_designator, view_expression};
+ghost use Rattle.syntax_tree.specs.statement_tree.Trees.{assignment, view_statement, view_statements, view_else, view_case_else, view_with, view_arms};
+ghost use Rattle.typing_rules.specs.declared.faults.Refusal.TheVariants.{NoMemory};
+ghost use Rattle.typing_rules.specs.Judgements.{Gives};
 ghost use Rattle.tp_check_stmt.specs.Places.{view_target};
 ghost use Rattle.tp_check_stmt.specs.Asked.{condition};
 ghost use Rattle.tp_check_stmt.specs.Loops.{counted};
@@ -20,17 +20,17 @@ use crate::nodes::{
     block_of, case_node, for_node, if_node, nothing, repeat_node, while_node, with_node,
 };
 use crate::places::{Target, spot_of};
-use constant_checker::pascal_grammar::Direction;
-use constant_checker::scopes::{BlockKind, Scope};
-use constant_checker::syntax_tree::expression_tree::begins;
-use constant_checker::syntax_tree::{
+use pascal_grammar::Direction;
+use scopes::{BlockKind, Scope};
+use std::alloc::Global;
+use syntax_tree::expression_tree::begins;
+use syntax_tree::{
     CaseArm, CaseElse, Designator, ElsePart, Expression, Identifier, Statement, WithRest,
 };
-use constant_checker::type_layout::{Place, TypeDef};
-use constant_checker::typed_tree::{Arm, LabelRange, Stmt};
-use constant_checker::typing_rules::{Refusal, Rule, Sort, broken, definition, sort_of};
-use std::alloc::Global;
 use tp_check_expr::{Purpose, designator_as, expression_as, purpose_for};
+use type_layout::{Place, TypeDef};
+use typed_tree::{Arm, LabelRange, Stmt};
+use typing_rules::{Refusal, Rule, Sort, broken, definition, sort_of};
 
 fn is_empty(statement: &Statement) -> bool
     ensures { result ≡ is_empty (view_statement statement.now) }

@@ -1,7 +1,5 @@
 //! What the directives of a source say for the whole of it.
 
 mod collected;
-#[cfg(test)]
-mod tests;
 
 pub use collected::{Directives, Overlaid, OverlaidUnits, directives_of};

@@ -53,10 +53,10 @@ fn parsed(alloc: Global, list: &[Token]) -> Option<Tree> {
 /// A text as the file of a name. There is none where it isn't spelled as a source.
 pub(crate) fn source_of(
     alloc: Global,
-    name: &[u8],
+    name: &str,
     text: &str,
 ) -> Result<Option<Source>, AllocError> {
-    let Some(name) = Name::new(name) else {
+    let Some(name) = Name::new(name.as_bytes()) else {
         return Ok(None);
     };
     let Some(list) = token_list(alloc, text)? else {

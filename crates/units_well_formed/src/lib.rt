@@ -6,4 +6,4 @@ pub mod routines;
 pub mod units;
 
 pub use declarations_well_formed;
-pub use declarations_well_formed::{imported_types_agree, syntax_tree, tp_lexer};
+pub use declarations_well_formed::imported_types_agree;

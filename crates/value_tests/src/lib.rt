@@ -19,4 +19,6 @@ mod store;
 mod strings;
 pub mod value_operators_tests;
 #[cfg(test)]
+mod words;
+#[cfg(test)]
 mod written;

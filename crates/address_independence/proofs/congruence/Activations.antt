@@ -2,14 +2,14 @@
 use Rattle.std.proofs.Common.{◌≡◌, ℕ, zero, suc, ◌+◌, ◌-◌, ◌&&◌, ◌==◌, nat_lt, not, Bool, true, false, cond, if◌then◌else◌, List, [], ◌∷◌, length, map, Option, Some, None, is_some, Ok, Err, refl, ap, ◌∙◌, subst}
 use Rattle.std.specs.Prelude.{slice_get}
 use Rattle.std.specs.Option.{option_map, option_map_or}
-use Rattle.tp_meaning.specs.typed_tree.declared.expressions.Variable.{Variable}
-use Rattle.tp_meaning.specs.typed_tree.declared.units.Routine.{Routine}
-use Rattle.tp_meaning.specs.typed_tree.declared.units.Unit.{Unit as TypedUnit}
-use Rattle.tp_meaning.specs.typed_tree.declared.units.Program.{Program}
-use Rattle.tp_meaning.specs.typed_tree.Statements.{view_stmt}
-use Rattle.tp_meaning.specs.typed_tree.Needs.{statement_need}
-use Rattle.tp_meaning.specs.typed_tree.Frames.{argument_bytes, local_bytes, frame_of}
-use Rattle.tp_meaning.specs.typed_tree.type_fits.Routines.{variables_of}
+use Rattle.tp_check_decl.specs.typed_tree.declared.expressions.Variable.{Variable}
+use Rattle.tp_check_decl.specs.typed_tree.declared.units.Routine.{Routine}
+use Rattle.tp_check_decl.specs.typed_tree.declared.units.Unit.{Unit as TypedUnit}
+use Rattle.tp_check_decl.specs.typed_tree.declared.units.Program.{Program}
+use Rattle.tp_check_decl.specs.typed_tree.Statements.{view_stmt}
+use Rattle.tp_check_decl.specs.typed_tree.Needs.{statement_need}
+use Rattle.tp_check_decl.specs.typed_tree.Frames.{argument_bytes, local_bytes, frame_of}
+use Rattle.tp_check_decl.specs.typed_tree.type_fits.Routines.{variables_of}
 use Rattle.tp_check_decl.specs.Units.{Finished, view_routine, Whole, view_unit}
 use Rattle.tp_meaning.specs.Trees.{Key, Spot, Value}
 use Rattle.tp_meaning.specs.Found as finding

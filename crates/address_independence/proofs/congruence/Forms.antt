@@ -4,17 +4,17 @@ use Rattle.std.specs.Prelude.{pos}
 use Rattle.std.specs.List.{list_any}
 use Rattle.std.specs.Option.{option_map}
 use Rattle.std.specs.Ordering.{int_eq}
-use Rattle.tp_meaning.specs.type_layout.declared.definitions.TypeId.{TypeId}
-use Rattle.tp_meaning.specs.type_layout.declared.definitions.RoutineId.{RoutineId}
-use Rattle.tp_meaning.specs.typed_tree.declared.expressions.Variable.{Variable}
-use Rattle.tp_meaning.specs.typed_tree.declared.statements.Destructor.{Destructor}
-use Rattle.tp_meaning.specs.typed_tree.declared.statements.Destructor.TheVariants as destructor
-use Rattle.tp_meaning.specs.typed_tree.declared.units.Program.{Program}
-use Rattle.tp_meaning.specs.typed_tree.Expressions.{Expression, Const, RoutineValue, Load, Unary, Binary, Convert, Range, SetOf, Call, CallVirtual, CallThrough, Std, Make, Place, Var, Deref, Index, FieldOf, Receiver, NoReceiver, Own, Elements as Listed, NoElements, One, Span, Arguments, NoArguments, ByValue, ByPlace, type_of}
-use Rattle.tp_meaning.specs.typed_tree.Statements.{Written, Taken, Statement, Assign, CopyAll, Run, If, While, Repeat, Block as Listing, Case, For, With, WriteItems, ReadItems, Halt, Exit, Unmake, Statements, NoStatements, Then, Arms, NoArms, Branch}
+use Rattle.tp_check_decl.specs.type_layout.declared.definitions.TypeId.{TypeId}
+use Rattle.tp_check_decl.specs.type_layout.declared.definitions.RoutineId.{RoutineId}
+use Rattle.tp_check_decl.specs.typed_tree.declared.expressions.Variable.{Variable}
+use Rattle.tp_check_decl.specs.typed_tree.declared.statements.Destructor.{Destructor}
+use Rattle.tp_check_decl.specs.typed_tree.declared.statements.Destructor.TheVariants as destructor
+use Rattle.tp_check_decl.specs.typed_tree.declared.units.Program.{Program}
+use Rattle.tp_check_decl.specs.typed_tree.Expressions.{Expression, Const, RoutineValue, Load, Unary, Binary, Convert, Range, SetOf, Call, CallVirtual, CallThrough, Std, Make, Place, Var, Deref, Index, FieldOf, Receiver, NoReceiver, Own, Elements as Listed, NoElements, One, Span, Arguments, NoArguments, ByValue, ByPlace, type_of}
+use Rattle.tp_check_decl.specs.typed_tree.Statements.{Written, Taken, Statement, Assign, CopyAll, Run, If, While, Repeat, Block as Listing, Case, For, With, WriteItems, ReadItems, Halt, Exit, Unmake, Statements, NoStatements, Then, Arms, NoArms, Branch}
 use Rattle.tp_meaning.specs.common_values.Sets.{with_range}
 use Rattle.tp_meaning.specs.common_values.Blocks.{block_sum}
-use Rattle.tp_meaning.specs.typed_tree.type_fits.Fits.{stored_as}
+use Rattle.tp_check_decl.specs.typed_tree.type_fits.Fits.{stored_as}
 use Rattle.tp_check_decl.specs.Units.{view_unit}
 use Rattle.tp_meaning.specs.Trees.{Key, Value, Ordinal, Text, Block, Code, unset}
 use Rattle.tp_meaning.specs.Found as finding

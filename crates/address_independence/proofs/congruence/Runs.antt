@@ -1,8 +1,8 @@
 -- Whole runs of two programs whose units are seen alike.
 use Rattle.std.proofs.Common.{◌≡◌, ℕ, zero, suc, false, pos, List, [], ◌∷◌, ◌++◌, map, Option, Some, None, refl, ◌∙◌}
 use Rattle.std.specs.List.{flat_map}
-use Rattle.tp_meaning.specs.typed_tree.declared.units.Unit.{Unit as TypedUnit}
-use Rattle.tp_meaning.specs.typed_tree.declared.units.Program.{Program}
+use Rattle.tp_check_decl.specs.typed_tree.declared.units.Unit.{Unit as TypedUnit}
+use Rattle.tp_check_decl.specs.typed_tree.declared.units.Program.{Program}
 use Rattle.tp_check_decl.specs.Units.{Whole, view_unit}
 use Rattle.tp_meaning.specs.Trees.{Ordinal, holding}
 use Rattle.tp_meaning.specs.Outcomes.{◌>>◌}

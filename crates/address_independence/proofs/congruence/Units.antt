@@ -4,11 +4,11 @@ use Rattle.std.specs.Prelude.{slice_get, option_and_then}
 use Rattle.std.specs.List.{list_any}
 use Rattle.std.specs.Option.{option_map}
 use Rattle.std.proofs.lemmas.Option.{slice_get-map}
-use Rattle.tp_meaning.specs.type_layout.Words.{same_bytes}
-use Rattle.tp_meaning.specs.typed_tree.declared.statements.Stmt.{Stmt}
-use Rattle.tp_meaning.specs.typed_tree.declared.units.Routine.{Routine}
-use Rattle.tp_meaning.specs.typed_tree.declared.units.Unit.{Unit as TypedUnit}
-use Rattle.tp_meaning.specs.typed_tree.declared.units.Program.{Program}
+use Rattle.tp_check_decl.specs.type_layout.Words.{same_bytes}
+use Rattle.tp_check_decl.specs.typed_tree.declared.statements.Stmt.{Stmt}
+use Rattle.tp_check_decl.specs.typed_tree.declared.units.Routine.{Routine}
+use Rattle.tp_check_decl.specs.typed_tree.declared.units.Unit.{Unit as TypedUnit}
+use Rattle.tp_check_decl.specs.typed_tree.declared.units.Program.{Program}
 use Rattle.tp_check_decl.specs.Units.{Finished, view_routine, Whole, view_unit}
 use Rattle.tp_meaning.specs.Trees.{Key}
 use Rattle.tp_meaning.specs.Found.{Found, ◌>>=◌, known}

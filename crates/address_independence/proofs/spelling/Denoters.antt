@@ -1,10 +1,10 @@
 -- Types are judged by what is written of them.
 use Rattle.std.proofs.Common.{◌≡◌, ℕ, ◌+◌, ◌-◌, false, List, [], ◌∷◌, Option, Some, None, Box, Global, refl, ◌∙◌}
-use Rattle.tp_meaning.specs.type_layout.declared.definitions.TypeId.{TypeId}
-use Rattle.tp_meaning.specs.type_layout.declared.definitions.Field.{Field}
-use Rattle.tp_meaning.specs.type_layout.declared.definitions.Kind.TheVariants as kind
-use Rattle.tp_meaning.specs.type_layout.declared.definitions.TypeDef.TheVariants.{RecordOf, SetOf, Procedural}
-use Rattle.tp_meaning.specs.type_layout.declared.texts.Place.{Place}
+use Rattle.tp_check_decl.specs.type_layout.declared.definitions.TypeId.{TypeId}
+use Rattle.tp_check_decl.specs.type_layout.declared.definitions.Field.{Field}
+use Rattle.tp_check_decl.specs.type_layout.declared.definitions.Kind.TheVariants as kind
+use Rattle.tp_check_decl.specs.type_layout.declared.definitions.TypeDef.TheVariants.{RecordOf, SetOf, Procedural}
+use Rattle.tp_check_decl.specs.type_layout.declared.texts.Place.{Place}
 use Rattle.tp_check_decl.specs.syntax_tree.declared.expression.SimpleExpression.{SimpleExpression}
 use Rattle.tp_check_decl.specs.syntax_tree.declared.type_tree.types.TypeDenoter.{TypeDenoter, Row_of-FieldGroup, end_of-FieldGroup, more_of-FieldGroup}
 use Rattle.tp_check_decl.specs.syntax_tree.declared.type_tree.types.TypeDenoter.TheVariants as t

@@ -1,10 +1,10 @@
 -- Headers are judged by what is written in them.
 use Rattle.std.proofs.Common.{◌≡◌, Bool, true, false, List, [], ◌∷◌, Option, Some, None, refl}
-use Rattle.tp_meaning.specs.type_layout.declared.definitions.Param.{Param}
-use Rattle.tp_meaning.specs.type_layout.declared.definitions.Header.{Header}
-use Rattle.tp_meaning.specs.type_layout.declared.definitions.Kind.{Kind}
-use Rattle.tp_meaning.specs.type_layout.declared.definitions.Kind.TheVariants as kind
-use Rattle.tp_meaning.specs.type_layout.declared.texts.Place.{Place}
+use Rattle.tp_check_decl.specs.type_layout.declared.definitions.Param.{Param}
+use Rattle.tp_check_decl.specs.type_layout.declared.definitions.Header.{Header}
+use Rattle.tp_check_decl.specs.type_layout.declared.definitions.Kind.{Kind}
+use Rattle.tp_check_decl.specs.type_layout.declared.definitions.Kind.TheVariants as kind
+use Rattle.tp_check_decl.specs.type_layout.declared.texts.Place.{Place}
 use Rattle.tp_check_decl.specs.syntax_tree.declared.type_tree.parameter.NamedType.{NamedType}
 use Rattle.tp_check_decl.specs.syntax_tree.declared.type_tree.parameter.ParameterGroup.{ParameterGroup}
 use Rattle.tp_check_decl.specs.syntax_tree.declared.type_tree.parameter.ParameterGroup.TheVariants as group

@@ -1,11 +1,11 @@
 -- Headers of routines and methods, in front of their blocks or without: judged by what is written in them.
 use Rattle.std.proofs.Common.{◌≡◌, ℕ, Bool, true, false, not, ◌||◌, List, [], ◌∷◌, Option, Some, None, is_some, slice_get, refl, ◌∙◌}
-use Rattle.tp_meaning.specs.type_layout.declared.definitions.TypeId.{TypeId}
-use Rattle.tp_meaning.specs.type_layout.declared.definitions.Param.{Param}
-use Rattle.tp_meaning.specs.type_layout.declared.definitions.Header.{Header}
-use Rattle.tp_meaning.specs.type_layout.declared.definitions.Kind.TheVariants as kind
-use Rattle.tp_meaning.specs.type_layout.declared.definitions.Method.{Method}
-use Rattle.tp_meaning.specs.type_layout.declared.texts.Place.{Place}
+use Rattle.tp_check_decl.specs.type_layout.declared.definitions.TypeId.{TypeId}
+use Rattle.tp_check_decl.specs.type_layout.declared.definitions.Param.{Param}
+use Rattle.tp_check_decl.specs.type_layout.declared.definitions.Header.{Header}
+use Rattle.tp_check_decl.specs.type_layout.declared.definitions.Kind.TheVariants as kind
+use Rattle.tp_check_decl.specs.type_layout.declared.definitions.Method.{Method}
+use Rattle.tp_check_decl.specs.type_layout.declared.texts.Place.{Place}
 use Rattle.tp_check_decl.specs.syntax_tree.declared.identifier.Identifier.{Identifier}
 use Rattle.tp_check_decl.specs.syntax_tree.declared.type_tree.parameter.NamedType.{NamedType}
 use Rattle.tp_check_decl.specs.syntax_tree.declared.type_tree.parameter.ParameterGroup.{ParameterGroup}
@@ -15,7 +15,7 @@ use Rattle.tp_check_decl.specs.syntax_tree.declared.type_tree.parameter.MethodHe
 use Rattle.tp_check_decl.specs.syntax_tree.declared.source_tree.declaration.RoutineHeader.{RoutineHeader}
 use Rattle.tp_check_decl.specs.syntax_tree.declared.source_tree.declaration.RoutineHeader.TheVariants as h
 use Rattle.tp_check_decl.specs.scopes.Environment.{Environment}
-use Rattle.tp_meaning.specs.typed_tree.type_fits.Fits.{definition}
+use Rattle.tp_check_decl.specs.typed_tree.type_fits.Fits.{definition}
 use Rattle.tp_check_decl.specs.typing_rules.declared.faults.Rule.TheVariants as rules
 use Rattle.tp_check_decl.specs.typing_rules.Faults.{broken}
 use Rattle.tp_check_decl.specs.typing_rules.Judgements.{Judgement, makes, refuses, rule, either, part}

@@ -1,13 +1,13 @@
 -- Object types and parts of type declarations are judged by what is written in them.
 use Rattle.std.proofs.Common.{◌≡◌, ℕ, ◌+◌, Bool, true, false, not, ◌&&◌, List, [], ◌∷◌, ◌++◌, map, length, Option, Some, None, refl, sym, ◌∙◌}
 use Rattle.std.proofs.lemmas.List.{length-map}
-use Rattle.tp_meaning.specs.type_layout.declared.definitions.TypeId.{TypeId}
-use Rattle.tp_meaning.specs.type_layout.declared.definitions.Field.{Field}
-use Rattle.tp_meaning.specs.type_layout.declared.definitions.Header.{Header}
-use Rattle.tp_meaning.specs.type_layout.declared.definitions.Method.{Method}
-use Rattle.tp_meaning.specs.type_layout.declared.definitions.TypeDef.TheVariants.{ObjectOf}
-use Rattle.tp_meaning.specs.type_layout.declared.texts.Place.{Place}
-use Rattle.tp_meaning.specs.type_layout.Table.{place_of}
+use Rattle.tp_check_decl.specs.type_layout.declared.definitions.TypeId.{TypeId}
+use Rattle.tp_check_decl.specs.type_layout.declared.definitions.Field.{Field}
+use Rattle.tp_check_decl.specs.type_layout.declared.definitions.Header.{Header}
+use Rattle.tp_check_decl.specs.type_layout.declared.definitions.Method.{Method}
+use Rattle.tp_check_decl.specs.type_layout.declared.definitions.TypeDef.TheVariants.{ObjectOf}
+use Rattle.tp_check_decl.specs.type_layout.declared.texts.Place.{Place}
+use Rattle.tp_check_decl.specs.type_layout.Table.{place_of}
 use Rattle.tp_check_decl.specs.syntax_tree.declared.identifier.Identifier.{Identifier}
 use Rattle.tp_check_decl.specs.syntax_tree.declared.type_tree.parameter.Method as written
 use Rattle.tp_check_decl.specs.syntax_tree.declared.type_tree.parameter.MethodHeader.{MethodHeader}

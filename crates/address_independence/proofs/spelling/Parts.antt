@@ -1,10 +1,10 @@
 -- Parts of declarations are judged by what is written in them.
 use Rattle.std.proofs.Common.{◌≡◌, ℕ, ◌+◌, List, [], ◌∷◌, ◌++◌, map, Option, Some, refl, ◌∙◌}
 use Rattle.std.specs.Prelude.{slice_get}
-use Rattle.tp_meaning.specs.type_layout.declared.definitions.TypeId.{TypeId}
-use Rattle.tp_meaning.specs.type_layout.declared.definitions.Method.{Method}
-use Rattle.tp_meaning.specs.type_layout.declared.definitions.TypeDef.{TypeDef}
-use Rattle.tp_meaning.specs.type_layout.declared.definitions.TypeDef.TheVariants.{ObjectOf}
+use Rattle.tp_check_decl.specs.type_layout.declared.definitions.TypeId.{TypeId}
+use Rattle.tp_check_decl.specs.type_layout.declared.definitions.Method.{Method}
+use Rattle.tp_check_decl.specs.type_layout.declared.definitions.TypeDef.{TypeDef}
+use Rattle.tp_check_decl.specs.type_layout.declared.definitions.TypeDef.TheVariants.{ObjectOf}
 use Rattle.tp_check_decl.specs.syntax_tree.declared.identifier.Identifier.{Identifier}
 use Rattle.tp_check_decl.specs.syntax_tree.declared.type_tree.parameter.Method as written
 use Rattle.tp_check_decl.specs.syntax_tree.declared.type_tree.initializer.Initializer.{Initializer, Row_of-Initializer, end_of-Initializer, more_of-Initializer, Row_of-FieldValue, end_of-FieldValue, more_of-FieldValue}
@@ -18,7 +18,7 @@ use Rattle.tp_check_decl.specs.syntax_tree.declared.source_tree.declaration.Decl
 use Rattle.tp_check_decl.specs.syntax_tree.declared.source_tree.declaration.DeclarationPart.TheVariants as part_of
 use Rattle.tp_check_decl.specs.scopes.declared.entries.Entry.TheVariants as entry
 use Rattle.tp_check_decl.specs.scopes.Environment.{Environment, Meaning, named, find}
-use Rattle.tp_meaning.specs.typed_tree.type_fits.Fits.{definition}
+use Rattle.tp_check_decl.specs.typed_tree.type_fits.Fits.{definition}
 use Rattle.tp_check_decl.specs.typing_rules.Judgements.{Judgement, makes, part}
 use Rattle.tp_check_decl.specs.declaration_checker.type_denoters.Denoters.{ground}
 use Rattle.tp_check_decl.specs.constant_checker.typed_constants.Trees as first

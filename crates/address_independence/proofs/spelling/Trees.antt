@@ -12,7 +12,7 @@ use Rattle.tp_check_decl.specs.syntax_tree.declared.source_tree.source.Tree.{Tre
 use Rattle.tp_check_decl.specs.syntax_tree.declared.source_tree.source.Tree.TheVariants as t
 use Rattle.tp_check_decl.specs.syntax_tree.source_tree.Sources.{of_tree}
 use Rattle.tp_check_decl.specs.tp_lexer.declared.source_directives.collected.Directives.{Directives}
-use Rattle.tp_meaning.specs.typed_tree.declared.units.Item.{Item}
+use Rattle.tp_check_decl.specs.typed_tree.declared.units.Item.{Item}
 use Rattle.tp_check_decl.specs.scopes.Environment.{Environment}
 use Rattle.tp_check_decl.specs.unit_interface.declared.interfaces.Interface.{Interface}
 use Rattle.tp_check_decl.specs.typing_rules.Judgements.{Judgement, makes, part, parts}

@@ -1,6 +1,6 @@
 -- Routines and the declarations of blocks are judged by what is written in them.
 use Rattle.std.proofs.Common.{◌≡◌, ℕ, false, List, [], ◌∷◌, Some, refl, ◌∙◌}
-use Rattle.tp_meaning.specs.type_layout.declared.texts.Place.{Place}
+use Rattle.tp_check_decl.specs.type_layout.declared.texts.Place.{Place}
 use Rattle.tp_check_decl.specs.syntax_tree.declared.statement.CompoundStatement.{CompoundStatement}
 use Rattle.tp_check_decl.specs.syntax_tree.declared.source_tree.declaration.DeclarationPart.{DeclarationPart}
 use Rattle.tp_check_decl.specs.syntax_tree.declared.source_tree.declaration.Routine.{Routine, Row_of-Declaration, end_of-Declaration, more_of-Declaration}

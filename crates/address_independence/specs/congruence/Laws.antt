@@ -1,6 +1,6 @@
 -- What a program means does not depend on where its statements lie in memory.
 use Rattle.std.specs.Prelude.{◌≡◌, ℕ, List, map}
-use Rattle.tp_meaning.specs.typed_tree.declared.units.Program.{Program}
+use Rattle.tp_check_decl.specs.typed_tree.declared.units.Program.{Program}
 use Rattle.tp_meaning.specs.Meaning.{mean}
 use Rattle.tp_check_decl.specs.Units.{view_unit}
 

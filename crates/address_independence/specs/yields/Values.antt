@@ -5,8 +5,8 @@ use Rattle.tp_check_decl.specs.pascal_grammar.declared.operator.Sign.{Sign}
 use Rattle.tp_check_decl.specs.pascal_grammar.declared.operator.Sign.TheVariants as sign
 use Rattle.tp_check_decl.specs.pascal_grammar.declared.operator.Direction.{Direction}
 use Rattle.tp_check_decl.specs.pascal_grammar.declared.operator.Direction.TheVariants as direction
-use Rattle.tp_meaning.specs.typed_tree.declared.expressions.BinaryOp.{BinaryOp}
-use Rattle.tp_meaning.specs.typed_tree.declared.expressions.BinaryOp.TheVariants as binary
+use Rattle.tp_check_decl.specs.typed_tree.declared.expressions.BinaryOp.{BinaryOp}
+use Rattle.tp_check_decl.specs.typed_tree.declared.expressions.BinaryOp.TheVariants as binary
 use Rattle.tp_check_decl.specs.syntax_tree.declared.identifier.Identifier.{Identifier}
 use Rattle.tp_check_decl.specs.syntax_tree.declared.expression.PlacedSign.{PlacedSign}
 use Rattle.tp_check_decl.specs.syntax_tree.declared.type_tree.parameter.NamedType.{NamedType}

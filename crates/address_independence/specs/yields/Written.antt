@@ -1,6 +1,6 @@
 -- Types, declarations and sources as they are written, without where they lie in memory, and without what no rule of typing looks at.
 use Rattle.std.specs.Prelude.{Bool, List, Option}
-use Rattle.tp_meaning.specs.type_layout.declared.texts.Place.{Place}
+use Rattle.tp_check_decl.specs.type_layout.declared.texts.Place.{Place}
 use Rattle.tp_check_decl.specs.pascal_grammar.declared.lexeme.Position.{Position}
 use Rattle.tp_check_decl.specs.syntax_tree.declared.identifier.Identifier.{Identifier}
 use Rattle.tp_check_decl.specs.syntax_tree.declared.type_tree.parameter.NamedType.{NamedType}

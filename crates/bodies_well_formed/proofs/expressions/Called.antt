@@ -13,13 +13,13 @@ use Rattle.tp_check_stmt.specs.scopes.declared.entries.Entry.TheVariants as entr
 use Rattle.tp_check_stmt.specs.scopes.Environment.{Environment, Meaning, named, member, find, kind_of}
 use Rattle.tp_check_stmt.specs.typing_rules.Judgements.{Judgement, Through}
 use Rattle.tp_check_stmt.specs.typing_rules.Selectors.{selected}
-use Rattle.rules_well_formed.specs.call_rules.Casts.{cast}
-use Rattle.rules_well_formed.specs.call_rules.Given.{called}
-use Rattle.rules_well_formed.specs.call_rules.standard_rules.Standard.{standard}
-use Rattle.rules_well_formed.specs.call_rules.method_rules.Methods.{Bound, bound}
-use Rattle.rules_well_formed.specs.call_rules.method_rules.Calls.{called_on}
-use Rattle.rules_well_formed.specs.call_rules.procedural_rules.Through.{held_routine, called_through}
-use Rattle.rules_well_formed.specs.call_rules.allocation_rules.Allocations.{made}
+use Rattle.tp_check_stmt.specs.call_rules.Casts.{cast}
+use Rattle.tp_check_stmt.specs.call_rules.Given.{called}
+use Rattle.tp_check_stmt.specs.call_rules.standard_rules.Standard.{standard}
+use Rattle.tp_check_stmt.specs.call_rules.method_rules.Methods.{Bound, bound}
+use Rattle.tp_check_stmt.specs.call_rules.method_rules.Calls.{called_on}
+use Rattle.tp_check_stmt.specs.call_rules.procedural_rules.Through.{held_routine, called_through}
+use Rattle.tp_check_stmt.specs.call_rules.allocation_rules.Allocations.{made}
 use Rattle.tp_check_stmt.specs.syntax_tree.expression_tree.Trees.{Tree, name}
 use Rattle.tp_check_stmt.specs.tp_check_expr.declared.names.Purpose.{Purpose}
 use Rattle.tp_check_stmt.specs.tp_check_expr.declared.names.Purpose.TheVariants as purpose

@@ -21,10 +21,10 @@ use Rattle.tp_check_stmt.specs.typing_rules.Judgements.{Judgement, makes, part}
 use Rattle.tp_check_stmt.specs.typing_rules.Sorts.{char, string}
 use Rattle.tp_check_stmt.specs.typing_rules.Operators as operator
 use Rattle.tp_check_stmt.specs.typing_rules.Selectors as selector
-use Rattle.rules_well_formed.specs.call_rules.set_rules.Sets.{Item, constructed}
-use Rattle.rules_well_formed.specs.call_rules.standard_rules.Sizes.{is_size, sized, variable_sized}
-use Rattle.rules_well_formed.specs.call_rules.allocation_rules.Allocations.{blank, newly_made}
-use Rattle.rules_well_formed.specs.call_rules.method_rules.Methods.{Bound}
+use Rattle.tp_check_stmt.specs.call_rules.set_rules.Sets.{Item, constructed}
+use Rattle.tp_check_stmt.specs.call_rules.standard_rules.Sizes.{is_size, sized, variable_sized}
+use Rattle.tp_check_stmt.specs.call_rules.allocation_rules.Allocations.{blank, newly_made}
+use Rattle.tp_check_stmt.specs.call_rules.method_rules.Methods.{Bound}
 use Rattle.tp_check_stmt.specs.syntax_tree.expression_tree.Trees as tree
 use Rattle.tp_check_stmt.specs.syntax_tree.expression_tree.Trees.{Tree, Listed, Elements, single, span, no_elements, and_element, Operand, Operands, plain, wide, no_operands, and_operand, number, text, control, set, call, signed, negated, combined, name, field, index, followed, of_sign}
 use Rattle.tp_check_stmt.specs.tp_check_expr.declared.names.Purpose.{Purpose}

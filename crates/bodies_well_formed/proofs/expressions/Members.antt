@@ -16,9 +16,9 @@ use Rattle.tp_check_stmt.specs.scopes.declared.entries.BlockKind.TheVariants as 
 use Rattle.tp_check_stmt.specs.scopes.Environment.{Environment, Meaning, named, member, find, kind_of, found_in, block_count}
 use Rattle.tp_check_stmt.specs.typing_rules.Judgements.{Through}
 use Rattle.tp_check_stmt.specs.typing_rules.Selectors.{selected}
-use Rattle.rules_well_formed.specs.call_rules.method_rules.Methods.{Bound, bound}
-use Rattle.rules_well_formed.specs.call_rules.method_rules.Calls.{called_on}
-use Rattle.rules_well_formed.specs.call_rules.allocation_rules.Allocations.{made}
+use Rattle.tp_check_stmt.specs.call_rules.method_rules.Methods.{Bound, bound}
+use Rattle.tp_check_stmt.specs.call_rules.method_rules.Calls.{called_on}
+use Rattle.tp_check_stmt.specs.call_rules.allocation_rules.Allocations.{made}
 use Rattle.tp_check_stmt.specs.tp_check_expr.declared.names.Purpose.{Purpose}
 use Rattle.tp_check_stmt.specs.tp_check_expr.declared.names.Purpose.TheVariants as purpose
 use Rattle.tp_check_stmt.specs.tp_check_expr.Names.{variable, as_wanted}

@@ -15,9 +15,9 @@ use Rattle.rules_well_formed.specs.well_formed.Typed.{IsTyped}
 use Rattle.tp_check_stmt.specs.scopes.declared.entries.Entry.{Entry}
 use Rattle.tp_check_stmt.specs.scopes.declared.entries.Entry.TheVariants as entry
 use Rattle.tp_check_stmt.specs.scopes.Environment.{Environment}
-use Rattle.rules_well_formed.specs.call_rules.standard_rules.Standard.{is_special, standard}
-use Rattle.rules_well_formed.specs.call_rules.Given.{called}
-use Rattle.rules_well_formed.specs.call_rules.procedural_rules.Through.{settled}
+use Rattle.tp_check_stmt.specs.call_rules.standard_rules.Standard.{is_special, standard}
+use Rattle.tp_check_stmt.specs.call_rules.Given.{called}
+use Rattle.tp_check_stmt.specs.call_rules.procedural_rules.Through.{settled}
 use Rattle.tp_check_stmt.specs.tp_check_expr.declared.names.Purpose.{Purpose}
 use Rattle.tp_check_stmt.specs.tp_check_expr.declared.names.Purpose.TheVariants as purpose
 use Rattle.tp_check_stmt.specs.tp_check_expr.Names.{variable, as_wanted, routine_wanted, standard_wanted, named_constant, entered}

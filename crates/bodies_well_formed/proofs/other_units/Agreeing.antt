@@ -22,7 +22,7 @@ use Rattle.tp_check_stmt.specs.scopes.declared.entries.BlockKind.TheVariants as 
 use Rattle.tp_check_stmt.specs.scopes.declared.searches.OpenBlock.{OpenBlock}
 use Rattle.tp_check_stmt.specs.scopes.Members.{narrow}
 use Rattle.tp_check_stmt.specs.scopes.Environment.{Environment, named, find, kind_in, kind_of, first_open, block_count}
-use Rattle.rules_well_formed.specs.call_rules.method_rules.Methods.{method_in, routine_in}
+use Rattle.tp_check_stmt.specs.call_rules.method_rules.Methods.{method_in, routine_in}
 use Rattle.tp_check_stmt.specs.tp_check_expr.Names.{routine_depth, level_from, variable}
 use Rattle.tp_check_stmt.specs.tp_check_expr.Owners.{held, deeper_with, with_depth}
 use Rattle.tp_check_stmt.specs.Assignments.{is_body_of, is_open_body, is_inside, is_numbered}

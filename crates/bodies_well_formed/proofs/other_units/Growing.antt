@@ -19,7 +19,7 @@ use Rattle.tp_check_stmt.specs.scopes.declared.entries.Entry.TheVariants as entr
 use Rattle.tp_check_stmt.specs.scopes.declared.searches.OpenBlock.{OpenBlock}
 use Rattle.tp_check_stmt.specs.scopes.Symbols.{SymbolList}
 use Rattle.tp_check_stmt.specs.scopes.Environment.{Environment}
-use Rattle.rules_well_formed.specs.call_rules.method_rules.Slots.{methods_of}
+use Rattle.tp_check_stmt.specs.call_rules.method_rules.Slots.{methods_of}
 use Rattle.rules_well_formed.specs.nodes.Tables.{IsInTable, IsResultIn, IsHeaderIn, IsSound}
 use Rattle.rules_well_formed.specs.methods.Declared.{IsMethod, HasMethods}
 use Rattle.rules_well_formed.specs.well_formed.weakening.Weakening.{IsSame, Weakens}

@@ -14,8 +14,8 @@ use Rattle.tp_check_stmt.specs.scopes.declared.entries.Entry.{Entry}
 use Rattle.tp_check_stmt.specs.scopes.declared.entries.Entry.TheVariants as entry
 use Rattle.tp_check_stmt.specs.scopes.Symbols.{SymbolList}
 use Rattle.tp_check_stmt.specs.scopes.Environment.{Environment}
-use Rattle.rules_well_formed.specs.call_rules.method_rules.Slots.{methods_of}
-use Rattle.rules_well_formed.specs.call_rules.method_rules.Methods.{routine_in}
+use Rattle.tp_check_stmt.specs.call_rules.method_rules.Slots.{methods_of}
+use Rattle.tp_check_stmt.specs.call_rules.method_rules.Methods.{routine_in}
 use Rattle.rules_well_formed.specs.well_formed.weakening.Weakening.{AreAmong}
 use Rattle.bodies_well_formed.specs.other_units.Known.{EachOf}
 use Rattle.bodies_well_formed.specs.other_units.Others.{units_at, globals_by, globals_in, globals_used, routines_by, routines_in, routines_used, method_by, methods_from, methods_at, naming, others_of}

@@ -12,7 +12,7 @@ use Rattle.tp_check_stmt.specs.type_layout.Words.{same_bytes}
 use Rattle.tp_check_stmt.proofs.type_layout_proofs.Local.{slice_get-append}
 use Rattle.tp_check_stmt.specs.scopes.Members.{narrow}
 use Rattle.tp_check_stmt.specs.scopes.Environment.{Environment}
-use Rattle.rules_well_formed.specs.call_rules.method_rules.Methods.{unit_at, routine_of, routine_in}
+use Rattle.tp_check_stmt.specs.call_rules.method_rules.Methods.{unit_at, routine_of, routine_in}
 
 -- ---- the first place
 

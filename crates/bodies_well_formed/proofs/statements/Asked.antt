@@ -22,7 +22,7 @@ use Rattle.tp_check_stmt.specs.typing_rules.declared.sorts.Sort.{Sort}
 use Rattle.tp_check_stmt.specs.typing_rules.declared.sorts.Sort.TheVariants as sort
 use Rattle.tp_check_stmt.specs.typing_rules.Sorts as sorts
 use Rattle.tp_check_stmt.specs.typing_rules.Plans as plans
-use Rattle.rules_well_formed.specs.call_rules.Casts as casts
+use Rattle.tp_check_stmt.specs.call_rules.Casts as casts
 use Rattle.tp_check_stmt.specs.tp_check_expr.declared.names.Purpose.TheVariants as purpose
 use Rattle.tp_check_stmt.specs.tp_check_expr.Typed.{judged}
 use Rattle.tp_check_stmt.specs.Places.{Spot, spot_of}

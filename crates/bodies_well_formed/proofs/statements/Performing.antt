@@ -9,17 +9,17 @@ use Rattle.tp_check_stmt.specs.typed_tree.Expressions as tree
 use Rattle.tp_check_stmt.specs.typed_tree.Expressions.{Expression, Arguments}
 use Rattle.tp_check_stmt.specs.typed_tree.Statements.{Written}
 use Rattle.rules_well_formed.specs.well_formed.WellFormed.{IsCall}
-use Rattle.rules_well_formed.specs.call_rules.Given.{result_performed, performed}
-use Rattle.rules_well_formed.specs.call_rules.declared.method_rules.methods.Callee.{Callee}
-use Rattle.rules_well_formed.specs.call_rules.declared.method_rules.methods.Callee.TheVariants as callee
-use Rattle.rules_well_formed.specs.call_rules.method_rules.Methods.{Bound}
-use Rattle.rules_well_formed.specs.call_rules.method_rules.Calls as methods
-use Rattle.rules_well_formed.specs.call_rules.method_rules.Calls.{node_of, performed_on}
-use Rattle.rules_well_formed.specs.call_rules.procedural_rules.Through as held
-use Rattle.rules_well_formed.specs.call_rules.procedural_rules.Through.{Held, performed_through}
-use Rattle.rules_well_formed.specs.call_rules.declared.procedure_rules.rows.Slots.{Slots}
-use Rattle.rules_well_formed.specs.call_rules.procedure_rules.Rows.{slots_of}
-use Rattle.rules_well_formed.specs.call_rules.procedure_rules.Procedures.{performed_by, standard_performed, told_by, told}
+use Rattle.tp_check_stmt.specs.call_rules.Given.{result_performed, performed}
+use Rattle.tp_check_stmt.specs.call_rules.declared.method_rules.methods.Callee.{Callee}
+use Rattle.tp_check_stmt.specs.call_rules.declared.method_rules.methods.Callee.TheVariants as callee
+use Rattle.tp_check_stmt.specs.call_rules.method_rules.Methods.{Bound}
+use Rattle.tp_check_stmt.specs.call_rules.method_rules.Calls as methods
+use Rattle.tp_check_stmt.specs.call_rules.method_rules.Calls.{node_of, performed_on}
+use Rattle.tp_check_stmt.specs.call_rules.procedural_rules.Through as held
+use Rattle.tp_check_stmt.specs.call_rules.procedural_rules.Through.{Held, performed_through}
+use Rattle.tp_check_stmt.specs.call_rules.declared.procedure_rules.rows.Slots.{Slots}
+use Rattle.tp_check_stmt.specs.call_rules.procedure_rules.Rows.{slots_of}
+use Rattle.tp_check_stmt.specs.call_rules.procedure_rules.Procedures.{performed_by, standard_performed, told_by, told}
 
 module _ (types : List TypeDef) (place : Place) where
   is_call : (e other : Expression) → e ≡ other → IsCall other → IsCall e

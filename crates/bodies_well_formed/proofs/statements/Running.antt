@@ -20,11 +20,11 @@ use Rattle.tp_check_stmt.specs.scopes.declared.entries.Entry.TheVariants as entr
 use Rattle.tp_check_stmt.specs.scopes.Environment.{Environment}
 use Rattle.tp_check_stmt.specs.typing_rules.Judgements.{Judgement}
 use Rattle.tp_check_stmt.specs.typing_rules.Sorts as sorts
-use Rattle.rules_well_formed.specs.call_rules.Given.{performed}
-use Rattle.rules_well_formed.specs.call_rules.method_rules.Calls.{performed_on}
-use Rattle.rules_well_formed.specs.call_rules.procedural_rules.Through.{performed_through}
-use Rattle.rules_well_formed.specs.call_rules.procedure_rules.Procedures.{standard_performed, told}
-use Rattle.rules_well_formed.specs.call_rules.allocation_rules.Allocations.{newly_made, unmade}
+use Rattle.tp_check_stmt.specs.call_rules.Given.{performed}
+use Rattle.tp_check_stmt.specs.call_rules.method_rules.Calls.{performed_on}
+use Rattle.tp_check_stmt.specs.call_rules.procedural_rules.Through.{performed_through}
+use Rattle.tp_check_stmt.specs.call_rules.procedure_rules.Procedures.{standard_performed, told}
+use Rattle.tp_check_stmt.specs.call_rules.allocation_rules.Allocations.{newly_made, unmade}
 use Rattle.tp_check_stmt.specs.tp_check_expr.declared.names.Purpose.TheVariants as purpose
 use Rattle.tp_check_stmt.specs.tp_check_expr.Calls.{Callable, declared, method, through, maker}
 use Rattle.tp_check_stmt.specs.Places.{Spot, spot_of}

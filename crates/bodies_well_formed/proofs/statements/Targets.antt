@@ -21,7 +21,7 @@ use Rattle.tp_check_stmt.specs.scopes.declared.entries.Entry.TheVariants as entr
 use Rattle.tp_check_stmt.specs.scopes.declared.entries.BlockKind.{BlockKind}
 use Rattle.tp_check_stmt.specs.scopes.declared.entries.BlockKind.TheVariants as block
 use Rattle.tp_check_stmt.specs.scopes.Environment.{Environment, Meaning, named, member, find, kind_of}
-use Rattle.rules_well_formed.specs.call_rules.method_rules.Methods.{method_in, routine_in}
+use Rattle.tp_check_stmt.specs.call_rules.method_rules.Methods.{method_in, routine_in}
 use Rattle.tp_check_stmt.specs.typing_rules.declared.faults.Fault.{Fault}
 use Rattle.tp_check_stmt.specs.tp_check_expr.declared.names.Purpose.TheVariants as purpose
 use Rattle.tp_check_stmt.specs.tp_check_expr.Names.{purpose_for}

@@ -9,8 +9,8 @@ use Rattle.tp_check_stmt.specs.scopes.declared.entries.Entry.{Entry}
 use Rattle.tp_check_stmt.specs.scopes.declared.entries.Entry.TheVariants as entry
 use Rattle.tp_check_stmt.specs.scopes.Symbols.{SymbolList}
 use Rattle.tp_check_stmt.specs.scopes.Environment.{Environment}
-use Rattle.rules_well_formed.specs.call_rules.method_rules.Slots.{methods_of}
-use Rattle.rules_well_formed.specs.call_rules.method_rules.Methods.{routine_in}
+use Rattle.tp_check_stmt.specs.call_rules.method_rules.Slots.{methods_of}
+use Rattle.tp_check_stmt.specs.call_rules.method_rules.Methods.{routine_in}
 
 -- ---- units
 

@@ -9,7 +9,7 @@ use Rattle.tp_check_stmt.specs.scopes.declared.entries.Entry.TheVariants as entr
 use Rattle.tp_check_stmt.specs.scopes.declared.entries.BlockKind.TheVariants as block
 use Rattle.tp_check_stmt.specs.scopes.Members.{narrow}
 use Rattle.tp_check_stmt.specs.scopes.Environment.{Environment, named, find, kind_of, block_count}
-use Rattle.rules_well_formed.specs.call_rules.method_rules.Methods.{method_in, routine_in}
+use Rattle.tp_check_stmt.specs.call_rules.method_rules.Methods.{method_in, routine_in}
 use Rattle.tp_check_stmt.specs.tp_check_expr.Names.{variable}
 use Rattle.tp_check_stmt.specs.tp_check_expr.Owners.{with_depth}
 use Rattle.tp_check_stmt.specs.Assignments.{is_inside, is_numbered}

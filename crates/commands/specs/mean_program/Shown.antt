@@ -1,16 +1,16 @@
 -- What is shown of a program's meaning.
 use Rattle.std.specs.Prelude.{◌≡◌, ◌⊎◌, ℕ, List, Option}
 use Rattle.std.specs.Io.KnownBytes.{append_known}
-use Rattle.dos_runner.specs.tp_outside.Faults.{HasRisen}
-use Rattle.dos_runner.specs.tp_outside.Streams.{TakesPrefix}
-use Rattle.interpreter.specs.common_values.behaviour.Seen.{Seen, Standing, Ended, Going, Undefined, Stopped}
-use Rattle.interpreter.specs.typed_tree.declared.units.Program.{Program}
-use Rattle.interpreter.specs.tp_meaning.Meaning.{mean}
-use Rattle.dos_runner.specs.tp_outside.whole_input.Input.{IsWhole, HasMore}
-use Rattle.checked_front_end.specs.front_end.declared.outcomes.outcome.Outcome.{Outcome}
-use Rattle.checked_front_end.specs.front_end.declared.outcomes.outcome.Outcome.TheVariants as outcome
-use Rattle.checked_front_end.specs.front_end.declared.outcomes.refusal.Refusal.TheVariants as refusal
-use Rattle.checked_front_end.specs.front_end.declared.outcomes.refusal.What.TheVariants as what
+use Rattle.tp_outside.specs.Faults.{HasRisen}
+use Rattle.tp_outside.specs.Streams.{TakesPrefix}
+use Rattle.common_values.specs.behaviour.Seen.{Seen, Standing, Ended, Going, Undefined, Stopped}
+use Rattle.typed_tree.specs.declared.units.Program.{Program}
+use Rattle.tp_meaning.specs.Meaning.{mean}
+use Rattle.tp_outside.specs.whole_input.Input.{IsWhole, HasMore}
+use Rattle.front_end.specs.declared.outcomes.outcome.Outcome.{Outcome}
+use Rattle.front_end.specs.declared.outcomes.outcome.Outcome.TheVariants as outcome
+use Rattle.front_end.specs.declared.outcomes.refusal.Refusal.TheVariants as refusal
+use Rattle.front_end.specs.declared.outcomes.refusal.What.TheVariants as what
 
 -- The outcome is how the meaning stands: it has ended, goes on, or has come to an act that the language leaves open.
 abbrev pub Stands : Standing → Outcome → Type 0

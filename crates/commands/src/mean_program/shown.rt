@@ -1,20 +1,20 @@
 //! What a program means on an input, written to the output and the errors.
 
 ghost use Rattle.std.specs.Prelude.{◌≡◌, ◌≢◌, ◌<◌, ◌≤◌, All, IfOk, IfErr, OnErr};
-ghost use Rattle.dos_runner.specs.tp_outside.Faults.{HasRisen};
-ghost use Rattle.dos_runner.specs.tp_outside.Streams.{GaveSome};
-ghost use Rattle.interpreter.specs.common_values.behaviour.Seen.{Seen, Stopped};
-ghost use Rattle.interpreter.specs.tp_meaning.Meaning.{IsNeverStopped};
+ghost use Rattle.tp_outside.specs.Faults.{HasRisen};
+ghost use Rattle.tp_outside.specs.Streams.{GaveSome};
+ghost use Rattle.common_values.specs.behaviour.Seen.{Seen, Stopped};
+ghost use Rattle.tp_meaning.specs.Meaning.{IsNeverStopped};
 ghost use Rattle.interpreter.specs.Whole.{view_end, view_meaning};
-ghost use Rattle.dos_runner.specs.tp_outside.whole_input.Input.{IsWhole};
+ghost use Rattle.tp_outside.specs.whole_input.Input.{IsWhole};
 ghost use Rattle.commands.specs.mean_program.Shown.{streams, Stands, IsUnread, Writes, Shows};
 
-use checked_front_end::front_end::outcomes::{Outcome, Refusal, What};
-use dos_runner::tp_outside::whole_input::{InputError, whole_input};
-use dos_runner::tp_outside::{Sink, Source, write_all};
-use interpreter::typed_tree::Program;
+use front_end::outcomes::{Outcome, Refusal, What};
 use interpreter::{MeanEnd, Meaning, mean};
 use std::alloc::Global;
+use tp_outside::whole_input::{InputError, whole_input};
+use tp_outside::{Sink, Source, write_all};
+use typed_tree::Program;
 
 fn read_input<S: Source>(alloc: Global, input: &mut S) -> Result<Vec<u8>, Outcome>
     ensures whole { IfOk result (λ bytes. IsWhole (S.remaining input.old) (S.remaining input.new) bytes.items) }

@@ -1,18 +1,18 @@
 -- Parts of declarations are judged lawfully.
 use Rattle.std.proofs.Common.{ℕ, List, [], ◌∷◌, ◌++◌, Option}
-use Rattle.constant_checker.specs.type_layout.declared.definitions.TypeId.{TypeId}
-use Rattle.constant_checker.specs.syntax_tree.declared.identifier.Identifier.{Identifier}
-use Rattle.constant_checker.specs.syntax_tree.declared.source_tree.declaration.ConstantDeclaration.{ConstantDeclaration}
-use Rattle.constant_checker.specs.syntax_tree.declared.source_tree.declaration.ConstantDeclaration.TheVariants as c
-use Rattle.constant_checker.specs.syntax_tree.declared.source_tree.declaration.VariableDeclaration.{VariableDeclaration}
-use Rattle.constant_checker.specs.syntax_tree.declared.source_tree.declaration.DeclarationPart.{DeclarationPart}
-use Rattle.constant_checker.specs.syntax_tree.declared.source_tree.declaration.DeclarationPart.TheVariants as part_of
-use Rattle.constant_checker.specs.syntax_tree.expression_tree.Trees.{Tree, view_simple}
-use Rattle.constant_checker.specs.scopes.declared.entries.Entry.TheVariants as entry
-use Rattle.constant_checker.specs.scopes.Environment.{Environment}
-use Rattle.constant_checker.specs.typing_rules.Judgements.{Judgement, makes, part}
-use Rattle.constant_checker.specs.typing_rules.Laws.{Lawful}
-use Rattle.constant_checker.proofs.typing_rules_proofs.JudgementLaws.{lawful_makes, lawful_part}
+use Rattle.type_layout.specs.declared.definitions.TypeId.{TypeId}
+use Rattle.syntax_tree.specs.declared.identifier.Identifier.{Identifier}
+use Rattle.syntax_tree.specs.declared.source_tree.declaration.ConstantDeclaration.{ConstantDeclaration}
+use Rattle.syntax_tree.specs.declared.source_tree.declaration.ConstantDeclaration.TheVariants as c
+use Rattle.syntax_tree.specs.declared.source_tree.declaration.VariableDeclaration.{VariableDeclaration}
+use Rattle.syntax_tree.specs.declared.source_tree.declaration.DeclarationPart.{DeclarationPart}
+use Rattle.syntax_tree.specs.declared.source_tree.declaration.DeclarationPart.TheVariants as part_of
+use Rattle.syntax_tree.specs.expression_tree.Trees.{Tree, view_simple}
+use Rattle.scopes.specs.declared.entries.Entry.TheVariants as entry
+use Rattle.scopes.specs.Environment.{Environment}
+use Rattle.typing_rules.specs.Judgements.{Judgement, makes, part}
+use Rattle.typing_rules.specs.Laws.{Lawful}
+use Rattle.typing_rules.proofs.JudgementLaws.{lawful_makes, lawful_part}
 use Rattle.constant_checker.specs.constant_expressions.Constants.{judged}
 use Rattle.constant_checker.proofs.constant_expressions.ConstantLaws as constants
 use Rattle.declaration_checker.specs.type_denoters.Trees.{Denoter, view_denoter}

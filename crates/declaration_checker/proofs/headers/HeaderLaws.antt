@@ -1,35 +1,35 @@
 -- Names of types and headers are judged lawfully.
 use Rattle.std.proofs.Common.{◌≡◌, ◌≤◌, ℕ, ◌++◌, ◌∷◌, [], Bool, true, false, not, nat_le, List, Option, Some, None, Decides, refl}
 use Rattle.std.proofs.lemmas.Bool.{leb-true, le-leb}
-use Rattle.constant_checker.specs.type_layout.declared.definitions.TypeId.{TypeId}
-use Rattle.constant_checker.specs.type_layout.declared.definitions.Param.{Param}
-use Rattle.constant_checker.specs.type_layout.declared.definitions.Kind.{Kind}
-use Rattle.constant_checker.specs.type_layout.declared.definitions.Kind.TheVariants as kind
-use Rattle.constant_checker.specs.type_layout.declared.definitions.Header.{Header}
-use Rattle.constant_checker.specs.type_layout.declared.definitions.TypeDef.{TypeDef}
-use Rattle.constant_checker.specs.type_layout.declared.texts.Place.{Place}
-use Rattle.constant_checker.specs.tp_lexer.declared.token.Feature.{Feature}
-use Rattle.constant_checker.specs.tp_lexer.left_out_names.Names.{feature_of}
-use Rattle.constant_checker.specs.syntax_tree.declared.identifier.Identifier.{Identifier}
-use Rattle.constant_checker.specs.syntax_tree.declared.type_tree.parameter.NamedType.{NamedType}
-use Rattle.constant_checker.specs.syntax_tree.declared.type_tree.parameter.NamedType.TheVariants as t
-use Rattle.constant_checker.specs.syntax_tree.declared.type_tree.parameter.ParameterGroup.{ParameterGroup}
-use Rattle.constant_checker.specs.syntax_tree.declared.type_tree.parameter.ParameterGroup.TheVariants as group
-use Rattle.constant_checker.specs.syntax_tree.declared.type_tree.parameter.MethodHeader.{MethodHeader}
-use Rattle.constant_checker.specs.syntax_tree.declared.type_tree.parameter.MethodHeader.TheVariants as method
-use Rattle.constant_checker.specs.syntax_tree.declared.source_tree.declaration.RoutineHeader.{RoutineHeader}
-use Rattle.constant_checker.specs.syntax_tree.declared.source_tree.declaration.RoutineHeader.TheVariants as routine
-use Rattle.constant_checker.specs.scopes.declared.entries.Entry.{Entry}
-use Rattle.constant_checker.specs.scopes.declared.entries.Entry.TheVariants as entry
-use Rattle.constant_checker.specs.scopes.Environment.{Environment, Meaning, named, member, find}
-use Rattle.constant_checker.specs.typing_rules.declared.faults.Rule.TheVariants as rules
-use Rattle.constant_checker.specs.typing_rules.declared.sorts.Sort.{Sort}
-use Rattle.constant_checker.specs.typing_rules.declared.sorts.Sort.TheVariants as sort
-use Rattle.constant_checker.specs.typing_rules.Faults.{broken, too_large}
-use Rattle.constant_checker.specs.typing_rules.Laws.{Lawful}
-use Rattle.constant_checker.specs.typing_rules.Sorts.{sort_of_type}
-use Rattle.constant_checker.proofs.typing_rules_proofs.JudgementLaws.{lawful_makes, lawful_refuses, lawful_rule, lawful_part, lawful_parts}
-use Rattle.constant_checker.proofs.typing_rules_proofs.PlanLaws.{yes, no}
+use Rattle.type_layout.specs.declared.definitions.TypeId.{TypeId}
+use Rattle.type_layout.specs.declared.definitions.Param.{Param}
+use Rattle.type_layout.specs.declared.definitions.Kind.{Kind}
+use Rattle.type_layout.specs.declared.definitions.Kind.TheVariants as kind
+use Rattle.type_layout.specs.declared.definitions.Header.{Header}
+use Rattle.type_layout.specs.declared.definitions.TypeDef.{TypeDef}
+use Rattle.type_layout.specs.declared.texts.Place.{Place}
+use Rattle.tp_lexer.specs.declared.token.Feature.{Feature}
+use Rattle.tp_lexer.specs.left_out_names.Names.{feature_of}
+use Rattle.syntax_tree.specs.declared.identifier.Identifier.{Identifier}
+use Rattle.syntax_tree.specs.declared.type_tree.parameter.NamedType.{NamedType}
+use Rattle.syntax_tree.specs.declared.type_tree.parameter.NamedType.TheVariants as t
+use Rattle.syntax_tree.specs.declared.type_tree.parameter.ParameterGroup.{ParameterGroup}
+use Rattle.syntax_tree.specs.declared.type_tree.parameter.ParameterGroup.TheVariants as group
+use Rattle.syntax_tree.specs.declared.type_tree.parameter.MethodHeader.{MethodHeader}
+use Rattle.syntax_tree.specs.declared.type_tree.parameter.MethodHeader.TheVariants as method
+use Rattle.syntax_tree.specs.declared.source_tree.declaration.RoutineHeader.{RoutineHeader}
+use Rattle.syntax_tree.specs.declared.source_tree.declaration.RoutineHeader.TheVariants as routine
+use Rattle.scopes.specs.declared.entries.Entry.{Entry}
+use Rattle.scopes.specs.declared.entries.Entry.TheVariants as entry
+use Rattle.scopes.specs.Environment.{Environment, Meaning, named, member, find}
+use Rattle.typing_rules.specs.declared.faults.Rule.TheVariants as rules
+use Rattle.typing_rules.specs.declared.sorts.Sort.{Sort}
+use Rattle.typing_rules.specs.declared.sorts.Sort.TheVariants as sort
+use Rattle.typing_rules.specs.Faults.{broken, too_large}
+use Rattle.typing_rules.specs.Laws.{Lawful}
+use Rattle.typing_rules.specs.Sorts.{sort_of_type}
+use Rattle.typing_rules.proofs.JudgementLaws.{lawful_makes, lawful_refuses, lawful_rule, lawful_part, lawful_parts}
+use Rattle.typing_rules.proofs.PlanLaws.{yes, no}
 use Rattle.declaration_checker.specs.headers.Names.{of_entry, of_meaning, type_named, named_type}
 use Rattle.declaration_checker.specs.headers.Parameters.{has_param, param, is_new, names_onto, group_onto, groups_onto, parameters}
 use Rattle.declaration_checker.specs.headers.Headers.{IsResult, is_result, result_of, header_bytes, of_parts, limited, procedure_header, function_header, routine_header, method_header}

@@ -3,18 +3,18 @@ use Rattle.std.proofs.Common.{◌≡◌, ◌≤◌, ◌<◌, ◌↔◌, ◌^◌,
 use Rattle.std.proofs.lemmas.Bool.{leb-true, le-leb, lt-leb}
 use Rattle.std.proofs.lemmas.Bool.Decides.{same_from_decides, leb_tells, Decides-like, Decides-and, Decides-eqb, Decides-ltb, Decides-by_and}
 use Rattle.std.specs.List.{list_all}
-use Rattle.constant_checker.specs.type_layout.declared.definitions.TypeId.{TypeId}
-use Rattle.constant_checker.specs.type_layout.declared.definitions.Field.{Field}
-use Rattle.constant_checker.specs.type_layout.declared.definitions.Method.{Method}
-use Rattle.constant_checker.specs.type_layout.declared.definitions.TypeDef.{TypeDef}
-use Rattle.constant_checker.specs.type_layout.declared.definitions.TypeDef.TheVariants.{Ordinal, Str, SetOf, ArrayOf, RecordOf, PointerTo, ObjectOf, Procedural}
-use Rattle.constant_checker.specs.type_layout.declared.table.TypeError.{TypeError}
-use Rattle.constant_checker.specs.type_layout.declared.table.TypeError.TheVariants.{TooLarge}
-use Rattle.constant_checker.specs.type_layout.Table.{Table, IsOrdinal, IsByteRange, IsObject, IsAncestor, IsDefinedOver, HasMethodsOf, IsAddable, place_of}
-use Rattle.constant_checker.specs.type_layout.Storage.{least_of, greatest_of}
+use Rattle.type_layout.specs.declared.definitions.TypeId.{TypeId}
+use Rattle.type_layout.specs.declared.definitions.Field.{Field}
+use Rattle.type_layout.specs.declared.definitions.Method.{Method}
+use Rattle.type_layout.specs.declared.definitions.TypeDef.{TypeDef}
+use Rattle.type_layout.specs.declared.definitions.TypeDef.TheVariants.{Ordinal, Str, SetOf, ArrayOf, RecordOf, PointerTo, ObjectOf, Procedural}
+use Rattle.type_layout.specs.declared.table.TypeError.{TypeError}
+use Rattle.type_layout.specs.declared.table.TypeError.TheVariants.{TooLarge}
+use Rattle.type_layout.specs.Table.{Table, IsOrdinal, IsByteRange, IsObject, IsAncestor, IsDefinedOver, HasMethodsOf, IsAddable, place_of}
+use Rattle.type_layout.specs.Storage.{least_of, greatest_of}
 use Rattle.std.proofs.lemmas.Int.{ints}
 use Rattle.std.specs.Prelude.{slice_get, pos}
-use Rattle.constant_checker.proofs.typing_rules_proofs.PlanLaws.{yes, no}
+use Rattle.typing_rules.proofs.PlanLaws.{yes, no}
 use Rattle.declaration_checker.specs.type_denoters.Additions.{is_ordinal, is_byte_range, is_object, is_ancestor, are_known, is_defined_over, has_methods_of, is_addable}
 
 pub tells_rising : (m n : ℤ) → Decides (int_le m n) (m ≤ℤ n)

@@ -4,7 +4,7 @@ use Rattle.std.specs.List.{sum_by}
 use Rattle.std.specs.Prelude.{slice_get}
 use Rattle.std.proofs.lemmas.List.{take_all}
 use Rattle.std.proofs.lemmas.List.Sums.{sum_by-append}
-use Rattle.constant_checker.specs.type_layout.declared.definitions.Origin.{Origin}
+use Rattle.type_layout.specs.declared.definitions.Origin.{Origin}
 use Rattle.declaration_checker.specs.type_denoters.Additions.{one_of}
 
 take-next : {A : Type 0} → (all : List A) (place : ℕ) (one : A) → slice_get all place ≡ Some one → take (suc place) all ≡ take place all ++ one ∷ []

@@ -2,32 +2,32 @@
 use Rattle.std.proofs.Common.{◌≡◌, ◌≤◌, ℕ, ◌+◌, ℤ, false, not, nat_le, List, [], ◌∷◌, ◌++◌, Option, Some, None, Decides, length}
 use Rattle.std.specs.Prelude.{◌-ℤ◌, pos, unsigned_abs}
 use Rattle.std.proofs.lemmas.Bool.Decides.{Decides-and}
-use Rattle.constant_checker.specs.type_layout.declared.definitions.TypeId.{TypeId}
-use Rattle.constant_checker.specs.type_layout.declared.definitions.Field.{Field}
-use Rattle.constant_checker.specs.type_layout.declared.definitions.Kind.TheVariants as kind
-use Rattle.constant_checker.specs.type_layout.declared.definitions.Host.{Host}
-use Rattle.constant_checker.specs.type_layout.declared.definitions.Host.TheVariants as host
-use Rattle.constant_checker.specs.type_layout.declared.definitions.TypeDef.{TypeDef}
-use Rattle.constant_checker.specs.type_layout.declared.definitions.TypeDef.TheVariants.{Ordinal, Str, SetOf, ArrayOf, RecordOf, PointerTo, Procedural}
-use Rattle.constant_checker.specs.type_layout.declared.texts.Place.{Place}
-use Rattle.constant_checker.specs.type_layout.Table.{IsAddable}
-use Rattle.constant_checker.specs.typed_tree.declared.expressions.Value.TheVariants as value
-use Rattle.constant_checker.specs.syntax_tree.declared.identifier.Identifier.{Identifier}
-use Rattle.constant_checker.specs.scopes.declared.entries.Entry.{Entry}
-use Rattle.constant_checker.specs.scopes.declared.entries.Entry.TheVariants as entry
-use Rattle.constant_checker.specs.scopes.Predeclared.{type_id}
-use Rattle.constant_checker.specs.scopes.Environment.{Environment, has_innermost, with_name}
-use Rattle.constant_checker.specs.typing_rules.declared.faults.Rule.{Rule}
-use Rattle.constant_checker.specs.typing_rules.declared.faults.Rule.TheVariants as rules
-use Rattle.constant_checker.specs.typing_rules.declared.sorts.Sort.{Sort}
-use Rattle.constant_checker.specs.typing_rules.Faults.{broken, too_large}
-use Rattle.constant_checker.specs.typing_rules.Judgements.{Judgement, makes, rule, part}
-use Rattle.constant_checker.specs.typing_rules.Laws.{Lawful}
-use Rattle.constant_checker.specs.typing_rules.Sorts.{sort_of_type}
-use Rattle.constant_checker.specs.typing_rules.Plans.{AreOfOneHost, are_of_one_host}
-use Rattle.constant_checker.specs.typing_rules.Wanted.{stored_of_type}
-use Rattle.constant_checker.proofs.typing_rules_proofs.JudgementLaws.{lawful_makes, lawful_refuses, lawful_rule, lawful_part, lawful_parts}
-use Rattle.constant_checker.proofs.typing_rules_proofs.PlanLaws.{yes, no, tells_integer, tells_one_host}
+use Rattle.type_layout.specs.declared.definitions.TypeId.{TypeId}
+use Rattle.type_layout.specs.declared.definitions.Field.{Field}
+use Rattle.type_layout.specs.declared.definitions.Kind.TheVariants as kind
+use Rattle.type_layout.specs.declared.definitions.Host.{Host}
+use Rattle.type_layout.specs.declared.definitions.Host.TheVariants as host
+use Rattle.type_layout.specs.declared.definitions.TypeDef.{TypeDef}
+use Rattle.type_layout.specs.declared.definitions.TypeDef.TheVariants.{Ordinal, Str, SetOf, ArrayOf, RecordOf, PointerTo, Procedural}
+use Rattle.type_layout.specs.declared.texts.Place.{Place}
+use Rattle.type_layout.specs.Table.{IsAddable}
+use Rattle.typed_tree.specs.declared.expressions.Value.TheVariants as value
+use Rattle.syntax_tree.specs.declared.identifier.Identifier.{Identifier}
+use Rattle.scopes.specs.declared.entries.Entry.{Entry}
+use Rattle.scopes.specs.declared.entries.Entry.TheVariants as entry
+use Rattle.scopes.specs.Predeclared.{type_id}
+use Rattle.scopes.specs.Environment.{Environment, has_innermost, with_name}
+use Rattle.typing_rules.specs.declared.faults.Rule.{Rule}
+use Rattle.typing_rules.specs.declared.faults.Rule.TheVariants as rules
+use Rattle.typing_rules.specs.declared.sorts.Sort.{Sort}
+use Rattle.typing_rules.specs.Faults.{broken, too_large}
+use Rattle.typing_rules.specs.Judgements.{Judgement, makes, rule, part}
+use Rattle.typing_rules.specs.Laws.{Lawful}
+use Rattle.typing_rules.specs.Sorts.{sort_of_type}
+use Rattle.typing_rules.specs.Plans.{AreOfOneHost, are_of_one_host}
+use Rattle.typing_rules.specs.Wanted.{stored_of_type}
+use Rattle.typing_rules.proofs.JudgementLaws.{lawful_makes, lawful_refuses, lawful_rule, lawful_part, lawful_parts}
+use Rattle.typing_rules.proofs.PlanLaws.{yes, no, tells_integer, tells_one_host}
 use Rattle.constant_checker.specs.declared.constant_expressions.constants.Constant.{Constant}
 use Rattle.constant_checker.specs.constant_expressions.Constants as constants
 use Rattle.constant_checker.specs.constant_expressions.Values.{number_of}

@@ -2,14 +2,14 @@
 use Rattle.std.proofs.Common.{◌≡◌, ℕ, true, false, nat_le, List, [], ◌∷◌, ◌++◌, Ok, Err, length, refl}
 use Rattle.std.specs.Prelude.{reverse}
 use Rattle.std.proofs.lemmas.List.{reverse-append}
-use Rattle.constant_checker.specs.type_layout.declared.definitions.TypeId.{TypeId}
-use Rattle.constant_checker.specs.type_layout.declared.definitions.TypeDef.{TypeDef}
-use Rattle.constant_checker.specs.type_layout.declared.texts.Place.{Place}
-use Rattle.constant_checker.specs.scopes.Predeclared.{type_id}
-use Rattle.constant_checker.specs.scopes.Environment.{Environment}
-use Rattle.constant_checker.specs.typing_rules.declared.faults.Rule.{Rule}
-use Rattle.constant_checker.specs.typing_rules.Faults.{broken, too_large}
-use Rattle.constant_checker.specs.typing_rules.Judgements.{◌>>=◌}
+use Rattle.type_layout.specs.declared.definitions.TypeId.{TypeId}
+use Rattle.type_layout.specs.declared.definitions.TypeDef.{TypeDef}
+use Rattle.type_layout.specs.declared.texts.Place.{Place}
+use Rattle.scopes.specs.Predeclared.{type_id}
+use Rattle.scopes.specs.Environment.{Environment}
+use Rattle.typing_rules.specs.declared.faults.Rule.{Rule}
+use Rattle.typing_rules.specs.Faults.{broken, too_large}
+use Rattle.typing_rules.specs.Judgements.{◌>>=◌}
 use Rattle.declaration_checker.specs.type_denoters.Additions.{is_addable, with_type_of, Denoted, denoted, bytes_of, added}
 use Rattle.declaration_checker.specs.type_denoters.Denoters.{array_of, arrays_of}
 

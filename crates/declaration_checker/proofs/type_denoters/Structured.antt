@@ -1,18 +1,18 @@
 -- What is answered for arrays and records, by what is answered for their parts.
 use Rattle.std.proofs.Common.{◌≡◌, Bool, [], Result, Ok, refl, ap, sym, subst, ◌∙◌, Vec, Box, Global}
-use Rattle.constant_checker.specs.pascal_grammar.declared.lexeme.Position.{Position}
-use Rattle.constant_checker.specs.type_layout.declared.definitions.TypeDef.TheVariants.{RecordOf}
-use Rattle.constant_checker.specs.type_layout.declared.texts.Place.{Place}
-use Rattle.constant_checker.specs.syntax_tree.declared.type_tree.types.TypeDenoter.{TypeDenoter}
-use Rattle.constant_checker.specs.syntax_tree.declared.type_tree.types.FieldGroup.{FieldGroup}
-use Rattle.constant_checker.specs.syntax_tree.declared.type_tree.types.StructuredType.{StructuredType}
-use Rattle.constant_checker.specs.syntax_tree.declared.type_tree.types.StructuredType.TheVariants as s
-use Rattle.constant_checker.specs.scopes.Environment.{Environment}
-use Rattle.constant_checker.specs.typing_rules.declared.faults.Rule.TheVariants as rules
-use Rattle.constant_checker.specs.typing_rules.declared.faults.Fault.{Fault}
-use Rattle.constant_checker.specs.typing_rules.declared.faults.Refusal.{Refusal}
-use Rattle.constant_checker.specs.typing_rules.declared.faults.Refusal.TheVariants as refusal
-use Rattle.constant_checker.specs.typing_rules.Judgements.{◌>>=◌, Gives, FailsAs}
+use Rattle.pascal_grammar.specs.declared.lexeme.Position.{Position}
+use Rattle.type_layout.specs.declared.definitions.TypeDef.TheVariants.{RecordOf}
+use Rattle.type_layout.specs.declared.texts.Place.{Place}
+use Rattle.syntax_tree.specs.declared.type_tree.types.TypeDenoter.{TypeDenoter}
+use Rattle.syntax_tree.specs.declared.type_tree.types.FieldGroup.{FieldGroup}
+use Rattle.syntax_tree.specs.declared.type_tree.types.StructuredType.{StructuredType}
+use Rattle.syntax_tree.specs.declared.type_tree.types.StructuredType.TheVariants as s
+use Rattle.scopes.specs.Environment.{Environment}
+use Rattle.typing_rules.specs.declared.faults.Rule.TheVariants as rules
+use Rattle.typing_rules.specs.declared.faults.Fault.{Fault}
+use Rattle.typing_rules.specs.declared.faults.Refusal.{Refusal}
+use Rattle.typing_rules.specs.declared.faults.Refusal.TheVariants as refusal
+use Rattle.typing_rules.specs.Judgements.{◌>>=◌, Gives, FailsAs}
 use Rattle.declaration_checker.specs.type_denoters.Trees.{Denoter, view_denoter, view_structured, view_denoters, view_groups}
 use Rattle.declaration_checker.specs.type_denoters.Additions.{Denoted, added}
 use Rattle.declaration_checker.specs.type_denoters.Denoters.{Ground, arrays_of, Indexes, Listed, judged, indexes_judged, fields_judged}

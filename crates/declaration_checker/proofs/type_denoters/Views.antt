@@ -1,15 +1,15 @@
 -- Types round a list that lies in a vector.
 use Rattle.std.proofs.Common.{◌≡◌, ap, refl, ◌∙◌, Bool, Option, Vec, Box, Global}
-use Rattle.constant_checker.specs.pascal_grammar.declared.lexeme.Position.{Position}
-use Rattle.constant_checker.specs.type_layout.declared.texts.Place.{Place}
-use Rattle.constant_checker.specs.syntax_tree.declared.type_tree.types.TypeDenoter.{TypeDenoter, Row_of-FieldGroup, end_of-FieldGroup, more_of-FieldGroup, items-the_row-FieldGroup, items_hidden-the_row-FieldGroup-1}
-use Rattle.constant_checker.specs.syntax_tree.declared.type_tree.types.TypeDenoter.TheVariants as t
-use Rattle.constant_checker.specs.syntax_tree.declared.type_tree.types.StructuredType.{StructuredType, Row_of-TypeDenoter, end_of-TypeDenoter, more_of-TypeDenoter, items-the_row-TypeDenoter, items_hidden-the_row-TypeDenoter-0}
-use Rattle.constant_checker.specs.syntax_tree.declared.type_tree.types.StructuredType.TheVariants as s
-use Rattle.constant_checker.specs.syntax_tree.declared.type_tree.types.FieldGroup.{FieldGroup}
-use Rattle.constant_checker.specs.syntax_tree.declared.type_tree.types.FieldGroup.TheVariants as f
-use Rattle.constant_checker.specs.syntax_tree.declared.identifier.Identifier.{Identifier}
-use Rattle.constant_checker.specs.syntax_tree.declared.type_tree.parameter.Method.{Method}
+use Rattle.pascal_grammar.specs.declared.lexeme.Position.{Position}
+use Rattle.type_layout.specs.declared.texts.Place.{Place}
+use Rattle.syntax_tree.specs.declared.type_tree.types.TypeDenoter.{TypeDenoter, Row_of-FieldGroup, end_of-FieldGroup, more_of-FieldGroup, items-the_row-FieldGroup, items_hidden-the_row-FieldGroup-1}
+use Rattle.syntax_tree.specs.declared.type_tree.types.TypeDenoter.TheVariants as t
+use Rattle.syntax_tree.specs.declared.type_tree.types.StructuredType.{StructuredType, Row_of-TypeDenoter, end_of-TypeDenoter, more_of-TypeDenoter, items-the_row-TypeDenoter, items_hidden-the_row-TypeDenoter-0}
+use Rattle.syntax_tree.specs.declared.type_tree.types.StructuredType.TheVariants as s
+use Rattle.syntax_tree.specs.declared.type_tree.types.FieldGroup.{FieldGroup}
+use Rattle.syntax_tree.specs.declared.type_tree.types.FieldGroup.TheVariants as f
+use Rattle.syntax_tree.specs.declared.identifier.Identifier.{Identifier}
+use Rattle.syntax_tree.specs.declared.type_tree.parameter.Method.{Method}
 use Rattle.declaration_checker.specs.type_denoters.Trees.{Denoters, Fields, object, array, record_of, and_denoter, and_fields, view_denoter, view_structured, view_denoters, view_denoter_row, view_groups, view_field_row}
 
 denoter_row : (n : _) (row : Row_of-TypeDenoter n) → view_denoter_row row ≡ view_denoters (items-the_row-TypeDenoter n row)

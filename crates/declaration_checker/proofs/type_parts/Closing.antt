@@ -2,14 +2,14 @@
 use Rattle.std.proofs.Common.{◌≡◌, ◌-◌, ℕ, Bool, true, false, not, cond, List, [], ◌∷◌, ◌++◌, length, take, Option, Some, None, refl, arith, ap, ◌∙◌, length-append}
 use Rattle.std.specs.List.{last_or}
 use Rattle.std.proofs.lemmas.List.{take_at}
-use Rattle.constant_checker.specs.scopes.declared.entries.Entry.{Entry}
-use Rattle.constant_checker.specs.scopes.declared.entries.BlockKind.{BlockKind}
-use Rattle.constant_checker.specs.scopes.declared.entries.BlockKind.TheVariants.{Part}
-use Rattle.constant_checker.specs.scopes.declared.entries.Entry.TheVariants as entry
-use Rattle.constant_checker.specs.scopes.declared.searches.OpenBlock.{OpenBlock}
-use Rattle.constant_checker.specs.scopes.Predeclared.{type_id}
-use Rattle.constant_checker.specs.scopes.Symbols.{SymbolList}
-use Rattle.constant_checker.specs.scopes.Environment.{Environment, outer, innermost, has_own, has_innermost, with_own, with_name, with_block, without_block}
+use Rattle.scopes.specs.declared.entries.Entry.{Entry}
+use Rattle.scopes.specs.declared.entries.BlockKind.{BlockKind}
+use Rattle.scopes.specs.declared.entries.BlockKind.TheVariants.{Part}
+use Rattle.scopes.specs.declared.entries.Entry.TheVariants as entry
+use Rattle.scopes.specs.declared.searches.OpenBlock.{OpenBlock}
+use Rattle.scopes.specs.Predeclared.{type_id}
+use Rattle.scopes.specs.Symbols.{SymbolList}
+use Rattle.scopes.specs.Environment.{Environment, outer, innermost, has_own, has_innermost, with_own, with_name, with_block, without_block}
 use Rattle.declaration_checker.specs.type_parts.Objects.{inside}
 
 last-pushed : {A : Type 0} → (o : Option A) (xs : List A) (x : A) → last_or o (xs ++ x ∷ []) ≡ Some x

@@ -1,14 +1,14 @@
 -- How many types are added, of denoters with their parts in vectors.
 use Rattle.std.proofs.Common.{◌≡◌, ◌+◌, Bool, Option, ap, ◌∙◌, sym, Vec, Box, Global}
-use Rattle.constant_checker.specs.pascal_grammar.declared.lexeme.Position.{Position}
-use Rattle.constant_checker.specs.type_layout.declared.texts.Place.{Place}
-use Rattle.constant_checker.specs.syntax_tree.declared.identifier.Identifier.{Identifier}
-use Rattle.constant_checker.specs.syntax_tree.declared.type_tree.parameter.Method.{Method}
-use Rattle.constant_checker.specs.syntax_tree.declared.type_tree.types.FieldGroup.{FieldGroup}
-use Rattle.constant_checker.specs.syntax_tree.declared.type_tree.types.TypeDenoter.{TypeDenoter}
-use Rattle.constant_checker.specs.syntax_tree.declared.type_tree.types.TypeDenoter.TheVariants as t
-use Rattle.constant_checker.specs.syntax_tree.declared.type_tree.types.StructuredType.{StructuredType}
-use Rattle.constant_checker.specs.syntax_tree.declared.type_tree.types.StructuredType.TheVariants as s
+use Rattle.pascal_grammar.specs.declared.lexeme.Position.{Position}
+use Rattle.type_layout.specs.declared.texts.Place.{Place}
+use Rattle.syntax_tree.specs.declared.identifier.Identifier.{Identifier}
+use Rattle.syntax_tree.specs.declared.type_tree.parameter.Method.{Method}
+use Rattle.syntax_tree.specs.declared.type_tree.types.FieldGroup.{FieldGroup}
+use Rattle.syntax_tree.specs.declared.type_tree.types.TypeDenoter.{TypeDenoter}
+use Rattle.syntax_tree.specs.declared.type_tree.types.TypeDenoter.TheVariants as t
+use Rattle.syntax_tree.specs.declared.type_tree.types.StructuredType.{StructuredType}
+use Rattle.syntax_tree.specs.declared.type_tree.types.StructuredType.TheVariants as s
 use Rattle.declaration_checker.specs.type_denoters.Trees.{view_denoter, view_structured, view_denoters, view_groups}
 use Rattle.declaration_checker.proofs.type_denoters.Views.{view_array, view_record, view_object}
 use Rattle.declaration_checker.specs.type_parts.Promised.{adds, adds_indexes, adds_fields}

@@ -1,25 +1,25 @@
 -- Parts of type declarations are judged lawfully.
 use Rattle.std.proofs.Common.{◌≡◌, ℕ, ◌+◌, false, not, List, [], ◌∷◌, ◌++◌, Option, Some, None}
-use Rattle.constant_checker.specs.type_layout.declared.definitions.TypeId.{TypeId}
-use Rattle.constant_checker.specs.type_layout.declared.definitions.Field.{Field}
-use Rattle.constant_checker.specs.type_layout.declared.definitions.Method.{Method}
-use Rattle.constant_checker.specs.type_layout.declared.definitions.TypeDef.TheVariants.{ObjectOf}
-use Rattle.constant_checker.specs.type_layout.declared.texts.Place.{Place}
-use Rattle.constant_checker.specs.type_layout.Table.{place_of}
-use Rattle.constant_checker.specs.syntax_tree.declared.identifier.Identifier.{Identifier}
-use Rattle.constant_checker.specs.syntax_tree.declared.source_tree.declaration.TypeDeclaration.{TypeDeclaration}
-use Rattle.constant_checker.specs.syntax_tree.declared.type_tree.parameter.Method as written
-use Rattle.constant_checker.specs.syntax_tree.declared.type_tree.types.TypeDenoter.{TypeDenoter}
-use Rattle.constant_checker.specs.syntax_tree.declared.type_tree.types.TypeDenoter.TheVariants as t
-use Rattle.constant_checker.specs.scopes.declared.entries.Entry.TheVariants as entry
-use Rattle.constant_checker.specs.scopes.Members.{narrow}
-use Rattle.constant_checker.specs.scopes.Environment.{Environment}
-use Rattle.constant_checker.specs.typing_rules.declared.faults.Rule.TheVariants as rules
-use Rattle.constant_checker.specs.typing_rules.Faults.{broken}
-use Rattle.constant_checker.specs.typing_rules.Judgements.{Judgement, makes, rule, part}
-use Rattle.constant_checker.specs.typing_rules.Selectors.{asking}
-use Rattle.constant_checker.specs.typing_rules.Laws.{Lawful}
-use Rattle.constant_checker.proofs.typing_rules_proofs.JudgementLaws.{lawful_makes, lawful_refuses, lawful_rule, lawful_part}
+use Rattle.type_layout.specs.declared.definitions.TypeId.{TypeId}
+use Rattle.type_layout.specs.declared.definitions.Field.{Field}
+use Rattle.type_layout.specs.declared.definitions.Method.{Method}
+use Rattle.type_layout.specs.declared.definitions.TypeDef.TheVariants.{ObjectOf}
+use Rattle.type_layout.specs.declared.texts.Place.{Place}
+use Rattle.type_layout.specs.Table.{place_of}
+use Rattle.syntax_tree.specs.declared.identifier.Identifier.{Identifier}
+use Rattle.syntax_tree.specs.declared.source_tree.declaration.TypeDeclaration.{TypeDeclaration}
+use Rattle.syntax_tree.specs.declared.type_tree.parameter.Method as written
+use Rattle.syntax_tree.specs.declared.type_tree.types.TypeDenoter.{TypeDenoter}
+use Rattle.syntax_tree.specs.declared.type_tree.types.TypeDenoter.TheVariants as t
+use Rattle.scopes.specs.declared.entries.Entry.TheVariants as entry
+use Rattle.scopes.specs.Members.{narrow}
+use Rattle.scopes.specs.Environment.{Environment}
+use Rattle.typing_rules.specs.declared.faults.Rule.TheVariants as rules
+use Rattle.typing_rules.specs.Faults.{broken}
+use Rattle.typing_rules.specs.Judgements.{Judgement, makes, rule, part}
+use Rattle.typing_rules.specs.Selectors.{asking}
+use Rattle.typing_rules.specs.Laws.{Lawful}
+use Rattle.typing_rules.proofs.JudgementLaws.{lawful_makes, lawful_refuses, lawful_rule, lawful_part}
 use Rattle.declaration_checker.specs.headers.Names.{type_named}
 use Rattle.declaration_checker.specs.headers.Headers.{method_header}
 use Rattle.declaration_checker.proofs.headers.HeaderLaws.{tells_not, lawful_type_named, lawful_method}

@@ -1,13 +1,13 @@
 -- A declaration of an object type, whose fields lie in a vector.
 use Rattle.std.proofs.Common.{◌≡◌, ℕ, Bool, List, Option, Result, ap, ◌∙◌, Vec, Global}
-use Rattle.constant_checker.specs.pascal_grammar.declared.lexeme.Position.{Position}
-use Rattle.constant_checker.specs.syntax_tree.declared.identifier.Identifier.{Identifier}
-use Rattle.constant_checker.specs.syntax_tree.declared.type_tree.parameter.Method.{Method}
-use Rattle.constant_checker.specs.syntax_tree.declared.type_tree.types.FieldGroup.{FieldGroup}
-use Rattle.constant_checker.specs.syntax_tree.declared.type_tree.types.TypeDenoter.{TypeDenoter}
-use Rattle.constant_checker.specs.syntax_tree.declared.type_tree.types.TypeDenoter.TheVariants as t
-use Rattle.constant_checker.specs.scopes.Environment.{Environment}
-use Rattle.constant_checker.specs.typing_rules.declared.faults.Fault.{Fault}
+use Rattle.pascal_grammar.specs.declared.lexeme.Position.{Position}
+use Rattle.syntax_tree.specs.declared.identifier.Identifier.{Identifier}
+use Rattle.syntax_tree.specs.declared.type_tree.parameter.Method.{Method}
+use Rattle.syntax_tree.specs.declared.type_tree.types.FieldGroup.{FieldGroup}
+use Rattle.syntax_tree.specs.declared.type_tree.types.TypeDenoter.{TypeDenoter}
+use Rattle.syntax_tree.specs.declared.type_tree.types.TypeDenoter.TheVariants as t
+use Rattle.scopes.specs.Environment.{Environment}
+use Rattle.typing_rules.specs.declared.faults.Fault.{Fault}
 use Rattle.declaration_checker.specs.type_denoters.Trees.{Denoter, view_groups}
 use Rattle.declaration_checker.specs.type_denoters.Trees as tree
 use Rattle.declaration_checker.specs.type_denoters.Additions.{Denoted}

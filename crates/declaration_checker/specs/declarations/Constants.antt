@@ -1,14 +1,14 @@
 -- Constants, and variables that begin with a value.
 use Rattle.std.specs.Prelude.{ℕ, List, [], ◌∷◌, ◌++◌}
-use Rattle.constant_checker.specs.type_layout.declared.definitions.TypeId.{TypeId}
-use Rattle.constant_checker.specs.syntax_tree.declared.identifier.Identifier.{Identifier}
-use Rattle.constant_checker.specs.syntax_tree.declared.source_tree.declaration.ConstantDeclaration.{ConstantDeclaration}
-use Rattle.constant_checker.specs.syntax_tree.declared.source_tree.declaration.ConstantDeclaration.TheVariants as c
-use Rattle.constant_checker.specs.syntax_tree.expression_tree.Trees.{Tree, view_simple}
-use Rattle.constant_checker.specs.scopes.declared.entries.Entry.{Entry}
-use Rattle.constant_checker.specs.scopes.declared.entries.Entry.TheVariants as entry
-use Rattle.constant_checker.specs.scopes.Environment.{Environment}
-use Rattle.constant_checker.specs.typing_rules.Judgements.{Judgement, makes, part}
+use Rattle.type_layout.specs.declared.definitions.TypeId.{TypeId}
+use Rattle.syntax_tree.specs.declared.identifier.Identifier.{Identifier}
+use Rattle.syntax_tree.specs.declared.source_tree.declaration.ConstantDeclaration.{ConstantDeclaration}
+use Rattle.syntax_tree.specs.declared.source_tree.declaration.ConstantDeclaration.TheVariants as c
+use Rattle.syntax_tree.specs.expression_tree.Trees.{Tree, view_simple}
+use Rattle.scopes.specs.declared.entries.Entry.{Entry}
+use Rattle.scopes.specs.declared.entries.Entry.TheVariants as entry
+use Rattle.scopes.specs.Environment.{Environment}
+use Rattle.typing_rules.specs.Judgements.{Judgement, makes, part}
 use Rattle.constant_checker.specs.constant_expressions.Constants.{judged}
 use Rattle.declaration_checker.specs.type_denoters.Trees.{Denoter, view_denoter}
 use Rattle.declaration_checker.specs.type_denoters.Additions.{entered}

@@ -1,6 +1,6 @@
 -- What follows for every part of declarations.
 use Rattle.std.specs.Prelude.{ℕ, List, Option}
-use Rattle.constant_checker.specs.typing_rules.Laws.{IsExact}
+use Rattle.typing_rules.specs.Laws.{IsExact}
 use Rattle.declaration_checker.specs.declared.declarations.homes.Home.{Home}
 use Rattle.declaration_checker.specs.declarations.Progress.{Progress}
 use Rattle.declaration_checker.specs.declarations.Parts.{part_declared}

@@ -1,8 +1,8 @@
 -- Parts of declarations.
 use Rattle.std.specs.Prelude.{ℕ, List, Option}
-use Rattle.constant_checker.specs.syntax_tree.declared.source_tree.declaration.DeclarationPart.{DeclarationPart}
-use Rattle.constant_checker.specs.syntax_tree.declared.source_tree.declaration.DeclarationPart.TheVariants as part_of
-use Rattle.constant_checker.specs.typing_rules.Judgements.{Judgement}
+use Rattle.syntax_tree.specs.declared.source_tree.declaration.DeclarationPart.{DeclarationPart}
+use Rattle.syntax_tree.specs.declared.source_tree.declaration.DeclarationPart.TheVariants as part_of
+use Rattle.typing_rules.specs.Judgements.{Judgement}
 use Rattle.declaration_checker.specs.type_parts.Parts.{type_part}
 use Rattle.declaration_checker.specs.declared.declarations.homes.Home.{Home}
 use Rattle.declaration_checker.specs.declarations.Progress.{Progress}

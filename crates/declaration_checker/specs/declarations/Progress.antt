@@ -1,9 +1,9 @@
 -- How far the declarations of a unit are read, and where variables go.
 use Rattle.std.specs.Prelude.{ℕ, ◌+◌, List, [], ◌∷◌, ◌++◌, Some, None, length}
-use Rattle.constant_checker.specs.type_layout.declared.definitions.TypeId.{TypeId}
-use Rattle.constant_checker.specs.typed_tree.declared.units.Global.{Global}
-use Rattle.constant_checker.specs.scopes.Members.{narrow}
-use Rattle.constant_checker.specs.scopes.Environment.{Environment}
+use Rattle.type_layout.specs.declared.definitions.TypeId.{TypeId}
+use Rattle.typed_tree.specs.declared.units.Global.{Global}
+use Rattle.scopes.specs.Members.{narrow}
+use Rattle.scopes.specs.Environment.{Environment}
 use Rattle.declaration_checker.specs.declared.declarations.homes.Home.{Home}
 use Rattle.declaration_checker.specs.declared.declarations.homes.Home.TheVariants as home
 

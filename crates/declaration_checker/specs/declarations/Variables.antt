@@ -1,11 +1,11 @@
 -- Variables.
 use Rattle.std.specs.Prelude.{ℕ, List, [], ◌∷◌}
-use Rattle.constant_checker.specs.type_layout.declared.definitions.TypeId.{TypeId}
-use Rattle.constant_checker.specs.syntax_tree.declared.identifier.Identifier.{Identifier}
-use Rattle.constant_checker.specs.syntax_tree.declared.source_tree.declaration.VariableDeclaration.{VariableDeclaration}
-use Rattle.constant_checker.specs.scopes.declared.entries.Entry.{Entry}
-use Rattle.constant_checker.specs.scopes.declared.entries.Entry.TheVariants as entry
-use Rattle.constant_checker.specs.typing_rules.Judgements.{Judgement, makes, part}
+use Rattle.type_layout.specs.declared.definitions.TypeId.{TypeId}
+use Rattle.syntax_tree.specs.declared.identifier.Identifier.{Identifier}
+use Rattle.syntax_tree.specs.declared.source_tree.declaration.VariableDeclaration.{VariableDeclaration}
+use Rattle.scopes.specs.declared.entries.Entry.{Entry}
+use Rattle.scopes.specs.declared.entries.Entry.TheVariants as entry
+use Rattle.typing_rules.specs.Judgements.{Judgement, makes, part}
 use Rattle.declaration_checker.specs.type_denoters.Trees.{view_denoter}
 use Rattle.declaration_checker.specs.type_denoters.Additions.{entered}
 use Rattle.declaration_checker.specs.type_denoters.Denoters.{ground, judged}

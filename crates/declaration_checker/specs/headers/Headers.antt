@@ -1,27 +1,27 @@
 -- Headers of routines and methods.
 use Rattle.std.specs.Prelude.{ℕ, ◌+◌, ◌≤◌, nat_le, Bool, true, false, cond, List, Option, Some, None, sum_by}
-use Rattle.constant_checker.specs.type_layout.declared.definitions.TypeId.{TypeId}
-use Rattle.constant_checker.specs.type_layout.declared.definitions.Param.{Param}
-use Rattle.constant_checker.specs.type_layout.declared.definitions.Kind.{Kind}
-use Rattle.constant_checker.specs.type_layout.declared.definitions.Kind.TheVariants as kind
-use Rattle.constant_checker.specs.type_layout.declared.definitions.Header.{Header}
-use Rattle.constant_checker.specs.type_layout.declared.definitions.TypeDef.{TypeDef}
-use Rattle.constant_checker.specs.type_layout.declared.texts.Place.{Place}
-use Rattle.constant_checker.specs.syntax_tree.declared.type_tree.parameter.NamedType.{NamedType}
-use Rattle.constant_checker.specs.syntax_tree.declared.type_tree.parameter.ParameterGroup.{ParameterGroup}
-use Rattle.constant_checker.specs.syntax_tree.declared.type_tree.parameter.MethodHeader.{MethodHeader}
-use Rattle.constant_checker.specs.syntax_tree.declared.type_tree.parameter.MethodHeader.TheVariants as method
-use Rattle.constant_checker.specs.syntax_tree.declared.source_tree.declaration.RoutineHeader.{RoutineHeader}
-use Rattle.constant_checker.specs.syntax_tree.declared.source_tree.declaration.RoutineHeader.TheVariants as routine
-use Rattle.constant_checker.specs.typed_tree.Slots.{capped}
-use Rattle.constant_checker.specs.typed_tree.Frames.{param_bytes, class_argument, result_argument}
-use Rattle.constant_checker.specs.scopes.Environment.{Environment}
-use Rattle.constant_checker.specs.typing_rules.declared.faults.Rule.TheVariants as rules
-use Rattle.constant_checker.specs.typing_rules.declared.sorts.Sort.{Sort}
-use Rattle.constant_checker.specs.typing_rules.declared.sorts.Sort.TheVariants as sort
-use Rattle.constant_checker.specs.typing_rules.Faults.{broken, too_large}
-use Rattle.constant_checker.specs.typing_rules.Judgements.{Judgement, refuses, rule, part, parts}
-use Rattle.constant_checker.specs.typing_rules.Sorts.{sort_of_type}
+use Rattle.type_layout.specs.declared.definitions.TypeId.{TypeId}
+use Rattle.type_layout.specs.declared.definitions.Param.{Param}
+use Rattle.type_layout.specs.declared.definitions.Kind.{Kind}
+use Rattle.type_layout.specs.declared.definitions.Kind.TheVariants as kind
+use Rattle.type_layout.specs.declared.definitions.Header.{Header}
+use Rattle.type_layout.specs.declared.definitions.TypeDef.{TypeDef}
+use Rattle.type_layout.specs.declared.texts.Place.{Place}
+use Rattle.syntax_tree.specs.declared.type_tree.parameter.NamedType.{NamedType}
+use Rattle.syntax_tree.specs.declared.type_tree.parameter.ParameterGroup.{ParameterGroup}
+use Rattle.syntax_tree.specs.declared.type_tree.parameter.MethodHeader.{MethodHeader}
+use Rattle.syntax_tree.specs.declared.type_tree.parameter.MethodHeader.TheVariants as method
+use Rattle.syntax_tree.specs.declared.source_tree.declaration.RoutineHeader.{RoutineHeader}
+use Rattle.syntax_tree.specs.declared.source_tree.declaration.RoutineHeader.TheVariants as routine
+use Rattle.typed_tree.specs.Slots.{capped}
+use Rattle.typed_tree.specs.Frames.{param_bytes, class_argument, result_argument}
+use Rattle.scopes.specs.Environment.{Environment}
+use Rattle.typing_rules.specs.declared.faults.Rule.TheVariants as rules
+use Rattle.typing_rules.specs.declared.sorts.Sort.{Sort}
+use Rattle.typing_rules.specs.declared.sorts.Sort.TheVariants as sort
+use Rattle.typing_rules.specs.Faults.{broken, too_large}
+use Rattle.typing_rules.specs.Judgements.{Judgement, refuses, rule, part, parts}
+use Rattle.typing_rules.specs.Sorts.{sort_of_type}
 use Rattle.declaration_checker.specs.headers.Names.{named_type}
 use Rattle.declaration_checker.specs.headers.Parameters.{parameters}
 

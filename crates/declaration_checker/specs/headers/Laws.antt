@@ -1,13 +1,13 @@
 -- What follows for every scope and every header.
 use Rattle.std.specs.Prelude.{ℕ, Bool, List, Option}
-use Rattle.constant_checker.specs.type_layout.declared.definitions.Kind.{Kind}
-use Rattle.constant_checker.specs.type_layout.declared.texts.Place.{Place}
-use Rattle.constant_checker.specs.syntax_tree.declared.type_tree.parameter.NamedType.{NamedType}
-use Rattle.constant_checker.specs.syntax_tree.declared.type_tree.parameter.ParameterGroup.{ParameterGroup}
-use Rattle.constant_checker.specs.syntax_tree.declared.type_tree.parameter.MethodHeader.{MethodHeader}
-use Rattle.constant_checker.specs.syntax_tree.declared.source_tree.declaration.RoutineHeader.{RoutineHeader}
-use Rattle.constant_checker.specs.scopes.Environment.{Environment}
-use Rattle.constant_checker.specs.typing_rules.Laws.{Lawful}
+use Rattle.type_layout.specs.declared.definitions.Kind.{Kind}
+use Rattle.type_layout.specs.declared.texts.Place.{Place}
+use Rattle.syntax_tree.specs.declared.type_tree.parameter.NamedType.{NamedType}
+use Rattle.syntax_tree.specs.declared.type_tree.parameter.ParameterGroup.{ParameterGroup}
+use Rattle.syntax_tree.specs.declared.type_tree.parameter.MethodHeader.{MethodHeader}
+use Rattle.syntax_tree.specs.declared.source_tree.declaration.RoutineHeader.{RoutineHeader}
+use Rattle.scopes.specs.Environment.{Environment}
+use Rattle.typing_rules.specs.Laws.{Lawful}
 use Rattle.declaration_checker.specs.headers.Names.{type_named, named_type}
 use Rattle.declaration_checker.specs.headers.Headers.{procedure_header, function_header, routine_header, method_header}
 

@@ -1,18 +1,18 @@
 -- Types by their names.
 use Rattle.std.specs.Prelude.{ℕ, List, Option, Some, None}
-use Rattle.constant_checker.specs.type_layout.declared.definitions.TypeId.{TypeId}
-use Rattle.constant_checker.specs.type_layout.declared.texts.Place.{Place}
-use Rattle.constant_checker.specs.tp_lexer.declared.token.Feature.{Feature}
-use Rattle.constant_checker.specs.tp_lexer.left_out_names.Names.{feature_of}
-use Rattle.constant_checker.specs.syntax_tree.declared.type_tree.parameter.NamedType.{NamedType}
-use Rattle.constant_checker.specs.syntax_tree.declared.type_tree.parameter.NamedType.TheVariants as t
-use Rattle.constant_checker.specs.scopes.declared.entries.Entry.{Entry}
-use Rattle.constant_checker.specs.scopes.declared.entries.Entry.TheVariants as entry
-use Rattle.constant_checker.specs.scopes.Environment.{Environment, Meaning, named, member, find}
-use Rattle.constant_checker.specs.typing_rules.declared.faults.Rule.TheVariants as rules
-use Rattle.constant_checker.specs.typing_rules.Faults.{broken, undeclared}
-use Rattle.constant_checker.specs.typing_rules.Judgements.{Judgement, makes, refuses}
-use Rattle.constant_checker.specs.typing_rules.Sorts.{string}
+use Rattle.type_layout.specs.declared.definitions.TypeId.{TypeId}
+use Rattle.type_layout.specs.declared.texts.Place.{Place}
+use Rattle.tp_lexer.specs.declared.token.Feature.{Feature}
+use Rattle.tp_lexer.specs.left_out_names.Names.{feature_of}
+use Rattle.syntax_tree.specs.declared.type_tree.parameter.NamedType.{NamedType}
+use Rattle.syntax_tree.specs.declared.type_tree.parameter.NamedType.TheVariants as t
+use Rattle.scopes.specs.declared.entries.Entry.{Entry}
+use Rattle.scopes.specs.declared.entries.Entry.TheVariants as entry
+use Rattle.scopes.specs.Environment.{Environment, Meaning, named, member, find}
+use Rattle.typing_rules.specs.declared.faults.Rule.TheVariants as rules
+use Rattle.typing_rules.specs.Faults.{broken, undeclared}
+use Rattle.typing_rules.specs.Judgements.{Judgement, makes, refuses}
+use Rattle.typing_rules.specs.Sorts.{string}
 
 -- a type as it stands, for `Gives`
 abbrev pub itself : TypeId → TypeId

@@ -1,17 +1,17 @@
 -- Parameters: groups of names with a type, which become parameters one by one.
 use Rattle.std.specs.Prelude.{◌≡◌, ℕ, Bool, true, false, not, List, [], ◌∷◌, ◌++◌}
 use Rattle.std.specs.List.{list_any}
-use Rattle.constant_checker.specs.type_layout.declared.definitions.TypeId.{TypeId}
-use Rattle.constant_checker.specs.type_layout.declared.definitions.Param.{Param}
-use Rattle.constant_checker.specs.type_layout.Words.{same_bytes}
-use Rattle.constant_checker.specs.syntax_tree.declared.identifier.Identifier.{Identifier}
-use Rattle.constant_checker.specs.syntax_tree.declared.type_tree.parameter.ParameterGroup.{ParameterGroup}
-use Rattle.constant_checker.specs.syntax_tree.declared.type_tree.parameter.ParameterGroup.TheVariants as group
-use Rattle.constant_checker.specs.scopes.Environment.{Environment}
-use Rattle.constant_checker.specs.typing_rules.declared.faults.Rule.TheVariants as rules
-use Rattle.constant_checker.specs.typing_rules.Faults.{broken}
-use Rattle.constant_checker.specs.typing_rules.Judgements.{Judgement, makes, rule, part}
-use Rattle.constant_checker.specs.typing_rules.Selectors.{asking}
+use Rattle.type_layout.specs.declared.definitions.TypeId.{TypeId}
+use Rattle.type_layout.specs.declared.definitions.Param.{Param}
+use Rattle.type_layout.specs.Words.{same_bytes}
+use Rattle.syntax_tree.specs.declared.identifier.Identifier.{Identifier}
+use Rattle.syntax_tree.specs.declared.type_tree.parameter.ParameterGroup.{ParameterGroup}
+use Rattle.syntax_tree.specs.declared.type_tree.parameter.ParameterGroup.TheVariants as group
+use Rattle.scopes.specs.Environment.{Environment}
+use Rattle.typing_rules.specs.declared.faults.Rule.TheVariants as rules
+use Rattle.typing_rules.specs.Faults.{broken}
+use Rattle.typing_rules.specs.Judgements.{Judgement, makes, rule, part}
+use Rattle.typing_rules.specs.Selectors.{asking}
 use Rattle.declaration_checker.specs.headers.Names.{named_type}
 
 abbrev pub has_param : List Param → List ℕ → Bool

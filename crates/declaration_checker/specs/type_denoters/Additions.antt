@@ -1,24 +1,24 @@
 -- Types that a unit adds to the table, and names that it puts into the innermost block.
 use Rattle.std.specs.Prelude.{◌≡◌, ℕ, ◌-◌, ◌^◌, ◌≤◌, pos, Bool, true, false, not, ◌&&◌, ◌==◌, cond, min, nat_lt, nat_le, int_le, List, Option, Some, None, length, slice_get, sum_by}
 use Rattle.std.specs.List.{list_all}
-use Rattle.constant_checker.specs.type_layout.declared.definitions.TypeId.{TypeId}
-use Rattle.constant_checker.specs.type_layout.declared.definitions.Field.{Field}
-use Rattle.constant_checker.specs.type_layout.declared.definitions.Method.{Method}
-use Rattle.constant_checker.specs.type_layout.declared.definitions.Origin.{Origin}
-use Rattle.constant_checker.specs.type_layout.declared.definitions.TypeDef.{TypeDef}
-use Rattle.constant_checker.specs.type_layout.declared.definitions.TypeDef.TheVariants.{Ordinal, Str, SetOf, ArrayOf, RecordOf, PointerTo, ObjectOf, Procedural}
-use Rattle.constant_checker.specs.type_layout.declared.texts.Place.{Place}
-use Rattle.constant_checker.specs.type_layout.Storage.{least_of, greatest_of}
-use Rattle.constant_checker.specs.type_layout.Layouts.{size_over}
-use Rattle.constant_checker.specs.type_layout.Table.{Table, IsAddable, place_of, with_type}
-use Rattle.constant_checker.specs.scopes.declared.entries.Entry.{Entry}
-use Rattle.constant_checker.specs.scopes.Predeclared.{type_id}
-use Rattle.constant_checker.specs.scopes.Environment.{Environment, has_innermost, with_name}
-use Rattle.constant_checker.specs.typing_rules.declared.faults.Rule.{Rule}
-use Rattle.constant_checker.specs.typing_rules.declared.faults.Rule.TheVariants as rules
-use Rattle.constant_checker.specs.typing_rules.Faults.{broken, too_large}
-use Rattle.constant_checker.specs.typing_rules.Judgements.{Judgement, rule}
-use Rattle.constant_checker.specs.typing_rules.Selectors.{asking}
+use Rattle.type_layout.specs.declared.definitions.TypeId.{TypeId}
+use Rattle.type_layout.specs.declared.definitions.Field.{Field}
+use Rattle.type_layout.specs.declared.definitions.Method.{Method}
+use Rattle.type_layout.specs.declared.definitions.Origin.{Origin}
+use Rattle.type_layout.specs.declared.definitions.TypeDef.{TypeDef}
+use Rattle.type_layout.specs.declared.definitions.TypeDef.TheVariants.{Ordinal, Str, SetOf, ArrayOf, RecordOf, PointerTo, ObjectOf, Procedural}
+use Rattle.type_layout.specs.declared.texts.Place.{Place}
+use Rattle.type_layout.specs.Storage.{least_of, greatest_of}
+use Rattle.type_layout.specs.Layouts.{size_over}
+use Rattle.type_layout.specs.Table.{Table, IsAddable, place_of, with_type}
+use Rattle.scopes.specs.declared.entries.Entry.{Entry}
+use Rattle.scopes.specs.Predeclared.{type_id}
+use Rattle.scopes.specs.Environment.{Environment, has_innermost, with_name}
+use Rattle.typing_rules.specs.declared.faults.Rule.{Rule}
+use Rattle.typing_rules.specs.declared.faults.Rule.TheVariants as rules
+use Rattle.typing_rules.specs.Faults.{broken, too_large}
+use Rattle.typing_rules.specs.Judgements.{Judgement, rule}
+use Rattle.typing_rules.specs.Selectors.{asking}
 
 -- ---- whether a table takes a type
 

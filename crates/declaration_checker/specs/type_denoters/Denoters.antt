@@ -1,30 +1,30 @@
 -- When a type is typed, its id in the table of types and what is known behind it, and when a fault is in it.
 use Rattle.std.specs.Prelude.{◌≡◌, ℕ, ◌+◌, ◌≤◌, ℤ, pos, ◌-ℤ◌, ◌≤ℤ◌, int_le, unsigned_abs, nat_le, Bool, true, false, not, ◌&&◌, List, [], ◌∷◌, ◌++◌, Option, Some, None, length, position, option_map, slice_get}
 use Rattle.std.specs.List.{list_any}
-use Rattle.constant_checker.specs.type_layout.declared.definitions.TypeId.{TypeId}
-use Rattle.constant_checker.specs.type_layout.declared.definitions.Field.{Field}
-use Rattle.constant_checker.specs.type_layout.declared.definitions.Kind.TheVariants as kind
-use Rattle.constant_checker.specs.type_layout.declared.definitions.Host.{Host}
-use Rattle.constant_checker.specs.type_layout.declared.definitions.Host.TheVariants as host
-use Rattle.constant_checker.specs.type_layout.declared.definitions.TypeDef.TheVariants.{Ordinal, Str, SetOf, ArrayOf, RecordOf, PointerTo, Procedural}
-use Rattle.constant_checker.specs.type_layout.declared.texts.Place.{Place}
-use Rattle.constant_checker.specs.type_layout.Storage.{integer_storage}
-use Rattle.constant_checker.specs.type_layout.Words.{same_bytes}
-use Rattle.constant_checker.specs.typed_tree.declared.expressions.Value.TheVariants as value
-use Rattle.constant_checker.specs.syntax_tree.declared.identifier.Identifier.{Identifier}
-use Rattle.constant_checker.specs.scopes.declared.entries.Entry.TheVariants as entry
-use Rattle.constant_checker.specs.scopes.Predeclared.{type_id}
-use Rattle.constant_checker.specs.scopes.Environment.{Environment}
-use Rattle.constant_checker.specs.typing_rules.declared.faults.Rule.TheVariants as rules
-use Rattle.constant_checker.specs.typing_rules.declared.sorts.Sort.{Sort}
-use Rattle.constant_checker.specs.typing_rules.declared.sorts.Sort.TheVariants as sort
-use Rattle.constant_checker.specs.typing_rules.Faults.{broken}
-use Rattle.constant_checker.specs.typing_rules.Judgements.{Judgement, makes, refuses, rule, part, parts}
-use Rattle.constant_checker.specs.typing_rules.Selectors.{asking}
-use Rattle.constant_checker.specs.typing_rules.Sorts as sorts
-use Rattle.constant_checker.specs.typing_rules.Sorts.{sort_of_type}
-use Rattle.constant_checker.specs.typing_rules.Plans.{IsInteger, is_integer, AreOfOneHost, are_of_one_host}
-use Rattle.constant_checker.specs.typing_rules.Wanted.{stored_of_type}
+use Rattle.type_layout.specs.declared.definitions.TypeId.{TypeId}
+use Rattle.type_layout.specs.declared.definitions.Field.{Field}
+use Rattle.type_layout.specs.declared.definitions.Kind.TheVariants as kind
+use Rattle.type_layout.specs.declared.definitions.Host.{Host}
+use Rattle.type_layout.specs.declared.definitions.Host.TheVariants as host
+use Rattle.type_layout.specs.declared.definitions.TypeDef.TheVariants.{Ordinal, Str, SetOf, ArrayOf, RecordOf, PointerTo, Procedural}
+use Rattle.type_layout.specs.declared.texts.Place.{Place}
+use Rattle.type_layout.specs.Storage.{integer_storage}
+use Rattle.type_layout.specs.Words.{same_bytes}
+use Rattle.typed_tree.specs.declared.expressions.Value.TheVariants as value
+use Rattle.syntax_tree.specs.declared.identifier.Identifier.{Identifier}
+use Rattle.scopes.specs.declared.entries.Entry.TheVariants as entry
+use Rattle.scopes.specs.Predeclared.{type_id}
+use Rattle.scopes.specs.Environment.{Environment}
+use Rattle.typing_rules.specs.declared.faults.Rule.TheVariants as rules
+use Rattle.typing_rules.specs.declared.sorts.Sort.{Sort}
+use Rattle.typing_rules.specs.declared.sorts.Sort.TheVariants as sort
+use Rattle.typing_rules.specs.Faults.{broken}
+use Rattle.typing_rules.specs.Judgements.{Judgement, makes, refuses, rule, part, parts}
+use Rattle.typing_rules.specs.Selectors.{asking}
+use Rattle.typing_rules.specs.Sorts as sorts
+use Rattle.typing_rules.specs.Sorts.{sort_of_type}
+use Rattle.typing_rules.specs.Plans.{IsInteger, is_integer, AreOfOneHost, are_of_one_host}
+use Rattle.typing_rules.specs.Wanted.{stored_of_type}
 use Rattle.constant_checker.specs.declared.constant_expressions.constants.Constant.{Constant}
 use Rattle.constant_checker.specs.constant_expressions.Constants as constants
 use Rattle.constant_checker.specs.constant_expressions.Values.{number_of}

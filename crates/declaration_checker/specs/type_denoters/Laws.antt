@@ -1,6 +1,6 @@
 -- What follows for every scope and every type.
-use Rattle.constant_checker.specs.scopes.Environment.{Environment}
-use Rattle.constant_checker.specs.typing_rules.Laws.{IsExact}
+use Rattle.scopes.specs.Environment.{Environment}
+use Rattle.typing_rules.specs.Laws.{IsExact}
 use Rattle.declaration_checker.specs.type_denoters.Denoters.{Ground, judged}
 
 -- A type has one id at most, with one scope behind it; it has one exactly where no fault is in it.

@@ -1,7 +1,7 @@
 -- Where an expression begins.
 use Rattle.std.specs.Prelude.{Some, None}
-use Rattle.constant_checker.specs.type_layout.declared.texts.Place.{Place}
-use Rattle.constant_checker.specs.syntax_tree.expression_tree.Trees.{Tree, number, text, control, nil, set, call, signed, negated, combined, name, field, index, followed}
+use Rattle.type_layout.specs.declared.texts.Place.{Place}
+use Rattle.syntax_tree.specs.expression_tree.Trees.{Tree, number, text, control, nil, set, call, signed, negated, combined, name, field, index, followed}
 
 -- Its first lexeme, but for a parenthesis, with which no bound of a subrange begins.
 abbrev pub first_place : Tree → Place

@@ -1,21 +1,21 @@
 -- Types as they are written, without where nodes lie in memory.
 use Rattle.std.specs.Prelude.{List, [], ◌∷◌, Option, Some, None}
 use Rattle.std.proofs.Common.{Box, Global}
-use Rattle.constant_checker.specs.type_layout.declared.texts.Place.{Place}
-use Rattle.constant_checker.specs.syntax_tree.declared.expression.SimpleExpression.{SimpleExpression}
-use Rattle.constant_checker.specs.syntax_tree.declared.identifier.Identifier.{Identifier}
-use Rattle.constant_checker.specs.syntax_tree.expression_tree.Trees.{Tree, view_simple}
-use Rattle.constant_checker.specs.syntax_tree.declared.type_tree.parameter.Method.{Method}
-use Rattle.constant_checker.specs.syntax_tree.declared.type_tree.parameter.NamedType.{NamedType}
-use Rattle.constant_checker.specs.syntax_tree.declared.type_tree.parameter.ParameterGroup.{ParameterGroup}
-use Rattle.constant_checker.specs.syntax_tree.declared.type_tree.types.TypeDenoter.{TypeDenoter, Row_of-FieldGroup, end_of-FieldGroup, more_of-FieldGroup}
-use Rattle.constant_checker.specs.syntax_tree.declared.type_tree.types.TypeDenoter.TheVariants as t
-use Rattle.constant_checker.specs.syntax_tree.declared.type_tree.types.StructuredType.{StructuredType, Row_of-TypeDenoter, end_of-TypeDenoter, more_of-TypeDenoter}
-use Rattle.constant_checker.specs.syntax_tree.declared.type_tree.types.StructuredType.TheVariants as s
-use Rattle.constant_checker.specs.syntax_tree.declared.type_tree.types.FieldGroup.{FieldGroup}
-use Rattle.constant_checker.specs.syntax_tree.declared.type_tree.types.FieldGroup.TheVariants as f
-use Rattle.constant_checker.specs.syntax_tree.declared.type_tree.types.PointerTarget.{PointerTarget}
-use Rattle.constant_checker.specs.syntax_tree.declared.type_tree.types.PointerTarget.TheVariants as target
+use Rattle.type_layout.specs.declared.texts.Place.{Place}
+use Rattle.syntax_tree.specs.declared.expression.SimpleExpression.{SimpleExpression}
+use Rattle.syntax_tree.specs.declared.identifier.Identifier.{Identifier}
+use Rattle.syntax_tree.specs.expression_tree.Trees.{Tree, view_simple}
+use Rattle.syntax_tree.specs.declared.type_tree.parameter.Method.{Method}
+use Rattle.syntax_tree.specs.declared.type_tree.parameter.NamedType.{NamedType}
+use Rattle.syntax_tree.specs.declared.type_tree.parameter.ParameterGroup.{ParameterGroup}
+use Rattle.syntax_tree.specs.declared.type_tree.types.TypeDenoter.{TypeDenoter, Row_of-FieldGroup, end_of-FieldGroup, more_of-FieldGroup}
+use Rattle.syntax_tree.specs.declared.type_tree.types.TypeDenoter.TheVariants as t
+use Rattle.syntax_tree.specs.declared.type_tree.types.StructuredType.{StructuredType, Row_of-TypeDenoter, end_of-TypeDenoter, more_of-TypeDenoter}
+use Rattle.syntax_tree.specs.declared.type_tree.types.StructuredType.TheVariants as s
+use Rattle.syntax_tree.specs.declared.type_tree.types.FieldGroup.{FieldGroup}
+use Rattle.syntax_tree.specs.declared.type_tree.types.FieldGroup.TheVariants as f
+use Rattle.syntax_tree.specs.declared.type_tree.types.PointerTarget.{PointerTarget}
+use Rattle.syntax_tree.specs.declared.type_tree.types.PointerTarget.TheVariants as target
 
 mutual
   -- Each with the place of its first lexeme, which may be `packed`. A name and a pointer's target stand at their own places.

@@ -1,7 +1,7 @@
 -- What follows for every scope and every part of type declarations.
 use Rattle.std.specs.Prelude.{ℕ, List, Option}
-use Rattle.constant_checker.specs.scopes.Environment.{Environment}
-use Rattle.constant_checker.specs.typing_rules.Laws.{IsExact}
+use Rattle.scopes.specs.Environment.{Environment}
+use Rattle.typing_rules.specs.Laws.{IsExact}
 use Rattle.declaration_checker.specs.type_parts.Parts.{type_part}
 
 -- A part leaves one scope at most; it leaves one exactly where no fault is in it.

@@ -1,29 +1,29 @@
 -- Object types, with the headers of their methods.
 use Rattle.std.specs.Prelude.{◌≡◌, ℕ, ◌+◌, Bool, true, false, not, ◌&&◌, ◌||◌, List, [], ◌∷◌, ◌++◌, Option, Some, None, length}
 use Rattle.std.specs.List.{list_any}
-use Rattle.constant_checker.specs.type_layout.declared.definitions.TypeId.{TypeId}
-use Rattle.constant_checker.specs.type_layout.declared.definitions.Field.{Field}
-use Rattle.constant_checker.specs.type_layout.declared.definitions.Kind.{Kind}
-use Rattle.constant_checker.specs.type_layout.declared.definitions.Kind.TheVariants as kind
-use Rattle.constant_checker.specs.type_layout.declared.definitions.Header.{Header}
-use Rattle.constant_checker.specs.type_layout.declared.definitions.Method.{Method}
-use Rattle.constant_checker.specs.type_layout.declared.definitions.TypeDef.TheVariants.{ObjectOf}
-use Rattle.constant_checker.specs.type_layout.declared.texts.Place.{Place}
-use Rattle.constant_checker.specs.type_layout.Words.{same_bytes}
-use Rattle.constant_checker.specs.type_layout.Table.{place_of}
-use Rattle.constant_checker.specs.syntax_tree.declared.identifier.Identifier.{Identifier}
-use Rattle.constant_checker.specs.syntax_tree.declared.type_tree.parameter.Method as written
-use Rattle.constant_checker.specs.syntax_tree.declared.type_tree.parameter.MethodHeader.{MethodHeader}
-use Rattle.constant_checker.specs.syntax_tree.declared.type_tree.parameter.MethodHeader.TheVariants as method
-use Rattle.constant_checker.specs.scopes.declared.entries.Entry.TheVariants as entry
-use Rattle.constant_checker.specs.scopes.declared.entries.BlockKind.TheVariants.{Part}
-use Rattle.constant_checker.specs.scopes.Members.{narrow}
-use Rattle.constant_checker.specs.scopes.Predeclared.{type_id}
-use Rattle.constant_checker.specs.scopes.Environment.{Environment, with_block, with_name}
-use Rattle.constant_checker.specs.typing_rules.declared.faults.Rule.TheVariants as rules
-use Rattle.constant_checker.specs.typing_rules.Faults.{broken}
-use Rattle.constant_checker.specs.typing_rules.Judgements.{Judgement, makes, refuses, rule, part}
-use Rattle.constant_checker.specs.typing_rules.Selectors.{asking}
+use Rattle.type_layout.specs.declared.definitions.TypeId.{TypeId}
+use Rattle.type_layout.specs.declared.definitions.Field.{Field}
+use Rattle.type_layout.specs.declared.definitions.Kind.{Kind}
+use Rattle.type_layout.specs.declared.definitions.Kind.TheVariants as kind
+use Rattle.type_layout.specs.declared.definitions.Header.{Header}
+use Rattle.type_layout.specs.declared.definitions.Method.{Method}
+use Rattle.type_layout.specs.declared.definitions.TypeDef.TheVariants.{ObjectOf}
+use Rattle.type_layout.specs.declared.texts.Place.{Place}
+use Rattle.type_layout.specs.Words.{same_bytes}
+use Rattle.type_layout.specs.Table.{place_of}
+use Rattle.syntax_tree.specs.declared.identifier.Identifier.{Identifier}
+use Rattle.syntax_tree.specs.declared.type_tree.parameter.Method as written
+use Rattle.syntax_tree.specs.declared.type_tree.parameter.MethodHeader.{MethodHeader}
+use Rattle.syntax_tree.specs.declared.type_tree.parameter.MethodHeader.TheVariants as method
+use Rattle.scopes.specs.declared.entries.Entry.TheVariants as entry
+use Rattle.scopes.specs.declared.entries.BlockKind.TheVariants.{Part}
+use Rattle.scopes.specs.Members.{narrow}
+use Rattle.scopes.specs.Predeclared.{type_id}
+use Rattle.scopes.specs.Environment.{Environment, with_block, with_name}
+use Rattle.typing_rules.specs.declared.faults.Rule.TheVariants as rules
+use Rattle.typing_rules.specs.Faults.{broken}
+use Rattle.typing_rules.specs.Judgements.{Judgement, makes, refuses, rule, part}
+use Rattle.typing_rules.specs.Selectors.{asking}
 use Rattle.declaration_checker.specs.headers.Names.{type_named}
 use Rattle.declaration_checker.specs.headers.Headers.{method_header}
 use Rattle.declaration_checker.specs.type_denoters.Trees.{Fields}

@@ -1,12 +1,12 @@
 -- Parts of type declarations.
 use Rattle.std.specs.Prelude.{ℕ, ◌+◌, List, [], ◌∷◌, Option, Some, None, length}
-use Rattle.constant_checker.specs.syntax_tree.declared.source_tree.declaration.TypeDeclaration.{TypeDeclaration}
-use Rattle.constant_checker.specs.syntax_tree.declared.type_tree.types.TypeDenoter.{TypeDenoter}
-use Rattle.constant_checker.specs.syntax_tree.declared.type_tree.types.TypeDenoter.TheVariants as t
-use Rattle.constant_checker.specs.scopes.declared.entries.Entry.TheVariants as entry
-use Rattle.constant_checker.specs.scopes.Members.{narrow}
-use Rattle.constant_checker.specs.scopes.Environment.{Environment}
-use Rattle.constant_checker.specs.typing_rules.Judgements.{Judgement, makes, part}
+use Rattle.syntax_tree.specs.declared.source_tree.declaration.TypeDeclaration.{TypeDeclaration}
+use Rattle.syntax_tree.specs.declared.type_tree.types.TypeDenoter.{TypeDenoter}
+use Rattle.syntax_tree.specs.declared.type_tree.types.TypeDenoter.TheVariants as t
+use Rattle.scopes.specs.declared.entries.Entry.TheVariants as entry
+use Rattle.scopes.specs.Members.{narrow}
+use Rattle.scopes.specs.Environment.{Environment}
+use Rattle.typing_rules.specs.Judgements.{Judgement, makes, part}
 use Rattle.declaration_checker.specs.type_denoters.Trees.{view_denoter, view_field_row}
 use Rattle.declaration_checker.specs.type_denoters.Additions.{Denoted, entered}
 use Rattle.declaration_checker.specs.type_denoters.Denoters.{Ground, ground, judged}

@@ -1,14 +1,14 @@
 -- The ids that the types of a part of type declarations will have.
 use Rattle.std.specs.Prelude.{ℕ, ◌+◌, ◌-◌, List, [], ◌∷◌, ◌++◌, Option, Some, None, length}
-use Rattle.constant_checker.specs.type_layout.declared.definitions.TypeId.{TypeId}
-use Rattle.constant_checker.specs.syntax_tree.declared.identifier.Identifier.{Identifier}
-use Rattle.constant_checker.specs.syntax_tree.declared.source_tree.declaration.TypeDeclaration.{TypeDeclaration}
-use Rattle.constant_checker.specs.scopes.declared.entries.Entry.TheVariants as entry
-use Rattle.constant_checker.specs.scopes.Members.{narrow}
-use Rattle.constant_checker.specs.scopes.Predeclared.{type_id}
-use Rattle.constant_checker.specs.scopes.Environment.{Environment, Meaning, named, find}
-use Rattle.constant_checker.specs.typing_rules.Sorts as sorts
-use Rattle.constant_checker.specs.typing_rules.Wanted.{untyped}
+use Rattle.type_layout.specs.declared.definitions.TypeId.{TypeId}
+use Rattle.syntax_tree.specs.declared.identifier.Identifier.{Identifier}
+use Rattle.syntax_tree.specs.declared.source_tree.declaration.TypeDeclaration.{TypeDeclaration}
+use Rattle.scopes.specs.declared.entries.Entry.TheVariants as entry
+use Rattle.scopes.specs.Members.{narrow}
+use Rattle.scopes.specs.Predeclared.{type_id}
+use Rattle.scopes.specs.Environment.{Environment, Meaning, named, find}
+use Rattle.typing_rules.specs.Sorts as sorts
+use Rattle.typing_rules.specs.Wanted.{untyped}
 use Rattle.declaration_checker.specs.declared.type_denoters.promises.Promise.{Promise}
 use Rattle.declaration_checker.specs.type_denoters.Trees as tree
 use Rattle.declaration_checker.specs.type_denoters.Trees.{Denoter, Denoters, Fields, view_denoter}

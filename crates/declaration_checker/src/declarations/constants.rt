@@ -1,7 +1,7 @@
 //! Constants, and variables that begin with a value.
 
-ghost use Rattle.constant_checker.specs.syntax_tree.expression_tree.Trees.{view_simple};
-ghost use Rattle.constant_checker.specs.typing_rules.Judgements.{Gives};
+ghost use Rattle.syntax_tree.specs.expression_tree.Trees.{view_simple};
+ghost use Rattle.typing_rules.specs.Judgements.{Gives};
 ghost use Rattle.declaration_checker.specs.type_denoters.Trees.{view_denoter};
 ghost use Rattle.constant_checker.specs.typed_constants.Trees.{view_initializer};
 ghost use Rattle.declaration_checker.specs.declarations.Progress.{progress};
@@ -10,15 +10,15 @@ ghost use Rattle.declaration_checker.specs.declarations.Constants.{plain_constan
 use crate::declarations::homes::{Home, number_behind};
 use crate::type_denoters::{entered, judged_denoter};
 use constant_checker::constant_expressions::{Constant, constant_of};
-use constant_checker::scopes::{Entry, Scope};
-use constant_checker::syntax_tree::source_tree::ConstantDeclaration;
-use constant_checker::syntax_tree::type_tree::{Initializer, TypeDenoter};
-use constant_checker::syntax_tree::{Identifier, SimpleExpression};
-use constant_checker::type_layout::{Bytes, Name, TypeId};
 use constant_checker::typed_constants::first_value;
-use constant_checker::typed_tree::{Global as Variable, Globals, Locals};
-use constant_checker::typing_rules::Refusal;
+use scopes::{Entry, Scope};
 use std::alloc::Global;
+use syntax_tree::source_tree::ConstantDeclaration;
+use syntax_tree::type_tree::{Initializer, TypeDenoter};
+use syntax_tree::{Identifier, SimpleExpression};
+use type_layout::{Bytes, Name, TypeId};
+use typed_tree::{Global as Variable, Globals, Locals};
+use typing_rules::Refusal;
 
 // A name for the value of a constant expression, in which it isn't known yet.
 fn plain_constant(

@@ -3,8 +3,8 @@
 ghost use Rattle.std.specs.Prelude.{◌≡◌};
 ghost use Rattle.declaration_checker.specs.declarations.Progress.{level_of, number_behind};
 
-use constant_checker::type_layout::TypeId;
-use constant_checker::typed_tree::Global;
+use type_layout::TypeId;
+use typed_tree::Global;
 
 /// Whose variables a block declares.
 #[derive(Clone, Copy, Debug, PartialEq, Eq)]

@@ -1,6 +1,6 @@
 //! Parts of declarations.
 
-ghost use Rattle.constant_checker.specs.typing_rules.Judgements.{Gives};
+ghost use Rattle.typing_rules.specs.Judgements.{Gives};
 ghost use Rattle.declaration_checker.specs.declarations.Progress.{progress};
 ghost use Rattle.declaration_checker.specs.declarations.Parts.{part_declared};
 
@@ -8,12 +8,12 @@ use crate::declarations::constants::constants_declared;
 use crate::declarations::homes::Home;
 use crate::declarations::variables::variables_declared;
 use crate::type_parts::type_part;
-use constant_checker::scopes::Scope;
-use constant_checker::syntax_tree::source_tree::DeclarationPart;
-use constant_checker::type_layout::Name;
-use constant_checker::typed_tree::{Globals, Locals};
-use constant_checker::typing_rules::Refusal;
+use scopes::Scope;
 use std::alloc::Global;
+use syntax_tree::source_tree::DeclarationPart;
+use type_layout::Name;
+use typed_tree::{Globals, Locals};
+use typing_rules::Refusal;
 
 /// Constants, types or variables of a block. Their names are put into the innermost block, types into the table, and variables
 /// behind those of the unit or of the routine whose block it is. Where object types may be declared, the number of the unit's next

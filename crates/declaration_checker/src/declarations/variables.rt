@@ -1,18 +1,18 @@
 //! Variables.
 
-ghost use Rattle.constant_checker.specs.typing_rules.Judgements.{Gives};
+ghost use Rattle.typing_rules.specs.Judgements.{Gives};
 ghost use Rattle.declaration_checker.specs.declarations.Progress.{progress};
 ghost use Rattle.declaration_checker.specs.declarations.Variables.{variable_declared, names_declared, group_declared, variables_declared};
 
 use crate::declarations::homes::{Home, level_of, number_behind};
 use crate::type_denoters::{entered, judged_denoter};
-use constant_checker::scopes::{Entry, Scope};
-use constant_checker::syntax_tree::Identifier;
-use constant_checker::syntax_tree::source_tree::VariableDeclaration;
-use constant_checker::type_layout::{Name, TypeId};
-use constant_checker::typed_tree::{Global as Variable, Globals, Locals};
-use constant_checker::typing_rules::Refusal;
+use scopes::{Entry, Scope};
 use std::alloc::Global;
+use syntax_tree::Identifier;
+use syntax_tree::source_tree::VariableDeclaration;
+use type_layout::{Name, TypeId};
+use typed_tree::{Global as Variable, Globals, Locals};
+use typing_rules::Refusal;
 
 fn variable_declared(
     one: &Identifier,

@@ -1,19 +1,19 @@
 //! Headers.
 
 ghost use Rattle.std.specs.Prelude.{◌≡◌, option_copied};
-ghost use Rattle.constant_checker.specs.typing_rules.Judgements.{Gives};
+ghost use Rattle.typing_rules.specs.Judgements.{Gives};
 ghost use Rattle.declaration_checker.specs.headers.Names.{itself};
 ghost use Rattle.declaration_checker.specs.headers.Headers.{is_result, result_of, procedure_header, function_header, routine_header, method_header};
 
 use crate::headers::limits::limited;
 use crate::headers::names::named_type;
 use crate::headers::parameters::parameters;
-use constant_checker::scopes::Scope;
-use constant_checker::syntax_tree::source_tree::RoutineHeader;
-use constant_checker::syntax_tree::type_tree::{MethodHeader, NamedType, ParameterGroup};
-use constant_checker::type_layout::{Header, Kind, Place, TypeId};
-use constant_checker::typing_rules::{Refusal, Rule, Sort, broken, sort_of_type};
+use scopes::Scope;
 use std::alloc::Global;
+use syntax_tree::source_tree::RoutineHeader;
+use syntax_tree::type_tree::{MethodHeader, NamedType, ParameterGroup};
+use type_layout::{Header, Kind, Place, TypeId};
+use typing_rules::{Refusal, Rule, Sort, broken, sort_of_type};
 
 fn is_result(sort: Sort) -> bool
     ensures { result ≡ is_result sort }

@@ -1,14 +1,14 @@
 //! The bytes of arguments.
 
 ghost use Rattle.std.specs.Prelude.{◌≡◌, slice_get, sum_by};
-ghost use Rattle.constant_checker.specs.typing_rules.Judgements.{Gives};
-ghost use Rattle.constant_checker.specs.typed_tree.Slots.{capped};
-ghost use Rattle.constant_checker.specs.typed_tree.Frames.{param_bytes, is_string, class_argument, result_argument};
+ghost use Rattle.typing_rules.specs.Judgements.{Gives};
+ghost use Rattle.typed_tree.specs.Slots.{capped};
+ghost use Rattle.typed_tree.specs.Frames.{param_bytes, is_string, class_argument, result_argument};
 ghost use Rattle.declaration_checker.specs.headers.Headers.{header_bytes, limited};
 
-use constant_checker::type_layout::{Header, Kind, Param, Place, TypeDef, TypeId, Types};
-use constant_checker::typed_tree::slot_of_type;
-use constant_checker::typing_rules::{Refusal, definition, too_large};
+use type_layout::{Header, Kind, Param, Place, TypeDef, TypeId, Types};
+use typed_tree::slot_of_type;
+use typing_rules::{Refusal, definition, too_large};
 
 /// The most bytes that the arguments of a call may take.
 pub const ARGUMENT_LIMIT: u64 = 256;

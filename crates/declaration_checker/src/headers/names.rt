@@ -1,13 +1,13 @@
 //! Types by their names.
 
-ghost use Rattle.constant_checker.specs.typing_rules.Judgements.{Gives};
+ghost use Rattle.typing_rules.specs.Judgements.{Gives};
 ghost use Rattle.declaration_checker.specs.headers.Names.{itself, of_entry, type_named, named_type};
 
-use constant_checker::scopes::{Entry, Found, STRING, Scope};
-use constant_checker::syntax_tree::type_tree::NamedType;
-use constant_checker::tp_lexer::left_out_names::feature_of;
-use constant_checker::type_layout::{Name, Place, TypeId};
-use constant_checker::typing_rules::{Refusal, Rule, broken, undeclared};
+use scopes::{Entry, Found, STRING, Scope};
+use syntax_tree::type_tree::NamedType;
+use tp_lexer::left_out_names::feature_of;
+use type_layout::{Name, Place, TypeId};
+use typing_rules::{Refusal, Rule, broken, undeclared};
 
 fn of_entry(place: Place, entry: &Entry) -> Result<TypeId, Refusal>
     ensures { Gives itself result (of_entry place entry.now).run }

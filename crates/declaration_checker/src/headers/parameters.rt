@@ -1,16 +1,16 @@
 //! Parameters, group by group.
 
 ghost use Rattle.std.specs.Prelude.{◌≡◌};
-ghost use Rattle.constant_checker.specs.typing_rules.Judgements.{Gives};
+ghost use Rattle.typing_rules.specs.Judgements.{Gives};
 ghost use Rattle.declaration_checker.specs.headers.Parameters.{has_param, names_onto, group_onto, parameters};
 
 use crate::headers::names::named_type;
-use constant_checker::scopes::Scope;
-use constant_checker::syntax_tree::Identifier;
-use constant_checker::syntax_tree::type_tree::ParameterGroup;
-use constant_checker::type_layout::{Name, Param, Params, TypeId};
-use constant_checker::typing_rules::{Refusal, Rule, broken};
+use scopes::Scope;
 use std::alloc::Global;
+use syntax_tree::Identifier;
+use syntax_tree::type_tree::ParameterGroup;
+use type_layout::{Name, Param, Params, TypeId};
+use typing_rules::{Refusal, Rule, broken};
 
 fn has_param(params: &[Param], name: &Name) -> bool
     ensures { result ≡ has_param params.now name.now }

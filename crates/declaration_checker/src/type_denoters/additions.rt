@@ -1,13 +1,13 @@
 //! Types that a unit adds to the table, and names that it puts into the innermost block.
 
 ghost use Rattle.std.specs.Prelude.{◌≡◌, ◌==◌, cond};
-ghost use Rattle.constant_checker.specs.typing_rules.Judgements.{Gives};
+ghost use Rattle.typing_rules.specs.Judgements.{Gives};
 ghost use Rattle.declaration_checker.specs.type_denoters.Additions.{count_of, denoted, added, entered};
 ghost use Rattle.declaration_checker.specs.type_denoters.Denoters.{with_set};
 
-use constant_checker::scopes::{Entry, Scope};
-use constant_checker::type_layout::{Name, Place, TypeDef, TypeError, TypeId, Types};
-use constant_checker::typing_rules::{Refusal, Rule, broken, too_large};
+use scopes::{Entry, Scope};
+use type_layout::{Name, Place, TypeDef, TypeError, TypeId, Types};
+use typing_rules::{Refusal, Rule, broken, too_large};
 
 fn one_of(place: usize, origin: u32) -> u32
     ensures { result ≡ cond (origin == place) 1 0 }

@@ -1,18 +1,18 @@
 //! Subranges, and the sizes of strings and arrays.
 
 ghost use Rattle.std.specs.Prelude.{◌≡◌, Some, reverse};
-ghost use Rattle.constant_checker.specs.type_layout.Storage.{integer_storage};
-ghost use Rattle.constant_checker.specs.typing_rules.Judgements.{Gives};
+ghost use Rattle.type_layout.specs.Storage.{integer_storage};
+ghost use Rattle.typing_rules.specs.Judgements.{Gives};
 ghost use Rattle.constant_checker.specs.constant_expressions.Values.{number_of};
 ghost use Rattle.declaration_checker.specs.type_denoters.Additions.{denoted};
 ghost use Rattle.declaration_checker.specs.type_denoters.Denoters.{host_of, set_base_of, range_of, is_size, string_of, is_index, array_of, arrays_of};
 
 use crate::type_denoters::additions::{added, with_set};
 use constant_checker::constant_expressions::Constant;
-use constant_checker::scopes::{BOOLEAN, BYTE, CHAR, Scope};
-use constant_checker::type_layout::{Host, Name, Place, TypeDef, TypeId, storage_of};
-use constant_checker::typed_tree::Value;
-use constant_checker::typing_rules::{
+use scopes::{BOOLEAN, BYTE, CHAR, Scope};
+use type_layout::{Host, Name, Place, TypeDef, TypeId, storage_of};
+use typed_tree::Value;
+use typing_rules::{
     Refusal, Rule, Sort, are_of_one_host, broken, is_integer, sort_of_type, stored_of_type,
 };
 

@@ -1,8 +1,8 @@
 //! Types, part by part.
 
 ghost use Rattle.std.specs.Prelude.{◌≡◌, [], reverse};
-ghost use Rattle.constant_checker.specs.typing_rules.Judgements.{Gives};
-ghost use Rattle.constant_checker.specs.syntax_tree.expression_tree.Trees.{view_simple};
+ghost use Rattle.typing_rules.specs.Judgements.{Gives};
+ghost use Rattle.syntax_tree.specs.expression_tree.Trees.{view_simple};
 ghost use Rattle.declaration_checker.specs.type_denoters.Trees.{range, sized, procedure, function, view_target, view_denoter, view_structured, structured_place, view_denoters, view_groups};
 ghost use Rattle.declaration_checker.specs.type_denoters.Additions.{denoted};
 ghost use Rattle.declaration_checker.specs.type_denoters.Denoters.{ground, pointer_to, listed, indexes, judged, indexes_judged, fields_judged};
@@ -15,14 +15,14 @@ use crate::type_denoters::fields::add_names;
 use crate::type_denoters::places::first_place;
 use crate::type_denoters::promises::{Promise, target_of};
 use constant_checker::constant_expressions::constant_of;
-use constant_checker::scopes::{STRING, Scope};
-use constant_checker::syntax_tree::type_tree::{
+use scopes::{STRING, Scope};
+use std::alloc::Global;
+use syntax_tree::type_tree::{
     FieldGroup, NamedType, ParameterGroup, PointerTarget, StructuredType, TypeDenoter,
 };
-use constant_checker::syntax_tree::{Identifier, SimpleExpression};
-use constant_checker::type_layout::{Fields, Kind, Name, Place, TypeDef, TypeId};
-use constant_checker::typing_rules::{Refusal, Rule, broken};
-use std::alloc::Global;
+use syntax_tree::{Identifier, SimpleExpression};
+use type_layout::{Fields, Kind, Name, Place, TypeDef, TypeId};
+use typing_rules::{Refusal, Rule, broken};
 
 fn target_name(target: &PointerTarget) -> &Identifier
     ensures { result.now ≡ view_target target.now }

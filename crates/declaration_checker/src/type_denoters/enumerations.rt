@@ -1,16 +1,16 @@
 //! Enumerations.
 
 ghost use Rattle.std.specs.Prelude.{◌+◌, ◌≤◌, length};
-ghost use Rattle.constant_checker.specs.typing_rules.Judgements.{Gives};
+ghost use Rattle.typing_rules.specs.Judgements.{Gives};
 ghost use Rattle.declaration_checker.specs.type_denoters.Additions.{denoted};
 ghost use Rattle.declaration_checker.specs.type_denoters.Denoters.{values_entered, enumerated, enumeration_of};
 
 use crate::type_denoters::additions::{added, entered, with_set};
-use constant_checker::scopes::{Entry, Scope};
-use constant_checker::syntax_tree::Identifier;
-use constant_checker::type_layout::{Host, Name, Place, TypeDef, TypeId};
-use constant_checker::typed_tree::Value;
-use constant_checker::typing_rules::{Refusal, Rule, broken};
+use scopes::{Entry, Scope};
+use syntax_tree::Identifier;
+use type_layout::{Host, Name, Place, TypeDef, TypeId};
+use typed_tree::Value;
+use typing_rules::{Refusal, Rule, broken};
 
 // How many values an enumeration has at most.
 const MOST: usize = 256;

@@ -1,12 +1,12 @@
 //! Names of fields.
 
 ghost use Rattle.std.specs.Prelude.{◌≡◌};
-ghost use Rattle.constant_checker.specs.typing_rules.Judgements.{Gives};
+ghost use Rattle.typing_rules.specs.Judgements.{Gives};
 ghost use Rattle.declaration_checker.specs.type_denoters.Denoters.{has_field, names_onto};
 
-use constant_checker::syntax_tree::Identifier;
-use constant_checker::type_layout::{Field, Fields, Name, TypeId};
-use constant_checker::typing_rules::{Refusal, Rule, broken};
+use syntax_tree::Identifier;
+use type_layout::{Field, Fields, Name, TypeId};
+use typing_rules::{Refusal, Rule, broken};
 
 fn has_field(fields: &[Field], name: &Name) -> bool
     ensures { result ≡ has_field fields.now name.now }

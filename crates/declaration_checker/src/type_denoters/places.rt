@@ -1,12 +1,12 @@
 //! Where an expression begins.
 
 ghost use Rattle.std.specs.Prelude.{◌≡◌};
-ghost use Rattle.constant_checker.specs.syntax_tree.expression_tree.Trees.{view_expression, view_simple, view_term, view_factor, view_designator};
+ghost use Rattle.syntax_tree.specs.expression_tree.Trees.{view_expression, view_simple, view_term, view_factor, view_designator};
 ghost use Rattle.declaration_checker.specs.type_denoters.Places.{first_place};
 
-use constant_checker::syntax_tree::expression_tree::begins;
-use constant_checker::syntax_tree::{Designator, Expression, Factor, SimpleExpression, Term};
-use constant_checker::type_layout::Place;
+use syntax_tree::expression_tree::begins;
+use syntax_tree::{Designator, Expression, Factor, SimpleExpression, Term};
+use type_layout::Place;
 
 fn first_of_designator(tree: &Designator) -> Place
     ensures { result ≡ first_place (view_designator tree.now) }

@@ -1,16 +1,16 @@
 //! The names of a part of type declarations.
 
 ghost use Rattle.std.specs.Prelude.{◌≡◌, ◌<◌, IfSome, length, position};
-ghost use Rattle.constant_checker.specs.type_layout.Words.{same_bytes};
-ghost use Rattle.constant_checker.specs.typing_rules.Judgements.{Gives};
+ghost use Rattle.type_layout.specs.Words.{same_bytes};
+ghost use Rattle.typing_rules.specs.Judgements.{Gives};
 ghost use Rattle.declaration_checker.specs.headers.Names.{itself};
 ghost use Rattle.declaration_checker.specs.type_denoters.Denoters.{promise_of, target_of};
 
 use crate::headers::type_named;
-use constant_checker::scopes::Scope;
-use constant_checker::syntax_tree::Identifier;
-use constant_checker::type_layout::{Name, TypeId};
-use constant_checker::typing_rules::Refusal;
+use scopes::Scope;
+use syntax_tree::Identifier;
+use type_layout::{Name, TypeId};
+use typing_rules::Refusal;
 
 /// A name that a part of type declarations declares, with the id that its type has, or will have further on.
 #[derive(Debug, Drop)]

@@ -1,12 +1,12 @@
 //! How many types are added for a type.
 
 ghost use Rattle.std.specs.Prelude.{◌≡◌};
-ghost use Rattle.constant_checker.specs.type_layout.declared.texts.Place.{Place};
-ghost use Rattle.constant_checker.specs.scopes.Members.{narrow};
+ghost use Rattle.type_layout.specs.declared.texts.Place.{Place};
+ghost use Rattle.scopes.specs.Members.{narrow};
 ghost use Rattle.declaration_checker.specs.type_denoters.Trees.{view_denoter, view_structured, view_denoters, view_groups};
 ghost use Rattle.declaration_checker.specs.type_parts.Promised.{adds, adds_indexes, adds_fields};
 
-use constant_checker::syntax_tree::type_tree::{FieldGroup, StructuredType, TypeDenoter};
+use syntax_tree::type_tree::{FieldGroup, StructuredType, TypeDenoter};
 
 /// How many types are added for a type.
 #[cycle(counts)]

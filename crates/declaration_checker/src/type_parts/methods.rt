@@ -1,17 +1,17 @@
 //! Methods of an object type.
 
 ghost use Rattle.std.specs.Prelude.{◌≡◌, []};
-ghost use Rattle.constant_checker.specs.typing_rules.Judgements.{Gives};
+ghost use Rattle.typing_rules.specs.Judgements.{Gives};
 ghost use Rattle.declaration_checker.specs.type_denoters.Denoters.{has_field};
 ghost use Rattle.declaration_checker.specs.type_parts.Objects.{name_of, header_place, is_virtual_constructor, has_method, method_named, method_judged, methods_judged, has_class, is_dynamic};
 
 use crate::headers::method_header;
-use constant_checker::scopes::Scope;
-use constant_checker::syntax_tree::Identifier;
-use constant_checker::syntax_tree::type_tree::MethodHeader;
-use constant_checker::type_layout::{Field, Header, Kind, Method, Methods, Name, Place, RoutineId};
-use constant_checker::typing_rules::{Refusal, Rule, broken};
+use scopes::Scope;
 use std::alloc::Global;
+use syntax_tree::Identifier;
+use syntax_tree::type_tree::MethodHeader;
+use type_layout::{Field, Header, Kind, Method, Methods, Name, Place, RoutineId};
+use typing_rules::{Refusal, Rule, broken};
 
 fn name_of(header: &MethodHeader) -> &Identifier
     ensures { result.now ≡ name_of header.now }
@@ -35,7 +35,7 @@ fn header_place(header: &MethodHeader) -> Place
     }
 }
 
-fn is_virtual_constructor(one: &constant_checker::syntax_tree::type_tree::Method) -> bool
+fn is_virtual_constructor(one: &syntax_tree::type_tree::Method) -> bool
     ensures { result ≡ is_virtual_constructor one.now }
 {
     matches!(one.header, MethodHeader::Constructor { .. }) && one.is_virtual
@@ -58,7 +58,7 @@ fn method_named(
     fields: &[Field],
     before: &[Method],
     routine: RoutineId,
-    one: &constant_checker::syntax_tree::type_tree::Method,
+    one: &syntax_tree::type_tree::Method,
     header: Header,
 ) -> Result<Method, Refusal>
     ensures { Gives (λ made. made) result (method_named fields.now before.now routine.unit routine.number one.now header).run }
@@ -82,7 +82,7 @@ fn method_judged(
     routine: RoutineId,
     fields: &[Field],
     before: &[Method],
-    one: &constant_checker::syntax_tree::type_tree::Method,
+    one: &syntax_tree::type_tree::Method,
 ) -> Result<Method, Refusal>
     ensures { Gives (λ made. made) result (method_judged scope.now routine.unit routine.number fields.now before.now one.now).run }
 {
@@ -101,7 +101,7 @@ pub(crate) fn methods_judged(
     unit: u32,
     first: u32,
     fields: &[Field],
-    all: &[constant_checker::syntax_tree::type_tree::Method],
+    all: &[syntax_tree::type_tree::Method],
 ) -> Result<Methods, Refusal>
     ensures { Gives (λ methods. methods) result (methods_judged scope.now unit first fields.now [] all.now).run }
 {

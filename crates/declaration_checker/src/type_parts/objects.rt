@@ -1,8 +1,8 @@
 //! Object types.
 
 ghost use Rattle.std.specs.Prelude.{◌≡◌, ◌<◌, [], OnOk, length, option_copied};
-ghost use Rattle.constant_checker.specs.type_layout.Table.{place_of};
-ghost use Rattle.constant_checker.specs.typing_rules.Judgements.{Gives};
+ghost use Rattle.type_layout.specs.Table.{place_of};
+ghost use Rattle.typing_rules.specs.Judgements.{Gives};
 ghost use Rattle.declaration_checker.specs.type_denoters.Trees.{view_groups};
 ghost use Rattle.declaration_checker.specs.type_denoters.Additions.{denoted};
 ghost use Rattle.declaration_checker.specs.type_denoters.Denoters.{ground, listed};
@@ -11,12 +11,12 @@ ghost use Rattle.declaration_checker.specs.type_parts.Objects.{inside, methods_j
 use crate::headers::type_named;
 use crate::type_denoters::{Promise, added, judged_fields};
 use crate::type_parts::methods::{is_dynamic, methods_judged};
-use constant_checker::scopes::{BlockKind, Entry, Scope};
-use constant_checker::syntax_tree::Identifier;
-use constant_checker::syntax_tree::type_tree::{FieldGroup, Method};
-use constant_checker::type_layout::{Field, Fields, Methods, Name, Place, TypeDef, TypeId};
-use constant_checker::typing_rules::{Refusal, Rule, broken};
+use scopes::{BlockKind, Entry, Scope};
 use std::alloc::{AllocError, Global};
+use syntax_tree::Identifier;
+use syntax_tree::type_tree::{FieldGroup, Method};
+use type_layout::{Field, Fields, Methods, Name, Place, TypeDef, TypeId};
+use typing_rules::{Refusal, Rule, broken};
 
 fn ancestor_of(scope: &Scope, one: Option<&Identifier>) -> Result<Option<TypeId>, Refusal>
     ensures { Gives (λ parent. parent) result (ancestor_of scope.now (option_copied one.entry)).run }

@@ -1,21 +1,21 @@
 //! Parts of type declarations.
 
 ghost use Rattle.std.specs.Prelude.{◌≡◌};
-ghost use Rattle.constant_checker.specs.typing_rules.Judgements.{Gives};
+ghost use Rattle.typing_rules.specs.Judgements.{Gives};
 ghost use Rattle.declaration_checker.specs.type_denoters.Additions.{denoted};
 ghost use Rattle.declaration_checker.specs.type_denoters.Denoters.{ground};
-ghost use Rattle.constant_checker.specs.scopes.Members.{narrow};
+ghost use Rattle.scopes.specs.Members.{narrow};
 ghost use Rattle.declaration_checker.specs.type_parts.Parts.{whole, type_declared, method_count, next_routine, types_declared, type_part};
 
 use crate::type_denoters::{Promise, entered, judged_denoter};
 use crate::type_parts::objects::object_allowed;
 use crate::type_parts::promised::promises;
-use constant_checker::scopes::{Entry, Scope};
-use constant_checker::syntax_tree::source_tree::TypeDeclaration;
-use constant_checker::syntax_tree::type_tree::TypeDenoter;
-use constant_checker::type_layout::{Name, TypeId};
-use constant_checker::typing_rules::Refusal;
+use scopes::{Entry, Scope};
 use std::alloc::Global;
+use syntax_tree::source_tree::TypeDeclaration;
+use syntax_tree::type_tree::TypeDenoter;
+use type_layout::{Name, TypeId};
+use typing_rules::Refusal;
 
 // The type of a declaration of this name.
 fn whole(

@@ -1,20 +1,20 @@
 //! The ids that the types of a part will have.
 
 ghost use Rattle.std.specs.Prelude.{◌≡◌, ◌<◌, IfOk, IfSome, length, position};
-ghost use Rattle.constant_checker.specs.type_layout.Words.{same_bytes};
+ghost use Rattle.type_layout.specs.Words.{same_bytes};
 ghost use Rattle.declaration_checker.specs.type_denoters.Trees.{view_denoter};
 ghost use Rattle.declaration_checker.specs.type_denoters.Denoters.{promise_of};
 ghost use Rattle.declaration_checker.specs.type_parts.Promised.{alias_of, promised_id, promises};
 
 use crate::type_denoters::Promise;
 use crate::type_parts::counts::adds;
-use constant_checker::scopes::{Entry, Found, STRING, Scope};
-use constant_checker::syntax_tree::Identifier;
-use constant_checker::syntax_tree::source_tree::TypeDeclaration;
-use constant_checker::syntax_tree::type_tree::TypeDenoter;
-use constant_checker::type_layout::{Name, Sequence, TypeId};
-use constant_checker::typing_rules::UNTYPED;
+use scopes::{Entry, Found, STRING, Scope};
 use std::alloc::{AllocError, Global};
+use syntax_tree::Identifier;
+use syntax_tree::source_tree::TypeDeclaration;
+use syntax_tree::type_tree::TypeDenoter;
+use type_layout::{Name, Sequence, TypeId};
+use typing_rules::UNTYPED;
 
 /// Names with the ids of their types.
 pub(crate) type Promises = Sequence<Promise>;

@@ -1,22 +1,22 @@
 -- The outline of a statement, by what the grammar makes of it.
 use Rattle.std.proofs.Common.{◌≡◌, List, [], ◌∷◌, map, refl, sym, ap, ap₂, ◌∙◌, subst}
-use Rattle.source_graph.specs.type_layout.declared.texts.Place.{Place}
-use Rattle.source_graph.specs.ll1_grammar.Grammar.{nil, pair, leaf, node}
-use Rattle.source_graph.specs.ll1_grammar.whole_trees.Whole.{IsWhole}
-use Rattle.source_graph.specs.pascal_grammar.Lexemes as v
-use Rattle.source_graph.specs.pascal_grammar.Productions as p
-use Rattle.source_graph.specs.syntax_tree.declared.expression.Argument.{Argument}
-use Rattle.source_graph.specs.syntax_tree.declared.expression.Argument.TheVariants as a
-use Rattle.source_graph.specs.syntax_tree.declared.statement.CompoundStatement.{CompoundStatement}
-use Rattle.source_graph.specs.syntax_tree.declared.statement.Statement.{Statement, Row_of-Statement, end_of-Statement, more_of-Statement, items-the_row-Statement, items_hidden-the_row-Statement-0}
-use Rattle.source_graph.specs.syntax_tree.declared.statement.Statement.TheVariants as s
-use Rattle.source_graph.specs.syntax_tree.Expressions.{Parsed, of}
-use Rattle.source_graph.specs.syntax_tree.Statements.{of_statement, of_statements, more_statements, compound_of}
-use Rattle.source_graph.proofs.expression_parser_proofs.statement_parser.Rows.{compound_is}
-use Rattle.source_graph.specs.syntax_tree.expression_tree.Trees.{Operand, plain, wide, Operands, no_operands, and_operand, begins, view_argument, view_arguments}
-use Rattle.source_graph.specs.syntax_tree.statement_tree.Places.{place_of}
-use Rattle.source_graph.specs.syntax_tree.statement_tree.Trees as task
-use Rattle.source_graph.specs.syntax_tree.statement_tree.Trees.{Task, Tasks, view_statement, view_statement_row}
+use Rattle.type_layout.specs.declared.texts.Place.{Place}
+use Rattle.ll1_grammar.specs.Grammar.{nil, pair, leaf, node}
+use Rattle.ll1_grammar.specs.whole_trees.Whole.{IsWhole}
+use Rattle.pascal_grammar.specs.Lexemes as v
+use Rattle.pascal_grammar.specs.Productions as p
+use Rattle.syntax_tree.specs.declared.expression.Argument.{Argument}
+use Rattle.syntax_tree.specs.declared.expression.Argument.TheVariants as a
+use Rattle.syntax_tree.specs.declared.statement.CompoundStatement.{CompoundStatement}
+use Rattle.syntax_tree.specs.declared.statement.Statement.{Statement, Row_of-Statement, end_of-Statement, more_of-Statement, items-the_row-Statement, items_hidden-the_row-Statement-0}
+use Rattle.syntax_tree.specs.declared.statement.Statement.TheVariants as s
+use Rattle.syntax_tree.specs.Expressions.{Parsed, of}
+use Rattle.syntax_tree.specs.Statements.{of_statement, of_statements, more_statements, compound_of}
+use Rattle.expression_parser.proofs.statement_parser.Rows.{compound_is}
+use Rattle.syntax_tree.specs.expression_tree.Trees.{Operand, plain, wide, Operands, no_operands, and_operand, begins, view_argument, view_arguments}
+use Rattle.syntax_tree.specs.statement_tree.Places.{place_of}
+use Rattle.syntax_tree.specs.statement_tree.Trees as task
+use Rattle.syntax_tree.specs.statement_tree.Trees.{Task, Tasks, view_statement, view_statement_row}
 use Rattle.address_independence.proofs.yields.Statements.{statement_alike}
 use Rattle.literal_form_laws.specs.literal_places.Outlines.{Outline, empty, compound, call, other, Outlines, no_outlines, and_outline, argument_place, outline_of, outline_row, outlines_of}
 

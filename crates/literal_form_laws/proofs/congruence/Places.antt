@@ -2,18 +2,18 @@
 use Rattle.std.proofs.Common.{◌≡◌, ℕ, Option, Some, None, refl, sym, ap, ap₂, ◌∙◌}
 use Rattle.std.specs.Prelude.{slice_get, option_map, unwrap_or}
 use Rattle.std.proofs.lemmas.Option.{slice_get-map}
-use Rattle.source_graph.specs.type_layout.declared.texts.Place.{Place}
-use Rattle.source_graph.specs.ll1_grammar.whole_trees.Whole.{IsWhole}
-use Rattle.source_graph.specs.pascal_grammar.declared.lexeme.Position.{Position}
-use Rattle.source_graph.specs.syntax_tree.declared.statement.CompoundStatement.{CompoundStatement}
-use Rattle.source_graph.specs.syntax_tree.Statements.{compound_of}
-use Rattle.source_graph.specs.syntax_tree.declared.source_tree.source.Tree.{Tree}
-use Rattle.source_graph.specs.syntax_tree.declared.source_tree.source.Tree.TheVariants as t
+use Rattle.type_layout.specs.declared.texts.Place.{Place}
+use Rattle.ll1_grammar.specs.whole_trees.Whole.{IsWhole}
+use Rattle.pascal_grammar.specs.declared.lexeme.Position.{Position}
+use Rattle.syntax_tree.specs.declared.statement.CompoundStatement.{CompoundStatement}
+use Rattle.syntax_tree.specs.Statements.{compound_of}
+use Rattle.syntax_tree.specs.declared.source_tree.source.Tree.{Tree}
+use Rattle.syntax_tree.specs.declared.source_tree.source.Tree.TheVariants as t
 use Rattle.source_graph.proofs.UsedLaws.{used_once}
-use Rattle.literal_programs.specs.typed_tree.declared.units.Routine.{Routine}
-use Rattle.literal_programs.specs.typed_tree.declared.units.Unit.{Unit as TypedUnit}
-use Rattle.literal_programs.specs.typed_tree.declared.units.Program.{Program}
-use Rattle.address_independence.specs.tp_check_decl.Units.{Finished, Whole, view_routine, view_unit}
+use Rattle.typed_tree.specs.declared.units.Routine.{Routine}
+use Rattle.typed_tree.specs.declared.units.Unit.{Unit as TypedUnit}
+use Rattle.typed_tree.specs.declared.units.Program.{Program}
+use Rattle.tp_check_decl.specs.Units.{Finished, Whole, view_routine, view_unit}
 use Rattle.literal_form_laws.specs.literal_places.Outlines.{Outline}
 use Rattle.literal_form_laws.specs.literal_places.Places.{first_in, first_used, in_main, routine_at, in_body}
 use Rattle.address_independence.specs.congruence.Laws.{IsSame}

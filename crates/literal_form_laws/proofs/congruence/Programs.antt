@@ -1,13 +1,13 @@
 -- Programs that are the same but for where their statements lie in memory.
 use Rattle.std.proofs.Common.{◌≡◌, ℕ, ◌+◌, List, [], ◌∷◌, map, Option, Some, None, refl, sym, ap, ap₂, ◌∙◌}
 use Rattle.std.specs.Prelude.{◌%◌, min, slice_get, option_map}
-use Rattle.source_graph.specs.type_layout.declared.definitions.TypeDef.{TypeDef}
-use Rattle.literal_programs.specs.typed_tree.declared.units.Unit.{Unit as TypedUnit}
-use Rattle.literal_programs.specs.typed_tree.declared.units.Program.{Program}
-use Rattle.literal_programs.specs.typed_tree.Statements.{view_stmt}
-use Rattle.literal_programs.specs.typed_tree.Statements as typed
-use Rattle.address_independence.specs.tp_meaning.Programs.{stack_by, heap_by}
-use Rattle.address_independence.specs.tp_check_decl.Units.{Whole, view_unit}
+use Rattle.type_layout.specs.declared.definitions.TypeDef.{TypeDef}
+use Rattle.typed_tree.specs.declared.units.Unit.{Unit as TypedUnit}
+use Rattle.typed_tree.specs.declared.units.Program.{Program}
+use Rattle.typed_tree.specs.Statements.{view_stmt}
+use Rattle.typed_tree.specs.Statements as typed
+use Rattle.tp_meaning.specs.Programs.{stack_by, heap_by}
+use Rattle.tp_check_decl.specs.Units.{Whole, view_unit}
 use Rattle.literal_programs.specs.literal_code.Image.{paragraphs}
 use Rattle.literal_programs.specs.Literals.{said}
 use Rattle.address_independence.specs.congruence.Laws.{IsSame}

@@ -2,13 +2,13 @@
 use Rattle.std.proofs.Common.{◌≡◌, ℕ, zero, suc, ◌+◌, ◌≤◌, cond, List, [], ◌∷◌, map, Some, is_some, refl, sym, ap, ap₂, ◌∙◌, subst}
 use Rattle.std.specs.Prelude.{slice_get, sum_by, option_map}
 use Rattle.std.proofs.lemmas.Option.{slice_get-map}
-use Rattle.source_graph.specs.type_layout.declared.definitions.TypeDef.{TypeDef}
-use Rattle.literal_programs.specs.typed_tree.declared.units.Routine.{Routine}
-use Rattle.literal_programs.specs.typed_tree.declared.units.Unit.{Unit as TypedUnit}
-use Rattle.literal_programs.specs.typed_tree.Statements.{view_stmt}
-use Rattle.literal_programs.specs.typed_tree.Needs.{statement_need}
-use Rattle.literal_programs.specs.typed_tree.Frames.{even, param_bytes, even_size, copy_bytes, class_argument, result_argument, result_bytes, frame_of}
-use Rattle.address_independence.specs.tp_check_decl.Units.{Finished, Whole, view_routine, view_unit}
+use Rattle.type_layout.specs.declared.definitions.TypeDef.{TypeDef}
+use Rattle.typed_tree.specs.declared.units.Routine.{Routine}
+use Rattle.typed_tree.specs.declared.units.Unit.{Unit as TypedUnit}
+use Rattle.typed_tree.specs.Statements.{view_stmt}
+use Rattle.typed_tree.specs.Needs.{statement_need}
+use Rattle.typed_tree.specs.Frames.{even, param_bytes, even_size, copy_bytes, class_argument, result_argument, result_bytes, frame_of}
+use Rattle.tp_check_decl.specs.Units.{Finished, Whole, view_routine, view_unit}
 use Rattle.literal_programs.specs.Literals.{IsMain}
 
 -- ---- routines

@@ -1,8 +1,8 @@
 -- Statements round a list that lies in a vector.
 use Rattle.std.proofs.Common.{◌≡◌, ap, refl, ◌∙◌}
-use Rattle.source_graph.specs.syntax_tree.declared.statement.CompoundStatement.{CompoundStatement}
-use Rattle.source_graph.specs.syntax_tree.declared.statement.Statement.{Statement, Row_of-Statement, end_of-Statement, more_of-Statement, items-the_row-Statement, items_hidden-the_row-Statement-0}
-use Rattle.source_graph.specs.syntax_tree.declared.statement.Statement.TheVariants as s
+use Rattle.syntax_tree.specs.declared.statement.CompoundStatement.{CompoundStatement}
+use Rattle.syntax_tree.specs.declared.statement.Statement.{Statement, Row_of-Statement, end_of-Statement, more_of-Statement, items-the_row-Statement, items_hidden-the_row-Statement-0}
+use Rattle.syntax_tree.specs.declared.statement.Statement.TheVariants as s
 use Rattle.literal_form_laws.specs.literal_places.Outlines.{Outlines, compound, and_outline, outline_of, outline_row, outlines_of}
 
 row_outlines : (n : _) (row : Row_of-Statement n) → outline_row row ≡ outlines_of (items-the_row-Statement n row)

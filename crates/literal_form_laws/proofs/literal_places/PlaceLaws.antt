@@ -3,11 +3,11 @@ use Rattle.std.proofs.Common.{◌≡◌, ◌≢◌, ℕ, suc, ◌+◌, ◌≤◌
 use Rattle.std.specs.List.{position_or_len}
 use Rattle.std.specs.Prelude.{nat_lt}
 use Rattle.std.proofs.lemmas.Bool.Decides.{nat_tests}
-use Rattle.source_graph.specs.type_layout.declared.definitions.TypeDef.{TypeDef}
-use Rattle.source_graph.specs.type_layout.declared.texts.Place.{Place}
-use Rattle.literal_programs.specs.typed_tree.Expressions.{Expression}
-use Rattle.literal_programs.specs.typed_tree.Statements as typed
-use Rattle.literal_programs.specs.typed_tree.Statements.{Written, Block, WriteItems, Halt, Statements, NoStatements, Then}
+use Rattle.type_layout.specs.declared.definitions.TypeDef.{TypeDef}
+use Rattle.type_layout.specs.declared.texts.Place.{Place}
+use Rattle.typed_tree.specs.Expressions.{Expression}
+use Rattle.typed_tree.specs.Statements as typed
+use Rattle.typed_tree.specs.Statements.{Written, Block, WriteItems, Halt, Statements, NoStatements, Then}
 use Rattle.literal_programs.specs.literal_code.Statement as literal
 use Rattle.literal_programs.specs.Literals.{item_text, text_said, items_said, line_said, end_code, halt_said, joined, said, all_said}
 use Rattle.literal_form_laws.specs.literal_places.Outlines.{Outline, empty, compound, call, other, Outlines, no_outlines, and_outline}

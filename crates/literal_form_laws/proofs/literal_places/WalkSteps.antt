@@ -2,13 +2,13 @@
 use Rattle.std.proofs.Common.{◌≡◌, ℕ, suc, ◌+◌, ◌-◌, ◌<◌, ◌≤◌, ◌==◌, Bool, true, false, cond, not, nat_lt, List, [], ◌∷◌, length, map, take, drop, drop-cons, add-one, get_or, position, option_map, Option, Some, None, refl, sym, ap, ap₂, ◌∙◌, arith}
 use Rattle.std.proofs.lemmas.List.{take_all, drop_all}
 use Rattle.std.specs.List.{position_or_len}
-use Rattle.source_graph.specs.type_layout.declared.definitions.TypeDef.{TypeDef}
-use Rattle.source_graph.specs.type_layout.declared.texts.Place.{Place}
-use Rattle.source_graph.specs.syntax_tree.declared.statement.Statement as source
-use Rattle.literal_programs.specs.typed_tree.declared.statements.WriteItem.{WriteItem}
-use Rattle.literal_programs.specs.typed_tree.declared.statements.Stmt.{Stmt}
-use Rattle.literal_programs.specs.typed_tree.Statements as typed
-use Rattle.literal_programs.specs.typed_tree.Statements.{Statements, Then, view_stmt, view_stmts, view_written}
+use Rattle.type_layout.specs.declared.definitions.TypeDef.{TypeDef}
+use Rattle.type_layout.specs.declared.texts.Place.{Place}
+use Rattle.syntax_tree.specs.declared.statement.Statement as source
+use Rattle.typed_tree.specs.declared.statements.WriteItem.{WriteItem}
+use Rattle.typed_tree.specs.declared.statements.Stmt.{Stmt}
+use Rattle.typed_tree.specs.Statements as typed
+use Rattle.typed_tree.specs.Statements.{Statements, Then, view_stmt, view_stmts, view_written}
 use Rattle.literal_form_laws.specs.literal_places.Outlines.{Outline, empty, compound, call, other, Outlines, and_outline, outline_of, outlines_of}
 use Rattle.literal_form_laws.specs.literal_places.Places.{is_text, argument_at, first_item, is_empty, or_else, first_in, first_among}
 

@@ -1,12 +1,12 @@
 -- What typed programs that are the same have in common, as programs of literals.
 use Rattle.std.specs.Prelude.{◌≡◌, List}
-use Rattle.source_graph.specs.ll1_grammar.whole_trees.Whole.{IsWhole}
-use Rattle.source_graph.specs.syntax_tree.declared.source_tree.source.Tree.{Tree}
-use Rattle.source_graph.specs.syntax_tree.source_tree.Sources.{of_tree}
-use Rattle.literal_programs.specs.typed_tree.declared.units.Program.{Program}
-use Rattle.address_independence.specs.tp_meaning.Programs.{stack_of, heap_of}
+use Rattle.ll1_grammar.specs.whole_trees.Whole.{IsWhole}
+use Rattle.syntax_tree.specs.declared.source_tree.source.Tree.{Tree}
+use Rattle.syntax_tree.specs.source_tree.Sources.{of_tree}
+use Rattle.typed_tree.specs.declared.units.Program.{Program}
+use Rattle.tp_meaning.specs.Programs.{stack_of, heap_of}
 use Rattle.address_independence.specs.congruence.Laws.{IsSame}
-use Rattle.literal_programs.specs.mz_file.declared.executable.Exe.{Exe}
+use Rattle.mz_file.specs.declared.executable.Exe.{Exe}
 use Rattle.literal_programs.specs.literal_code.Statement.{Statement}
 use Rattle.literal_programs.specs.Literals.{Says}
 use Rattle.literal_programs.specs.Memory.{HasMemoryOf}

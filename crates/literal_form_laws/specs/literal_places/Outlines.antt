@@ -1,12 +1,12 @@
 -- The statements of a source as programs of literals see them: where each stands, and what may be a call.
 use Rattle.std.specs.Prelude.{List, [], ◌∷◌, map}
-use Rattle.source_graph.specs.type_layout.declared.texts.Place.{Place}
-use Rattle.source_graph.specs.syntax_tree.declared.expression.Argument.{Argument}
-use Rattle.source_graph.specs.syntax_tree.declared.expression.Argument.TheVariants as a
-use Rattle.source_graph.specs.syntax_tree.declared.statement.Statement.{Statement, Row_of-Statement, end_of-Statement, more_of-Statement}
-use Rattle.source_graph.specs.syntax_tree.declared.statement.Statement.TheVariants as s
-use Rattle.source_graph.specs.syntax_tree.expression_tree.Trees.{begins, view_expression}
-use Rattle.source_graph.specs.syntax_tree.statement_tree.Places.{place_of}
+use Rattle.type_layout.specs.declared.texts.Place.{Place}
+use Rattle.syntax_tree.specs.declared.expression.Argument.{Argument}
+use Rattle.syntax_tree.specs.declared.expression.Argument.TheVariants as a
+use Rattle.syntax_tree.specs.declared.statement.Statement.{Statement, Row_of-Statement, end_of-Statement, more_of-Statement}
+use Rattle.syntax_tree.specs.declared.statement.Statement.TheVariants as s
+use Rattle.syntax_tree.specs.expression_tree.Trees.{begins, view_expression}
+use Rattle.syntax_tree.specs.statement_tree.Places.{place_of}
 
 mutual
   -- Each stands where its first lexeme does; the arguments of a call stand as expressions do.

@@ -1,17 +1,17 @@
 -- Where a program leaves the literal form: the first node in text order that the form doesn't have.
 use Rattle.std.specs.Prelude.{◌≢◌, ℕ, Bool, true, false, not, cond, List, position, find, slice_get, unwrap_or, codes, Option, Some, None}
 use Rattle.std.specs.Option.{option_map, is_some}
-use Rattle.source_graph.specs.type_layout.declared.definitions.TypeDef.{TypeDef}
-use Rattle.source_graph.specs.type_layout.declared.texts.Place.{Place}
-use Rattle.source_graph.specs.type_layout.Words.{same_bytes}
-use Rattle.source_graph.specs.syntax_tree.declared.identifier.Identifier.{Identifier}
-use Rattle.source_graph.specs.syntax_tree.declared.statement.CompoundStatement.{CompoundStatement}
-use Rattle.source_graph.specs.syntax_tree.declared.source_tree.source.Tree.{Tree}
-use Rattle.source_graph.specs.syntax_tree.declared.source_tree.source.Tree.TheVariants as t
-use Rattle.literal_programs.specs.typed_tree.declared.units.Routine.{Routine}
-use Rattle.literal_programs.specs.typed_tree.declared.units.Unit.{Unit as TypedUnit}
-use Rattle.literal_programs.specs.typed_tree.declared.units.Program.{Program}
-use Rattle.literal_programs.specs.typed_tree.Statements.{Statement, Written, Block, WriteItems, Halt, Statements, NoStatements, Then, view_stmt}
+use Rattle.type_layout.specs.declared.definitions.TypeDef.{TypeDef}
+use Rattle.type_layout.specs.declared.texts.Place.{Place}
+use Rattle.type_layout.specs.Words.{same_bytes}
+use Rattle.syntax_tree.specs.declared.identifier.Identifier.{Identifier}
+use Rattle.syntax_tree.specs.declared.statement.CompoundStatement.{CompoundStatement}
+use Rattle.syntax_tree.specs.declared.source_tree.source.Tree.{Tree}
+use Rattle.syntax_tree.specs.declared.source_tree.source.Tree.TheVariants as t
+use Rattle.typed_tree.specs.declared.units.Routine.{Routine}
+use Rattle.typed_tree.specs.declared.units.Unit.{Unit as TypedUnit}
+use Rattle.typed_tree.specs.declared.units.Program.{Program}
+use Rattle.typed_tree.specs.Statements.{Statement, Written, Block, WriteItems, Halt, Statements, NoStatements, Then, view_stmt}
 use Rattle.literal_programs.specs.Literals.{item_text, end_code, said}
 use Rattle.literal_form_laws.specs.literal_places.Outlines.{Outline, empty, compound, call, other, Outlines, no_outlines, and_outline, outlines_of}
 

@@ -1,9 +1,9 @@
 //! What holds of the places of nodes that the form doesn't have.
 
 ghost use Rattle.std.specs.Prelude.{◌≡◌, List, None};
-ghost use Rattle.source_graph.specs.type_layout.declared.definitions.TypeDef.{TypeDef};
-ghost use Rattle.source_graph.specs.type_layout.declared.texts.Place.{Place};
-ghost use Rattle.literal_programs.specs.typed_tree.Statements.{Statement};
+ghost use Rattle.type_layout.specs.declared.definitions.TypeDef.{TypeDef};
+ghost use Rattle.type_layout.specs.declared.texts.Place.{Place};
+ghost use Rattle.typed_tree.specs.Statements.{Statement};
 ghost use Rattle.literal_form_laws.specs.literal_places.Outlines.{Outline};
 ghost use Rattle.literal_form_laws.specs.literal_places.Places.{first_in, IsOfForm};
 

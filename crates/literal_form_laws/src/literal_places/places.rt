@@ -4,10 +4,10 @@ ghost use Rattle.std.specs.Prelude.{◌≡◌, option_copied};
 ghost use Rattle.literal_form_laws.specs.literal_places.Places.{is_overlay, first_used, in_main, routine_at, in_body, place_outside};
 
 use crate::literal_places::statements::first_in_compound;
-use literal_programs::typed_tree::{Program, Routine, Unit};
-use source_graph::syntax_tree::source_tree::Tree;
-use source_graph::syntax_tree::{CompoundStatement, Identifier};
-use source_graph::type_layout::{Name, Place};
+use syntax_tree::source_tree::Tree;
+use syntax_tree::{CompoundStatement, Identifier};
+use type_layout::{Name, Place};
+use typed_tree::{Program, Routine, Unit};
 
 fn is_overlay(name: &Name) -> bool
     ensures { result ≡ is_overlay name.now }

@@ -1,16 +1,16 @@
 //! Statements beside the typed statements that they are.
 
 ghost use Rattle.std.specs.Prelude.{◌≡◌, map, not, position};
-ghost use Rattle.literal_programs.specs.typed_tree.Statements.{view_stmt, view_stmts, view_written};
+ghost use Rattle.typed_tree.specs.Statements.{view_stmt, view_stmts, view_written};
 ghost use Rattle.literal_form_laws.specs.literal_places.Outlines.{argument_place, compound, call, outline_of, outlines_of};
 ghost use Rattle.literal_form_laws.specs.literal_places.Places.{is_text, argument_at, first_item, is_empty, first_in, first_among};
 
-use literal_programs::typed_tree::{Stmt, WriteItem};
 use literal_programs::{is_halt, is_text};
-use source_graph::syntax_tree::expression_tree::begins;
-use source_graph::syntax_tree::statement_tree::place_of;
-use source_graph::syntax_tree::{Argument, CompoundStatement, Statement};
-use source_graph::type_layout::{Place, Types};
+use syntax_tree::expression_tree::begins;
+use syntax_tree::statement_tree::place_of;
+use syntax_tree::{Argument, CompoundStatement, Statement};
+use type_layout::{Place, Types};
+use typed_tree::{Stmt, WriteItem};
 
 // Where an argument stands: as its value does, also before a width.
 fn argument_place(argument: &Argument) -> Place

@@ -110,5 +110,5 @@ pub always_ends : (memory : Memory) (pool : List ℕ) (acts : List Act) (bytes :
 always_ends memory pool acts bytes stack heap few short within denotes = record {
   executable = denotes.executable;
   fits = subst {A = Exe} (λ exe. FitsWithBuffer exe 0) denotes.value (omega (arith, fits memory pool acts stack heap few short));
-  runs = λ buffer small fits input. (ends_within memory pool acts bytes input few short within denotes).run;
+  runs = λ input. (ends_within memory pool acts bytes input few short within denotes).run;
 }

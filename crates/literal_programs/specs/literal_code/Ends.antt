@@ -25,9 +25,8 @@ pub record EndsWithin (most : ℕ) (bytes input : List ℕ) (meant : Seen) : Typ
   pub run : EndsAs bytes input meant
   pub few : run.events ≤ most
 
--- The bytes are an executable that fits below segment A000h, and with any input and any buffer for overlays that
--- also fits there its run ends as is meant.
+-- The bytes are an executable that fits below segment A000h, and with any input its run ends as is meant.
 pub record AlwaysEnds (bytes : List ℕ) (meant : Seen) : Type 0 where
   pub executable : IsExecutable bytes
   pub fits : FitsWithBuffer (exe_of bytes) 0
-  pub runs : (buffer : ℕ) → buffer ≤ 40960 → FitsWithBuffer (exe_of bytes) buffer → (input : List ℕ) → EndsAs bytes input meant
+  pub runs : (input : List ℕ) → EndsAs bytes input meant

@@ -1,8 +1,9 @@
 //! The executable of a program of literals.
 
-ghost use Rattle.std.specs.Prelude.{◌≡◌, ◌≤◌, ◌++◌, ℕ, List, [], ◌∷◌, OnOk, IfOk, replicate};
+ghost use Rattle.std.specs.Prelude.{◌≡◌, ◌≤◌, ◌++◌, ℕ, List, [], ◌∷◌, OnOk, IfOk, length, replicate};
 ghost use Rattle.literal_programs.specs.literal_code.Statement.{shown};
-ghost use Rattle.literal_programs.specs.literal_code.LiteralProgram.{statements_of};
+ghost use Rattle.literal_programs.specs.literal_code.LiteralProgram.{statements_of, IsFull};
+ghost use Rattle.literal_programs.specs.literal_code.Size.{image_size};
 ghost use Rattle.mz_file.specs.Format.{Denotes};
 ghost use Rattle.mz_file.specs.Spelling.{IsWritable};
 ghost use Rattle.mz_file.specs.Load.{IsLoadable, paragraphs_taken};
@@ -142,7 +143,7 @@ fn assemble(alloc: Global, program: &LiteralProgram, memory: Memory) -> Result<E
 }
 
 /// The executable of a program of literals with this memory. It does what the program says: each list of bytes that
-/// stands for it always ends as the statements show, and its run is short.
+/// stands for it always ends as the statements show, and its run is short. Its image has no more than the code and the texts.
 pub fn executable(
     alloc: Global,
     program: &LiteralProgram,
@@ -158,6 +159,7 @@ pub fn executable(
     ensures short { IfOk result (λ exe. (bytes input : List ℕ) →
         Denotes bytes exe → EndsWithin 16389 bytes input (shown (statements_of program.now))) }
     ensures fits { IfOk result (λ exe. paragraphs_taken exe ≤ 0xA000) }
+    ensures size { IfOk result (λ exe. IsFull program.now → length exe.image ≡ image_size (statements_of program.now)) }
 {
     let exe = assemble(alloc, program, memory)?;
     Ok(exe)

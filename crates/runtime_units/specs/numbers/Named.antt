@@ -9,7 +9,7 @@ use Rattle.rt_text.specs.val_routines.Specifications.{val_value_number, val_plac
 use Rattle.rt_text.specs.read_numbers.Specifications.{read_number_number}
 use Rattle.rt_text.specs.str_routines.Specifications.{str_number}
 use Rattle.flat_code.specs.Runtime.{negation_number, product_number, less_number, quotient_number, remainder_number}
-use Rattle.rt_strings.specs.numbers.Numbers.{sum_number, difference_number, equal_number, left_shift_number, right_shift_number, range_number}
+use Rattle.rt_strings.specs.long_integers.Numbers.{sum_number, difference_number, equal_number, left_shift_number, right_shift_number, range_number}
 use Rattle.rt_strings.specs.short_strings.Specifications.{assign_number}
 use Rattle.rt_strings.specs.string_joins.Specifications.{concat_number, insert_number}
 use Rattle.rt_strings.specs.string_parts.Specifications.{copy_number, delete_number, upper_number}

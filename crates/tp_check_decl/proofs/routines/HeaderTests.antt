@@ -1,13 +1,13 @@
 -- What the tests on headers tell.
 use Rattle.std.proofs.Common.{◌≡◌, ℕ, ◌&&◌, nat_eq, Bool, true, false, not, ◌||◌, ◌==◌, map, List, [], ◌∷◌, Option, Some, None, is_some, Decides, refl, ap}
 use Rattle.std.proofs.lemmas.Bool.Decides.{Decides-like, Decides-and, Decides-eqb}
-use Rattle.unit_interface.specs.type_layout.declared.definitions.TypeId.{TypeId}
-use Rattle.unit_interface.specs.type_layout.declared.definitions.Param.{Param}
-use Rattle.unit_interface.specs.type_layout.declared.definitions.Kind.{Kind}
-use Rattle.unit_interface.specs.type_layout.declared.definitions.Kind.TheVariants as kind
-use Rattle.unit_interface.specs.type_layout.declared.definitions.Header.{Header}
-use Rattle.tp_check_stmt.specs.object_vmt.Rules.{kind_number, same_flag, same_param, same_params, same_result, same_header}
-use Rattle.unit_interface.specs.typed_tree.type_fits.Fits.{shape_of, AreSameHeaders, IsSome}
+use Rattle.type_layout.specs.declared.definitions.TypeId.{TypeId}
+use Rattle.type_layout.specs.declared.definitions.Param.{Param}
+use Rattle.type_layout.specs.declared.definitions.Kind.{Kind}
+use Rattle.type_layout.specs.declared.definitions.Kind.TheVariants as kind
+use Rattle.type_layout.specs.declared.definitions.Header.{Header}
+use Rattle.object_vmt.specs.Rules.{kind_number, same_flag, same_param, same_params, same_result, same_header}
+use Rattle.typed_tree.specs.type_fits.Fits.{shape_of, AreSameHeaders, IsSome}
 use Rattle.tp_check_decl.specs.routines.Drafts.{Numbered, Done}
 use Rattle.tp_check_decl.specs.routines.Headings.{same_kind}
 use Rattle.tp_check_decl.specs.routines.Insides.{is_outer, is_met, IsMet}

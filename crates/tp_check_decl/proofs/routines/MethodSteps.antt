@@ -1,10 +1,10 @@
 -- Routines of object types that are put behind those that are there, one after the other.
 use Rattle.std.proofs.Common.{◌≡◌, ◌∙◌, ℕ, suc, ◌+◌, ◌<◌, List, [], ◌∷◌, ◌++◌, length, get_or, drop, slice_get, Option, sym, ap, append_assoc, append-nil, arith}
 use Rattle.std.proofs.Math.Seq.{drop-cons}
-use Rattle.unit_interface.specs.type_layout.declared.definitions.TypeId.{TypeId}
-use Rattle.unit_interface.specs.type_layout.declared.definitions.Method.{Method}
-use Rattle.unit_interface.specs.type_layout.declared.texts.Place.{Place}
-use Rattle.tp_check_stmt.specs.syntax_tree.declared.type_tree.parameter.Method as written
+use Rattle.type_layout.specs.declared.definitions.TypeId.{TypeId}
+use Rattle.type_layout.specs.declared.definitions.Method.{Method}
+use Rattle.type_layout.specs.declared.texts.Place.{Place}
+use Rattle.syntax_tree.specs.declared.type_tree.parameter.Method as written
 use Rattle.declaration_checker.specs.type_parts.Objects.{header_place}
 use Rattle.tp_check_decl.specs.routines.Drafts.{Numbered}
 use Rattle.tp_check_decl.specs.routines.Methods.{of_method, of_methods}

@@ -1,33 +1,33 @@
 -- Routines and declarations are judged lawfully.
 use Rattle.std.proofs.Common.{◌≡◌, ℕ, ◌+◌, ◌≤◌, nat_le, Bool, true, false, not, codes, List, [], ◌∷◌, length, Option, Some, None, slice_get}
 use Rattle.std.proofs.lemmas.Bool.{leb-true, le-leb}
-use Rattle.unit_interface.specs.type_layout.declared.definitions.TypeId.{TypeId}
-use Rattle.unit_interface.specs.type_layout.declared.definitions.Param.{Param}
-use Rattle.unit_interface.specs.type_layout.declared.definitions.Kind.{Kind}
-use Rattle.unit_interface.specs.type_layout.declared.definitions.Kind.TheVariants as kind
-use Rattle.unit_interface.specs.type_layout.declared.definitions.Header.{Header}
-use Rattle.unit_interface.specs.type_layout.declared.definitions.Method.{Method}
-use Rattle.unit_interface.specs.type_layout.declared.texts.Place.{Place}
-use Rattle.tp_check_stmt.specs.object_vmt.Rules.{same_header}
-use Rattle.tp_check_stmt.specs.syntax_tree.declared.identifier.Identifier.{Identifier}
-use Rattle.tp_check_stmt.specs.syntax_tree.declared.statement.CompoundStatement.{CompoundStatement}
-use Rattle.tp_check_stmt.specs.syntax_tree.declared.type_tree.parameter.ParameterGroup.{ParameterGroup}
-use Rattle.tp_check_stmt.specs.syntax_tree.declared.type_tree.parameter.MethodHeader.{MethodHeader}
-use Rattle.tp_check_stmt.specs.syntax_tree.declared.source_tree.declaration.DeclarationPart.{DeclarationPart}
-use Rattle.tp_check_stmt.specs.syntax_tree.declared.source_tree.declaration.RoutineHeader.{RoutineHeader}
-use Rattle.tp_check_stmt.specs.syntax_tree.declared.source_tree.declaration.RoutineHeader.TheVariants as h
-use Rattle.tp_check_stmt.specs.syntax_tree.statement_tree.Trees.{compound, view_statements}
-use Rattle.unit_interface.specs.scopes.declared.entries.Entry.TheVariants as entry
-use Rattle.unit_interface.specs.scopes.declared.entries.BlockKind.TheVariants.{Routine}
-use Rattle.unit_interface.specs.scopes.Members.{narrow}
-use Rattle.unit_interface.specs.scopes.Environment.{Environment, with_block}
-use Rattle.unit_interface.specs.typed_tree.type_fits.Fits.{AreSameHeaders, definition}
-use Rattle.tp_check_stmt.specs.typing_rules.declared.faults.Rule.TheVariants as rules
-use Rattle.tp_check_stmt.specs.typing_rules.Faults.{broken, too_large}
-use Rattle.tp_check_stmt.specs.typing_rules.Judgements.{Judgement, makes, refuses, rule, part}
-use Rattle.tp_check_stmt.specs.typing_rules.Selectors.{asking}
-use Rattle.tp_check_stmt.specs.typing_rules.Laws.{Lawful}
-use Rattle.tp_check_stmt.proofs.typing_rules_proofs.JudgementLaws.{lawful_makes, lawful_refuses, lawful_rule, lawful_either, lawful_part}
+use Rattle.type_layout.specs.declared.definitions.TypeId.{TypeId}
+use Rattle.type_layout.specs.declared.definitions.Param.{Param}
+use Rattle.type_layout.specs.declared.definitions.Kind.{Kind}
+use Rattle.type_layout.specs.declared.definitions.Kind.TheVariants as kind
+use Rattle.type_layout.specs.declared.definitions.Header.{Header}
+use Rattle.type_layout.specs.declared.definitions.Method.{Method}
+use Rattle.type_layout.specs.declared.texts.Place.{Place}
+use Rattle.object_vmt.specs.Rules.{same_header}
+use Rattle.syntax_tree.specs.declared.identifier.Identifier.{Identifier}
+use Rattle.syntax_tree.specs.declared.statement.CompoundStatement.{CompoundStatement}
+use Rattle.syntax_tree.specs.declared.type_tree.parameter.ParameterGroup.{ParameterGroup}
+use Rattle.syntax_tree.specs.declared.type_tree.parameter.MethodHeader.{MethodHeader}
+use Rattle.syntax_tree.specs.declared.source_tree.declaration.DeclarationPart.{DeclarationPart}
+use Rattle.syntax_tree.specs.declared.source_tree.declaration.RoutineHeader.{RoutineHeader}
+use Rattle.syntax_tree.specs.declared.source_tree.declaration.RoutineHeader.TheVariants as h
+use Rattle.syntax_tree.specs.statement_tree.Trees.{compound, view_statements}
+use Rattle.scopes.specs.declared.entries.Entry.TheVariants as entry
+use Rattle.scopes.specs.declared.entries.BlockKind.TheVariants.{Routine}
+use Rattle.scopes.specs.Members.{narrow}
+use Rattle.scopes.specs.Environment.{Environment, with_block}
+use Rattle.typed_tree.specs.type_fits.Fits.{AreSameHeaders, definition}
+use Rattle.typing_rules.specs.declared.faults.Rule.TheVariants as rules
+use Rattle.typing_rules.specs.Faults.{broken, too_large}
+use Rattle.typing_rules.specs.Judgements.{Judgement, makes, refuses, rule, part}
+use Rattle.typing_rules.specs.Selectors.{asking}
+use Rattle.typing_rules.specs.Laws.{Lawful}
+use Rattle.typing_rules.proofs.JudgementLaws.{lawful_makes, lawful_refuses, lawful_rule, lawful_either, lawful_part}
 use Rattle.tp_check_stmt.proofs.StatementLaws as statement
 use Rattle.declaration_checker.specs.headers.Names.{type_named}
 use Rattle.declaration_checker.specs.headers.Headers.{procedure_header, function_header, routine_header, method_header}

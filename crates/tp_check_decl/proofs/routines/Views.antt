@@ -1,12 +1,12 @@
 -- Routines whose declarations lie in a vector.
 use Rattle.std.proofs.Common.{◌≡◌, List, [], ◌∷◌, ap, refl, ◌∙◌}
-use Rattle.tp_check_stmt.specs.syntax_tree.declared.identifier.Identifier.{Identifier}
-use Rattle.tp_check_stmt.specs.syntax_tree.declared.type_tree.parameter.MethodHeader.{MethodHeader}
-use Rattle.tp_check_stmt.specs.syntax_tree.declared.source_tree.declaration.RoutineHeader.{RoutineHeader}
-use Rattle.tp_check_stmt.specs.syntax_tree.declared.source_tree.declaration.Block.{Block}
-use Rattle.tp_check_stmt.specs.syntax_tree.declared.source_tree.declaration.Declaration.{Declaration}
-use Rattle.tp_check_stmt.specs.syntax_tree.declared.source_tree.declaration.Routine.{Routine, Row_of-Declaration, end_of-Declaration, more_of-Declaration, items-the_row-Declaration, items_hidden-the_row-Declaration-0}
-use Rattle.tp_check_stmt.specs.syntax_tree.declared.source_tree.declaration.Routine.TheVariants as r
+use Rattle.syntax_tree.specs.declared.identifier.Identifier.{Identifier}
+use Rattle.syntax_tree.specs.declared.type_tree.parameter.MethodHeader.{MethodHeader}
+use Rattle.syntax_tree.specs.declared.source_tree.declaration.RoutineHeader.{RoutineHeader}
+use Rattle.syntax_tree.specs.declared.source_tree.declaration.Block.{Block}
+use Rattle.syntax_tree.specs.declared.source_tree.declaration.Declaration.{Declaration}
+use Rattle.syntax_tree.specs.declared.source_tree.declaration.Routine.{Routine, Row_of-Declaration, end_of-Declaration, more_of-Declaration, items-the_row-Declaration, items_hidden-the_row-Declaration-0}
+use Rattle.syntax_tree.specs.declared.source_tree.declaration.Routine.TheVariants as r
 use Rattle.tp_check_decl.specs.routines.Trees.{Works, plain, method, view_routine, with_declaration, view_declaration_row, view_declarations}
 
 declaration_row : (n : _) (row : Row_of-Declaration n) → view_declaration_row row ≡ view_declarations (items-the_row-Declaration n row)

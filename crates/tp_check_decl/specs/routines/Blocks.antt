@@ -1,9 +1,9 @@
 -- Routines with what is declared inside them.
 use Rattle.std.specs.Prelude.{ℕ, false, List, []}
-use Rattle.unit_interface.specs.type_layout.declared.texts.Place.{Place}
-use Rattle.tp_check_stmt.specs.syntax_tree.declared.statement.CompoundStatement.{CompoundStatement}
-use Rattle.tp_check_stmt.specs.syntax_tree.declared.source_tree.declaration.DeclarationPart.{DeclarationPart}
-use Rattle.tp_check_stmt.specs.typing_rules.Judgements.{Judgement, makes, part}
+use Rattle.type_layout.specs.declared.texts.Place.{Place}
+use Rattle.syntax_tree.specs.declared.statement.CompoundStatement.{CompoundStatement}
+use Rattle.syntax_tree.specs.declared.source_tree.declaration.DeclarationPart.{DeclarationPart}
+use Rattle.typing_rules.specs.Judgements.{Judgement, makes, part}
 use Rattle.declaration_checker.specs.type_parts.Objects.{header_place}
 use Rattle.declaration_checker.specs.declarations.Parts.{part_declared}
 use Rattle.tp_check_decl.specs.declared.routines.drafts.Site.{Site}

@@ -1,12 +1,12 @@
 -- A unit while it is read: what is known, its variables, and its routines by their numbers.
 use Rattle.std.specs.Prelude.{ℕ, zero, suc, ◌+◌, List, [], ◌∷◌, ◌++◌, map, Option, Some, None, length}
 use Rattle.std.specs.Option.{option_map}
-use Rattle.unit_interface.specs.type_layout.declared.definitions.TypeId.{TypeId}
-use Rattle.unit_interface.specs.type_layout.declared.texts.Place.{Place}
-use Rattle.unit_interface.specs.typed_tree.declared.units.Global.{Global}
-use Rattle.unit_interface.specs.typed_tree.Statements.{Statement, view_stmt}
-use Rattle.unit_interface.specs.scopes.Members.{narrow}
-use Rattle.unit_interface.specs.scopes.Environment.{Environment}
+use Rattle.type_layout.specs.declared.definitions.TypeId.{TypeId}
+use Rattle.type_layout.specs.declared.texts.Place.{Place}
+use Rattle.typed_tree.specs.declared.units.Global.{Global}
+use Rattle.typed_tree.specs.Statements.{Statement, view_stmt}
+use Rattle.scopes.specs.Members.{narrow}
+use Rattle.scopes.specs.Environment.{Environment}
 use Rattle.declaration_checker.specs.declared.declarations.homes.Home.{Home}
 use Rattle.declaration_checker.specs.declared.declarations.homes.Home.TheVariants as home
 use Rattle.declaration_checker.specs.declarations.Progress.{Progress, progress, level_of}

@@ -1,25 +1,25 @@
 -- Headers of routines: those that announce a routine, and those that repeat an earlier one.
 use Rattle.std.specs.Prelude.{◌≡◌, ℕ, ◌+◌, ◌==◌, Bool, true, false, not, ◌&&◌, ◌||◌, nat_eq, cond, List, [], ◌∷◌, length, Option, Some, None, is_some, slice_get}
-use Rattle.unit_interface.specs.type_layout.declared.definitions.TypeId.{TypeId}
-use Rattle.unit_interface.specs.type_layout.declared.definitions.Param.{Param}
-use Rattle.unit_interface.specs.type_layout.declared.definitions.RoutineId.{RoutineId}
-use Rattle.unit_interface.specs.type_layout.declared.definitions.Kind.{Kind}
-use Rattle.unit_interface.specs.type_layout.declared.definitions.Kind.TheVariants as kind
-use Rattle.unit_interface.specs.type_layout.declared.definitions.Header.{Header}
-use Rattle.unit_interface.specs.type_layout.declared.texts.Place.{Place}
-use Rattle.tp_check_stmt.specs.object_vmt.Rules.{kind_number, same_header}
-use Rattle.tp_check_stmt.specs.pascal_grammar.declared.lexeme.Position.{Position}
-use Rattle.tp_check_stmt.specs.syntax_tree.declared.identifier.Identifier.{Identifier}
-use Rattle.tp_check_stmt.specs.syntax_tree.declared.type_tree.parameter.ParameterGroup.{ParameterGroup}
-use Rattle.tp_check_stmt.specs.syntax_tree.declared.source_tree.declaration.RoutineHeader.{RoutineHeader}
-use Rattle.tp_check_stmt.specs.syntax_tree.declared.source_tree.declaration.RoutineHeader.TheVariants as h
-use Rattle.unit_interface.specs.scopes.declared.entries.Entry.{Entry}
-use Rattle.unit_interface.specs.scopes.declared.entries.Entry.TheVariants as entry
-use Rattle.unit_interface.specs.scopes.Environment.{Environment, Meaning, named, find, block_count}
-use Rattle.unit_interface.specs.typed_tree.type_fits.Fits.{AreSameHeaders}
-use Rattle.tp_check_stmt.specs.typing_rules.declared.faults.Rule.TheVariants as rules
-use Rattle.tp_check_stmt.specs.typing_rules.Faults.{broken}
-use Rattle.tp_check_stmt.specs.typing_rules.Judgements.{Judgement, makes, refuses, rule, either, part}
+use Rattle.type_layout.specs.declared.definitions.TypeId.{TypeId}
+use Rattle.type_layout.specs.declared.definitions.Param.{Param}
+use Rattle.type_layout.specs.declared.definitions.RoutineId.{RoutineId}
+use Rattle.type_layout.specs.declared.definitions.Kind.{Kind}
+use Rattle.type_layout.specs.declared.definitions.Kind.TheVariants as kind
+use Rattle.type_layout.specs.declared.definitions.Header.{Header}
+use Rattle.type_layout.specs.declared.texts.Place.{Place}
+use Rattle.object_vmt.specs.Rules.{kind_number, same_header}
+use Rattle.pascal_grammar.specs.declared.lexeme.Position.{Position}
+use Rattle.syntax_tree.specs.declared.identifier.Identifier.{Identifier}
+use Rattle.syntax_tree.specs.declared.type_tree.parameter.ParameterGroup.{ParameterGroup}
+use Rattle.syntax_tree.specs.declared.source_tree.declaration.RoutineHeader.{RoutineHeader}
+use Rattle.syntax_tree.specs.declared.source_tree.declaration.RoutineHeader.TheVariants as h
+use Rattle.scopes.specs.declared.entries.Entry.{Entry}
+use Rattle.scopes.specs.declared.entries.Entry.TheVariants as entry
+use Rattle.scopes.specs.Environment.{Environment, Meaning, named, find, block_count}
+use Rattle.typed_tree.specs.type_fits.Fits.{AreSameHeaders}
+use Rattle.typing_rules.specs.declared.faults.Rule.TheVariants as rules
+use Rattle.typing_rules.specs.Faults.{broken}
+use Rattle.typing_rules.specs.Judgements.{Judgement, makes, refuses, rule, either, part}
 use Rattle.declaration_checker.specs.headers.Headers.{procedure_header, function_header, routine_header}
 use Rattle.declaration_checker.specs.type_denoters.Additions.{entered}
 use Rattle.tp_check_decl.specs.declared.routines.drafts.Announced.{Announced}

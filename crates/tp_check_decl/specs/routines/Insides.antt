@@ -1,20 +1,20 @@
 -- What is known inside a routine, and how its block ends.
 use Rattle.std.specs.Prelude.{◌≡◌, ℕ, ◌+◌, ◌≤◌, nat_le, Bool, true, false, not, ◌||◌, ◌==◌, cond, codes, List, [], ◌∷◌, length, Option, Some, None, is_some}
-use Rattle.unit_interface.specs.type_layout.declared.definitions.TypeId.{TypeId}
-use Rattle.unit_interface.specs.type_layout.declared.definitions.Param.{Param}
-use Rattle.unit_interface.specs.type_layout.declared.texts.Place.{Place}
-use Rattle.tp_check_stmt.specs.syntax_tree.declared.statement.CompoundStatement.{CompoundStatement}
-use Rattle.tp_check_stmt.specs.syntax_tree.statement_tree.Trees.{view_statements}
-use Rattle.unit_interface.specs.typed_tree.Statements.{Statement}
-use Rattle.unit_interface.specs.scopes.declared.entries.Entry.TheVariants as entry
-use Rattle.unit_interface.specs.scopes.declared.entries.BlockKind.TheVariants.{Routine}
-use Rattle.unit_interface.specs.scopes.Members.{narrow}
-use Rattle.unit_interface.specs.scopes.Environment.{Environment, with_block, without_block}
-use Rattle.unit_interface.specs.typed_tree.type_fits.Fits.{IsSome}
-use Rattle.tp_check_stmt.specs.typing_rules.declared.faults.Rule.TheVariants as rules
-use Rattle.tp_check_stmt.specs.typing_rules.Faults.{broken, too_large}
-use Rattle.tp_check_stmt.specs.typing_rules.Judgements.{Judgement, makes, rule, part}
-use Rattle.tp_check_stmt.specs.typing_rules.Selectors.{asking}
+use Rattle.type_layout.specs.declared.definitions.TypeId.{TypeId}
+use Rattle.type_layout.specs.declared.definitions.Param.{Param}
+use Rattle.type_layout.specs.declared.texts.Place.{Place}
+use Rattle.syntax_tree.specs.declared.statement.CompoundStatement.{CompoundStatement}
+use Rattle.syntax_tree.specs.statement_tree.Trees.{view_statements}
+use Rattle.typed_tree.specs.Statements.{Statement}
+use Rattle.scopes.specs.declared.entries.Entry.TheVariants as entry
+use Rattle.scopes.specs.declared.entries.BlockKind.TheVariants.{Routine}
+use Rattle.scopes.specs.Members.{narrow}
+use Rattle.scopes.specs.Environment.{Environment, with_block, without_block}
+use Rattle.typed_tree.specs.type_fits.Fits.{IsSome}
+use Rattle.typing_rules.specs.declared.faults.Rule.TheVariants as rules
+use Rattle.typing_rules.specs.Faults.{broken, too_large}
+use Rattle.typing_rules.specs.Judgements.{Judgement, makes, rule, part}
+use Rattle.typing_rules.specs.Selectors.{asking}
 use Rattle.tp_check_stmt.specs.Typed.{blocked, listed}
 use Rattle.declaration_checker.specs.type_denoters.Additions.{entered}
 use Rattle.declaration_checker.specs.declared.declarations.homes.Home.TheVariants as home

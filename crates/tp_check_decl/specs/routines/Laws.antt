@@ -1,8 +1,8 @@
 -- What follows for every routine and every list of declarations.
 use Rattle.std.specs.Prelude.{ℕ, Bool, List}
-use Rattle.tp_check_stmt.specs.syntax_tree.declared.source_tree.declaration.DeclarationPart.{DeclarationPart}
-use Rattle.tp_check_stmt.specs.syntax_tree.declared.source_tree.declaration.RoutineHeader.{RoutineHeader}
-use Rattle.tp_check_stmt.specs.typing_rules.Laws.{IsExact, Lawful}
+use Rattle.syntax_tree.specs.declared.source_tree.declaration.DeclarationPart.{DeclarationPart}
+use Rattle.syntax_tree.specs.declared.source_tree.declaration.RoutineHeader.{RoutineHeader}
+use Rattle.typing_rules.specs.Laws.{IsExact, Lawful}
 use Rattle.tp_check_decl.specs.declared.routines.drafts.Site.{Site}
 use Rattle.tp_check_decl.specs.routines.Trees.{Work, Works}
 use Rattle.tp_check_decl.specs.routines.Drafts.{Drafted, Stage}

@@ -1,32 +1,32 @@
 -- Methods: the routines that an object type has as it is declared, and the headers in front of their blocks.
 use Rattle.std.specs.Prelude.{◌≡◌, ℕ, ◌+◌, Bool, true, false, not, ◌&&◌, nat_eq, codes, List, [], ◌∷◌, ◌++◌, position, Option, Some, None, is_some, slice_get}
-use Rattle.unit_interface.specs.type_layout.declared.definitions.TypeId.{TypeId}
-use Rattle.unit_interface.specs.type_layout.declared.definitions.TypeDef.{TypeDef}
-use Rattle.unit_interface.specs.type_layout.declared.definitions.TypeDef.TheVariants.{ObjectOf}
-use Rattle.unit_interface.specs.type_layout.declared.definitions.Param.{Param}
-use Rattle.unit_interface.specs.type_layout.declared.definitions.Kind.TheVariants as kind
-use Rattle.unit_interface.specs.type_layout.declared.definitions.Header.{Header}
-use Rattle.unit_interface.specs.type_layout.declared.definitions.Method.{Method}
-use Rattle.unit_interface.specs.type_layout.declared.texts.Place.{Place}
-use Rattle.unit_interface.specs.type_layout.Words.{same_bytes}
-use Rattle.tp_check_stmt.specs.syntax_tree.declared.identifier.Identifier.{Identifier}
-use Rattle.tp_check_stmt.specs.syntax_tree.declared.type_tree.parameter.Method as written
-use Rattle.tp_check_stmt.specs.syntax_tree.declared.type_tree.parameter.MethodHeader.{MethodHeader}
-use Rattle.tp_check_stmt.specs.syntax_tree.declared.type_tree.parameter.MethodHeader.TheVariants as method
-use Rattle.tp_check_stmt.specs.syntax_tree.declared.type_tree.parameter.ParameterGroup.{ParameterGroup}
-use Rattle.tp_check_stmt.specs.syntax_tree.declared.type_tree.parameter.ParameterGroup.TheVariants as group
-use Rattle.tp_check_stmt.specs.syntax_tree.declared.type_tree.types.TypeDenoter.{TypeDenoter}
-use Rattle.tp_check_stmt.specs.syntax_tree.declared.type_tree.types.TypeDenoter.TheVariants as t
-use Rattle.tp_check_stmt.specs.syntax_tree.declared.source_tree.declaration.TypeDeclaration.{TypeDeclaration}
-use Rattle.tp_check_stmt.specs.syntax_tree.declared.source_tree.declaration.DeclarationPart.{DeclarationPart}
-use Rattle.tp_check_stmt.specs.syntax_tree.declared.source_tree.declaration.DeclarationPart.TheVariants as part_of
-use Rattle.unit_interface.specs.scopes.declared.entries.Entry.TheVariants as entry
-use Rattle.unit_interface.specs.scopes.Environment.{Environment, Meaning, named, find}
-use Rattle.unit_interface.specs.typed_tree.type_fits.Fits.{definition}
-use Rattle.tp_check_stmt.specs.typing_rules.declared.faults.Rule.TheVariants as rules
-use Rattle.tp_check_stmt.specs.typing_rules.Faults.{broken}
-use Rattle.tp_check_stmt.specs.typing_rules.Judgements.{Judgement, makes, refuses, rule, either, part}
-use Rattle.tp_check_stmt.specs.typing_rules.Selectors.{asking}
+use Rattle.type_layout.specs.declared.definitions.TypeId.{TypeId}
+use Rattle.type_layout.specs.declared.definitions.TypeDef.{TypeDef}
+use Rattle.type_layout.specs.declared.definitions.TypeDef.TheVariants.{ObjectOf}
+use Rattle.type_layout.specs.declared.definitions.Param.{Param}
+use Rattle.type_layout.specs.declared.definitions.Kind.TheVariants as kind
+use Rattle.type_layout.specs.declared.definitions.Header.{Header}
+use Rattle.type_layout.specs.declared.definitions.Method.{Method}
+use Rattle.type_layout.specs.declared.texts.Place.{Place}
+use Rattle.type_layout.specs.Words.{same_bytes}
+use Rattle.syntax_tree.specs.declared.identifier.Identifier.{Identifier}
+use Rattle.syntax_tree.specs.declared.type_tree.parameter.Method as written
+use Rattle.syntax_tree.specs.declared.type_tree.parameter.MethodHeader.{MethodHeader}
+use Rattle.syntax_tree.specs.declared.type_tree.parameter.MethodHeader.TheVariants as method
+use Rattle.syntax_tree.specs.declared.type_tree.parameter.ParameterGroup.{ParameterGroup}
+use Rattle.syntax_tree.specs.declared.type_tree.parameter.ParameterGroup.TheVariants as group
+use Rattle.syntax_tree.specs.declared.type_tree.types.TypeDenoter.{TypeDenoter}
+use Rattle.syntax_tree.specs.declared.type_tree.types.TypeDenoter.TheVariants as t
+use Rattle.syntax_tree.specs.declared.source_tree.declaration.TypeDeclaration.{TypeDeclaration}
+use Rattle.syntax_tree.specs.declared.source_tree.declaration.DeclarationPart.{DeclarationPart}
+use Rattle.syntax_tree.specs.declared.source_tree.declaration.DeclarationPart.TheVariants as part_of
+use Rattle.scopes.specs.declared.entries.Entry.TheVariants as entry
+use Rattle.scopes.specs.Environment.{Environment, Meaning, named, find}
+use Rattle.typed_tree.specs.type_fits.Fits.{definition}
+use Rattle.typing_rules.specs.declared.faults.Rule.TheVariants as rules
+use Rattle.typing_rules.specs.Faults.{broken}
+use Rattle.typing_rules.specs.Judgements.{Judgement, makes, refuses, rule, either, part}
+use Rattle.typing_rules.specs.Selectors.{asking}
 use Rattle.declaration_checker.specs.headers.Names.{type_named}
 use Rattle.declaration_checker.specs.headers.Headers.{procedure_header, method_header}
 use Rattle.declaration_checker.specs.type_parts.Objects.{name_of, header_place}

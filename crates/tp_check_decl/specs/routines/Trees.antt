@@ -1,14 +1,14 @@
 -- Routines and declarations as they are written, without where they lie in memory.
 use Rattle.std.specs.Prelude.{List, [], ◌∷◌}
-use Rattle.tp_check_stmt.specs.syntax_tree.declared.identifier.Identifier.{Identifier}
-use Rattle.tp_check_stmt.specs.syntax_tree.declared.type_tree.parameter.MethodHeader.{MethodHeader}
-use Rattle.tp_check_stmt.specs.syntax_tree.declared.source_tree.declaration.DeclarationPart.{DeclarationPart}
-use Rattle.tp_check_stmt.specs.syntax_tree.declared.source_tree.declaration.RoutineHeader.{RoutineHeader}
-use Rattle.tp_check_stmt.specs.syntax_tree.declared.source_tree.declaration.Routine.{Routine, Row_of-Declaration, end_of-Declaration, more_of-Declaration}
-use Rattle.tp_check_stmt.specs.syntax_tree.declared.source_tree.declaration.Routine.TheVariants as r
-use Rattle.tp_check_stmt.specs.syntax_tree.declared.source_tree.declaration.Declaration.{Declaration}
-use Rattle.tp_check_stmt.specs.syntax_tree.declared.source_tree.declaration.Declaration.TheVariants as d
-use Rattle.tp_check_stmt.specs.syntax_tree.declared.statement.CompoundStatement.{CompoundStatement}
+use Rattle.syntax_tree.specs.declared.identifier.Identifier.{Identifier}
+use Rattle.syntax_tree.specs.declared.type_tree.parameter.MethodHeader.{MethodHeader}
+use Rattle.syntax_tree.specs.declared.source_tree.declaration.DeclarationPart.{DeclarationPart}
+use Rattle.syntax_tree.specs.declared.source_tree.declaration.RoutineHeader.{RoutineHeader}
+use Rattle.syntax_tree.specs.declared.source_tree.declaration.Routine.{Routine, Row_of-Declaration, end_of-Declaration, more_of-Declaration}
+use Rattle.syntax_tree.specs.declared.source_tree.declaration.Routine.TheVariants as r
+use Rattle.syntax_tree.specs.declared.source_tree.declaration.Declaration.{Declaration}
+use Rattle.syntax_tree.specs.declared.source_tree.declaration.Declaration.TheVariants as d
+use Rattle.syntax_tree.specs.declared.statement.CompoundStatement.{CompoundStatement}
 
 mutual
   -- a header whose block stands further on; a routine with its block; a method of the object type that is named

@@ -1,6 +1,6 @@
 //! Routines with what is declared inside them.
 
-ghost use Rattle.tp_check_stmt.specs.typing_rules.Judgements.{Gives};
+ghost use Rattle.typing_rules.specs.Judgements.{Gives};
 ghost use Rattle.tp_check_decl.specs.routines.Trees.{plain, method, view_routine, view_declarations};
 ghost use Rattle.tp_check_decl.specs.routines.Drafts.{drafted, stage};
 ghost use Rattle.tp_check_decl.specs.routines.Headings.{opened};
@@ -13,16 +13,14 @@ use crate::routines::method_headings::method_opened;
 use crate::routines::methods::{announce_part, header_place};
 use crate::routines::repeats::opened_of;
 use declaration_checker::declarations::part_declared;
+use scopes::Scope;
 use std::alloc::Global;
-use tp_check_stmt::syntax_tree::Identifier;
-use tp_check_stmt::syntax_tree::source_tree::{
-    Block, Declaration, DeclarationPart, Routine, RoutineHeader,
-};
-use tp_check_stmt::syntax_tree::type_tree::MethodHeader;
-use tp_check_stmt::typing_rules::Refusal;
-use unit_interface::scopes::Scope;
-use unit_interface::type_layout::{Name, Place};
-use unit_interface::typed_tree::Locals;
+use syntax_tree::Identifier;
+use syntax_tree::source_tree::{Block, Declaration, DeclarationPart, Routine, RoutineHeader};
+use syntax_tree::type_tree::MethodHeader;
+use type_layout::{Name, Place};
+use typed_tree::Locals;
+use typing_rules::Refusal;
 
 /// Constants, types or variables of a block. The unit then has the routines of the object types among them.
 #[tactic(auto, unfolding(crate::specs::routines::Blocks::part_judged))]

@@ -1,16 +1,16 @@
 //! A unit while it is read.
 
 ghost use Rattle.std.specs.Prelude.{◌≡◌, ◌∷◌, ◌++◌, [], None, OnOk, IfErr, map, length};
-ghost use Rattle.unit_interface.specs.scopes.Members.{narrow};
-ghost use Rattle.tp_check_stmt.specs.typing_rules.declared.faults.Refusal.TheVariants.{NoMemory};
+ghost use Rattle.scopes.specs.Members.{narrow};
+ghost use Rattle.typing_rules.specs.declared.faults.Refusal.TheVariants.{NoMemory};
 ghost use Rattle.declaration_checker.specs.declarations.Progress.{level_of};
 ghost use Rattle.tp_check_decl.specs.routines.Drafts.{view_made, view_slot, Numbered, finishing, next_for};
 
 use declaration_checker::declarations::Home;
 use std::alloc::Global;
-use tp_check_stmt::typing_rules::Refusal;
-use unit_interface::type_layout::{Header, Name, Place, TypeId};
-use unit_interface::typed_tree::{Globals, Locals, Stmt};
+use type_layout::{Header, Name, Place, TypeId};
+use typed_tree::{Globals, Locals, Stmt};
+use typing_rules::Refusal;
 
 /// What the first header of a routine tells of it, and where that begins. `outer` is the number of the routine round it, `owner`
 /// the object type of a method.

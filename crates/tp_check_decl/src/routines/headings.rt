@@ -1,20 +1,20 @@
 //! Headers of routines that are new.
 
 ghost use Rattle.std.specs.Prelude.{◌≡◌};
-ghost use Rattle.tp_check_stmt.specs.typing_rules.Judgements.{Gives};
+ghost use Rattle.typing_rules.specs.Judgements.{Gives};
 ghost use Rattle.tp_check_decl.specs.routines.Drafts.{drafted};
 ghost use Rattle.tp_check_decl.specs.routines.Headings.{name_of, begins, announced, heading};
 
 use crate::routines::drafts::{Announced, Draft, Site, announce, depth_of, next_number};
 use declaration_checker::headers::routine_header;
 use declaration_checker::type_denoters::entered;
+use pascal_grammar::Position;
+use scopes::{Entry, Scope};
 use std::alloc::Global;
-use tp_check_stmt::pascal_grammar::Position;
-use tp_check_stmt::syntax_tree::Identifier;
-use tp_check_stmt::syntax_tree::source_tree::RoutineHeader;
-use tp_check_stmt::typing_rules::Refusal;
-use unit_interface::scopes::{Entry, Scope};
-use unit_interface::type_layout::{Header, RoutineId};
+use syntax_tree::Identifier;
+use syntax_tree::source_tree::RoutineHeader;
+use type_layout::{Header, RoutineId};
+use typing_rules::Refusal;
 
 pub(crate) fn name_of(header: &RoutineHeader) -> &Identifier
     ensures { result.now ≡ name_of header.now }

@@ -1,24 +1,24 @@
 //! The blocks of routines: what is known in them, and how they end.
 
 ghost use Rattle.std.specs.Prelude.{◌≡◌, Some, OnOk, codes, length, map};
-ghost use Rattle.unit_interface.specs.type_layout.Words.{IsName};
-ghost use Rattle.unit_interface.specs.typed_tree.Statements.{view_stmt};
-ghost use Rattle.unit_interface.specs.scopes.Members.{narrow};
-ghost use Rattle.unit_interface.specs.scopes.Environment.{without_block};
-ghost use Rattle.tp_check_stmt.specs.typing_rules.Judgements.{Gives};
+ghost use Rattle.type_layout.specs.Words.{IsName};
+ghost use Rattle.typed_tree.specs.Statements.{view_stmt};
+ghost use Rattle.scopes.specs.Members.{narrow};
+ghost use Rattle.scopes.specs.Environment.{without_block};
+ghost use Rattle.typing_rules.specs.Judgements.{Gives};
 ghost use Rattle.tp_check_decl.specs.routines.Drafts.{view_slot, drafted, stage, depth_of};
 ghost use Rattle.tp_check_decl.specs.routines.Insides.{variables_beside, variables_before, site_in, self_entered, params_entered, inside, is_outer, is_met, all_met, shallow, statements_of, ended};
 
 use crate::routines::drafts::{Begun, Draft, Made, Site, Slot, depth_of, finish};
 use declaration_checker::declarations::Home;
 use declaration_checker::type_denoters::entered;
+use scopes::{BlockKind, Entry, Scope};
 use std::alloc::Global;
+use syntax_tree::CompoundStatement;
 use tp_check_stmt::compound;
-use tp_check_stmt::syntax_tree::CompoundStatement;
-use tp_check_stmt::typing_rules::{Refusal, Rule, broken, too_large};
-use unit_interface::scopes::{BlockKind, Entry, Scope};
-use unit_interface::type_layout::{Name, Param, Place, TypeId};
-use unit_interface::typed_tree::{Locals, Stmt};
+use type_layout::{Name, Param, Place, TypeId};
+use typed_tree::{Locals, Stmt};
+use typing_rules::{Refusal, Rule, broken, too_large};
 
 /// How deep routines nest at most.
 pub const MOST_NESTED: u32 = 16;

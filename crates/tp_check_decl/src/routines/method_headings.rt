@@ -1,9 +1,9 @@
 //! Headers in front of the blocks of methods.
 
 ghost use Rattle.std.specs.Prelude.{◌≡◌, true, map, position, slice_get, option_copied};
-ghost use Rattle.unit_interface.specs.type_layout.declared.definitions.Kind.TheVariants as kind;
-ghost use Rattle.unit_interface.specs.type_layout.Words.{same_bytes};
-ghost use Rattle.tp_check_stmt.specs.typing_rules.Judgements.{Gives};
+ghost use Rattle.type_layout.specs.declared.definitions.Kind.TheVariants as kind;
+ghost use Rattle.type_layout.specs.Words.{same_bytes};
+ghost use Rattle.typing_rules.specs.Judgements.{Gives};
 ghost use Rattle.declaration_checker.specs.headers.Headers.{procedure_header};
 ghost use Rattle.declaration_checker.specs.type_parts.Objects.{name_of, header_place};
 ghost use Rattle.tp_check_decl.specs.routines.Drafts.{view_slot, drafted};
@@ -14,12 +14,12 @@ use crate::routines::drafts::{Begun, Draft, Site, Slot};
 use crate::routines::methods::header_place;
 use crate::routines::repeats::whole_repeated;
 use declaration_checker::headers::{method_header, procedure_header, type_named};
+use scopes::Scope;
 use std::alloc::Global;
-use tp_check_stmt::syntax_tree::Identifier;
-use tp_check_stmt::syntax_tree::type_tree::{MethodHeader, ParameterGroup};
-use tp_check_stmt::typing_rules::{Refusal, Rule, broken, definition};
-use unit_interface::scopes::Scope;
-use unit_interface::type_layout::{Header, Kind, Method, Name, Params, TypeDef, TypeId};
+use syntax_tree::Identifier;
+use syntax_tree::type_tree::{MethodHeader, ParameterGroup};
+use type_layout::{Header, Kind, Method, Name, Params, TypeDef, TypeId};
+use typing_rules::{Refusal, Rule, broken, definition};
 
 fn name_of(header: &MethodHeader) -> &Identifier
     ensures { result.now ≡ name_of header.now }

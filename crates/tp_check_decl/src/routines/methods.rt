@@ -2,17 +2,17 @@
 
 ghost use Rattle.std.specs.Prelude.{◌≡◌, ◌++◌, IfOk, OnOk, IfErr, map, slice_get, option_copied};
 ghost use Rattle.declaration_checker.specs.type_parts.Objects.{header_place};
-ghost use Rattle.tp_check_stmt.specs.typing_rules.declared.faults.Refusal.TheVariants.{NoMemory};
+ghost use Rattle.typing_rules.specs.declared.faults.Refusal.TheVariants.{NoMemory};
 ghost use Rattle.tp_check_decl.specs.routines.Drafts.{view_slot};
 ghost use Rattle.tp_check_decl.specs.routines.Methods.{method_announced, of_method, of_methods, of_type, written_in, of_declaration, of_declarations, of_part};
 
 use crate::routines::drafts::{Announced, Slot, announce};
+use scopes::{Entry, Found, Scope};
 use std::alloc::{AllocError, Global};
-use tp_check_stmt::syntax_tree::source_tree::{DeclarationPart, TypeDeclaration};
-use tp_check_stmt::syntax_tree::type_tree::{Method as WrittenMethod, MethodHeader, TypeDenoter};
-use tp_check_stmt::typing_rules::{Refusal, definition};
-use unit_interface::scopes::{Entry, Found, Scope};
-use unit_interface::type_layout::{Method, Place, TypeDef, TypeId};
+use syntax_tree::source_tree::{DeclarationPart, TypeDeclaration};
+use syntax_tree::type_tree::{Method as WrittenMethod, MethodHeader, TypeDenoter};
+use type_layout::{Method, Place, TypeDef, TypeId};
+use typing_rules::{Refusal, definition};
 
 /// Where a method's header begins.
 pub(crate) fn header_place(header: &MethodHeader) -> Place

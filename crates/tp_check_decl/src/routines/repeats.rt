@@ -1,8 +1,8 @@
 //! Headers that repeat an earlier one.
 
 ghost use Rattle.std.specs.Prelude.{◌≡◌, IfOk, Some, None, false, map, slice_get};
-ghost use Rattle.unit_interface.specs.type_layout.declared.definitions.Kind.TheVariants as kind;
-ghost use Rattle.tp_check_stmt.specs.typing_rules.Judgements.{Gives, makes, either};
+ghost use Rattle.type_layout.specs.declared.definitions.Kind.TheVariants as kind;
+ghost use Rattle.typing_rules.specs.Judgements.{Gives, makes, either};
 ghost use Rattle.declaration_checker.specs.headers.Headers.{procedure_header};
 ghost use Rattle.tp_check_decl.specs.routines.Drafts.{view_slot, drafted};
 ghost use Rattle.tp_check_decl.specs.routines.Headings.{is_left, awaited_code, awaited_of, same_kind, is_bare, kind_repeated, whole_repeated, half_repeated, repeated, opened, opened_by, opened_of};
@@ -10,13 +10,13 @@ ghost use Rattle.tp_check_decl.specs.routines.Headings.{is_left, awaited_code, a
 use crate::routines::drafts::{Awaited, Begun, Draft, Site, Slot, next_number};
 use crate::routines::headings::{announced, name_of};
 use declaration_checker::headers::{function_header, procedure_header, routine_header};
+use object_vmt::same_header;
+use scopes::{Entry, Found, Scope};
 use std::alloc::{AllocError, Global};
-use tp_check_stmt::object_vmt::same_header;
-use tp_check_stmt::syntax_tree::source_tree::RoutineHeader;
-use tp_check_stmt::syntax_tree::type_tree::ParameterGroup;
-use tp_check_stmt::typing_rules::{Refusal, Rule, broken};
-use unit_interface::scopes::{Entry, Found, Scope};
-use unit_interface::type_layout::{Header, Kind, Name, Params, Place, RoutineId};
+use syntax_tree::source_tree::RoutineHeader;
+use syntax_tree::type_tree::ParameterGroup;
+use type_layout::{Header, Kind, Name, Params, Place, RoutineId};
+use typing_rules::{Refusal, Rule, broken};
 
 fn is_left(slots: &[Slot], number: u32) -> bool
     ensures { result ≡ is_left (slice_get (map view_slot slots.now) number) }

@@ -1,7 +1,7 @@
 use Rattle.std.proofs.Common.{◌≡◌, ◌∙◌, inl, inr, Some, sym, ap, subst, arith}
 use Rattle.std.specs.Prelude.{slice_get}
 use Rattle.std.proofs.lemmas.Option.{same_Some, slice_get_within}
-use Rattle.programs_well_typed.proofs.unit_interface_proofs.KeptLaws.{below_or_last}
+use Rattle.unit_interface.proofs.KeptLaws.{below_or_last}
 use Rattle.programs_well_typed.specs.store_typing.types.Agreement.{IsShort}
 use Rattle.checked_front_end.proofs.known.is_kept_table.Goals as goal
 

@@ -1,6 +1,6 @@
 use Rattle.std.proofs.Common.{◌≡◌, ℕ, ◌<◌, Some}
 use Rattle.std.specs.Prelude.{slice_get}
-use Rattle.programs_well_typed.specs.type_layout.declared.definitions.TypeDef.{TypeDef}
+use Rattle.type_layout.specs.declared.definitions.TypeDef.{TypeDef}
 use Rattle.programs_well_typed.specs.store_typing.types.Agreement.{IsShort}
 use Rattle.checked_front_end.proofs.known.is_kept_table.Given as goal
 

@@ -1,9 +1,9 @@
 use Rattle.std.proofs.Common.{◌≡◌, ◌+◌, List, ◌++◌, length, length-append, map, arith}
 use Rattle.std.proofs.lemmas.List.{length-map}
-use Rattle.programs_well_typed.specs.type_layout.declared.definitions.TypeId.{TypeId}
-use Rattle.programs_well_typed.specs.type_layout.declared.definitions.Param.{Param}
-use Rattle.programs_well_typed.specs.typed_tree.declared.units.Routine.{Routine}
-use Rattle.programs_well_typed.specs.typed_tree.type_fits.Routines.{listed, variables_of}
+use Rattle.type_layout.specs.declared.definitions.TypeId.{TypeId}
+use Rattle.type_layout.specs.declared.definitions.Param.{Param}
+use Rattle.typed_tree.specs.declared.units.Routine.{Routine}
+use Rattle.typed_tree.specs.type_fits.Routines.{listed, variables_of}
 use Rattle.checked_front_end.proofs.numbers.variables_of.Goals as goal
 
 count_of : (routine : Routine) → length (variables_of routine) ≡ length routine.header.params + length routine.locals + length (listed routine.owner) + length (listed routine.header.result)

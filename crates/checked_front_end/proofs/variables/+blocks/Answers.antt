@@ -1,6 +1,6 @@
 use Rattle.std.proofs.Common.{◌≡◌, ◌∙◌, ap}
-use Rattle.programs_well_typed.specs.tp_check_decl.routines.Trees.{plain, method, view_routine, view_declarations}
-use Rattle.programs_well_typed.proofs.tp_check_decl_proofs.routines.Views.{view_plain, view_method}
+use Rattle.tp_check_decl.specs.routines.Trees.{plain, method, view_routine, view_declarations}
+use Rattle.tp_check_decl.proofs.routines.Views.{view_plain, view_method}
 use Rattle.checked_front_end.proofs.variables.+blocks.Goals as goal
 
 pub has_few_inside-returns-in-Plain : goal.has_few_inside-returns-in-Plain

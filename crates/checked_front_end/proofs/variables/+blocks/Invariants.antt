@@ -1,5 +1,5 @@
 use Rattle.std.specs.Prelude.{◌↔◌, drop}
-use Rattle.programs_well_typed.specs.tp_check_decl.routines.Trees.{view_declarations}
+use Rattle.tp_check_decl.specs.routines.Trees.{view_declarations}
 use Rattle.token_provenance.specs.sources.Variables.{EachHasFew}
 use Rattle.checked_front_end.proofs.variables.+blocks.Given as goal
 

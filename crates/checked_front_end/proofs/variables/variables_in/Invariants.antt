@@ -1,6 +1,6 @@
 use Rattle.std.proofs.Common.{◌≡◌, ◌≤◌, ◌+◌}
 use Rattle.std.specs.Prelude.{min, drop}
-use Rattle.programs_well_typed.specs.tp_check_decl.routines.Trees.{view_declarations}
+use Rattle.tp_check_decl.specs.routines.Trees.{view_declarations}
 use Rattle.programs_well_typed.specs.programs.Below.{variables_in}
 use Rattle.checked_front_end.proofs.variables.variables_in.Given as goal
 

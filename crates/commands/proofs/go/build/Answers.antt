@@ -1,5 +1,5 @@
 use Rattle.std.proofs.Common.{Err, ap}
-use Rattle.checked_front_end.specs.front_end.declared.outcomes.outcome.Outcome.{Outcome}
+use Rattle.front_end.specs.declared.outcomes.outcome.Outcome.{Outcome}
 use Rattle.commands.proofs.BuildLaws.{built_from, not_made_of, not_found}
 use Rattle.commands.proofs.go.build.Goals as goal
 

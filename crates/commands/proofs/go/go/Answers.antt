@@ -1,5 +1,5 @@
 use Rattle.std.proofs.Common.{◌≡◌, inr, ap, ◌∙◌}
-use Rattle.dos_runner.specs.tp_outside.Folder.{with_known_file}
+use Rattle.tp_outside.specs.Folder.{with_known_file}
 use Rattle.commands.specs.declared.names.FileKind.TheVariants.{Executable}
 use Rattle.commands.specs.Files.{file_of}
 use Rattle.commands.specs.World.{World, world}

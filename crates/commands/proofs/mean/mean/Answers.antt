@@ -1,5 +1,5 @@
 use Rattle.std.proofs.Common.{ℕ, Err, inl, inr, refl, ap, subst}
-use Rattle.checked_front_end.specs.front_end.declared.outcomes.outcome.Outcome.{Outcome}
+use Rattle.front_end.specs.declared.outcomes.outcome.Outcome.{Outcome}
 use Rattle.commands.specs.mean_program.Shown.{Shows}
 use Rattle.commands.specs.Mean.{sinks_of}
 use Rattle.commands.specs.World.{World, world}

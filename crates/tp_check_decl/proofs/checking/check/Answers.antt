@@ -1,4 +1,4 @@
-use Rattle.tp_check_stmt.proofs.typing_rules_proofs.JudgementLaws.{typed_answer, complete_answer, fails_answer}
+use Rattle.typing_rules.proofs.JudgementLaws.{typed_answer, complete_answer, fails_answer}
 use Rattle.tp_check_decl.specs.Units.{view_unit}
 use Rattle.tp_check_decl.specs.Checked.{judged}
 use Rattle.tp_check_decl.proofs.CheckLaws.{lawful}

@@ -1,4 +1,4 @@
-use Rattle.tp_check_stmt.proofs.typing_rules_proofs.JudgementLaws.{exact}
+use Rattle.typing_rules.proofs.JudgementLaws.{exact}
 use Rattle.tp_check_decl.specs.Checked.{judged}
 use Rattle.tp_check_decl.proofs.CheckLaws.{lawful}
 use Rattle.tp_check_decl.proofs.checking.unit_laws.Goals as goal

@@ -1,6 +1,6 @@
 use Rattle.std.proofs.Common.{◌≡◌, map, length}
 use Rattle.std.specs.Vec.Iter.{into_iter_items, into_iter_len}
-use Rattle.tp_check_stmt.specs.call_rules.Lists.{behind}
+use Rattle.call_rules.specs.Lists.{behind}
 use Rattle.tp_check_decl.specs.routines.Drafts.{view_slot}
 use Rattle.tp_check_decl.specs.Units.{view_routine}
 use Rattle.tp_check_decl.specs.Endings.{all_finished}

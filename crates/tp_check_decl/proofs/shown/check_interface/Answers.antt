@@ -1,4 +1,4 @@
-use Rattle.tp_check_stmt.proofs.typing_rules_proofs.JudgementLaws.{fails_answer}
+use Rattle.typing_rules.proofs.JudgementLaws.{fails_answer}
 use Rattle.std.proofs.Common.{Err, ◌∙◌}
 use Rattle.tp_check_decl.specs.Units.{view_unit}
 use Rattle.tp_check_decl.specs.Shown.{outlined}

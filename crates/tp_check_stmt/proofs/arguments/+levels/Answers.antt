@@ -1,7 +1,7 @@
 use Rattle.std.proofs.Common.{◌≡◌, ap, sym, ◌∙◌}
-use Rattle.constant_checker.specs.syntax_tree.declared.expression.Factor.{Factor}
-use Rattle.constant_checker.specs.syntax_tree.expression_tree.Trees.{call, begins, view_factor, view_designator, view_arguments}
-use Rattle.constant_checker.proofs.syntax_tree_proofs.expression_tree.Views.{view_call}
+use Rattle.syntax_tree.specs.declared.expression.Factor.{Factor}
+use Rattle.syntax_tree.specs.expression_tree.Trees.{call, begins, view_factor, view_designator, view_arguments}
+use Rattle.syntax_tree.proofs.expression_tree.Views.{view_call}
 use Rattle.tp_check_stmt.specs.Arguments.{named_call}
 use Rattle.tp_check_stmt.proofs.arguments.+levels.Goals as goal
 

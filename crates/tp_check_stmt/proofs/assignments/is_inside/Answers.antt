@@ -1,5 +1,5 @@
 use Rattle.std.proofs.Common.{◌<◌, arith}
-use Rattle.constant_checker.specs.scopes.Environment.{block_count}
+use Rattle.scopes.specs.Environment.{block_count}
 use Rattle.tp_check_stmt.proofs.InsideLaws.{step}
 use Rattle.tp_check_stmt.proofs.assignments.is_inside.Goals as goal
 

@@ -1,6 +1,6 @@
 use Rattle.std.proofs.Common.{◌≡◌, ◌-◌, take}
 use Rattle.std.specs.List.{list_any}
-use Rattle.constant_checker.specs.scopes.Environment.{first_open}
+use Rattle.scopes.specs.Environment.{first_open}
 use Rattle.tp_check_stmt.specs.Assignments.{is_open_body}
 use Rattle.tp_check_stmt.proofs.assignments.is_inside.Given as goal
 

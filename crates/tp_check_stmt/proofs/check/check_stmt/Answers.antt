@@ -1,6 +1,6 @@
-use Rattle.constant_checker.specs.typed_tree.Statements.{view_stmt}
-use Rattle.constant_checker.proofs.typing_rules_proofs.JudgementLaws.{typed_answer, complete_answer, fails_answer}
-use Rattle.constant_checker.specs.syntax_tree.statement_tree.Trees.{view_statement}
+use Rattle.typed_tree.specs.Statements.{view_stmt}
+use Rattle.typing_rules.proofs.JudgementLaws.{typed_answer, complete_answer, fails_answer}
+use Rattle.syntax_tree.specs.statement_tree.Trees.{view_statement}
 use Rattle.tp_check_stmt.specs.Typed.{stated}
 use Rattle.tp_check_stmt.proofs.StatementLaws.{lawful}
 use Rattle.tp_check_stmt.proofs.check.check_stmt.Goals as goal

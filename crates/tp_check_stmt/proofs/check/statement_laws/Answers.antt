@@ -1,4 +1,4 @@
-use Rattle.constant_checker.proofs.typing_rules_proofs.JudgementLaws.{exact}
+use Rattle.typing_rules.proofs.JudgementLaws.{exact}
 use Rattle.tp_check_stmt.specs.Typed.{stated}
 use Rattle.tp_check_stmt.proofs.StatementLaws.{lawful}
 use Rattle.tp_check_stmt.proofs.check.statement_laws.Goals as goal

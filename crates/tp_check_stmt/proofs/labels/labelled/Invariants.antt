@@ -1,6 +1,6 @@
 use Rattle.std.proofs.Common.{◌≡◌, ◌++◌, drop, map}
-use Rattle.constant_checker.specs.syntax_tree.statement_tree.Trees.{view_label}
-use Rattle.constant_checker.specs.call_rules.Lists.{behind}
+use Rattle.syntax_tree.specs.statement_tree.Trees.{view_label}
+use Rattle.call_rules.specs.Lists.{behind}
 use Rattle.tp_check_stmt.specs.Labels.{labelled}
 use Rattle.tp_check_stmt.proofs.labels.labelled.Given as goal
 

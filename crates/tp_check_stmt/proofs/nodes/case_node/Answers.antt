@@ -1,6 +1,6 @@
 use Rattle.std.proofs.Common.{◌≡◌, Ok, map, ap, sym, ◌∙◌}
-use Rattle.constant_checker.specs.typed_tree.Expressions.{Expression, view_expr}
-use Rattle.constant_checker.specs.typed_tree.Statements.{Statement, Case, view_stmt}
+use Rattle.typed_tree.specs.Expressions.{Expression, view_expr}
+use Rattle.typed_tree.specs.Statements.{Statement, Case, view_stmt}
 use Rattle.tp_check_stmt.specs.Typed.{view_arm, arms_of, block_of}
 use Rattle.tp_check_stmt.proofs.NodeViews.{case_viewed}
 use Rattle.tp_check_stmt.proofs.nodes.case_node.Goals as goal

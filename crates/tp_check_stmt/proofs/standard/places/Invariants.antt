@@ -1,7 +1,7 @@
 use Rattle.std.proofs.Common.{◌≡◌, drop, map}
-use Rattle.constant_checker.specs.typed_tree.Statements.{view_taken}
-use Rattle.constant_checker.specs.syntax_tree.expression_tree.Trees.{view_arguments}
-use Rattle.constant_checker.specs.call_rules.Lists.{behind}
+use Rattle.typed_tree.specs.Statements.{view_taken}
+use Rattle.syntax_tree.specs.expression_tree.Trees.{view_arguments}
+use Rattle.call_rules.specs.Lists.{behind}
 use Rattle.tp_check_stmt.specs.Lists.{each}
 use Rattle.tp_check_stmt.specs.Standard.{taken_one}
 use Rattle.tp_check_stmt.proofs.standard.places.Given as goal

@@ -1,16 +1,16 @@
 use Rattle.std.proofs.Common.{◌≡◌, [], map, Ok, ap, ◌∙◌}
 use Rattle.std.proofs.lemmas.Result.{err_from_is_err_and}
-use Rattle.constant_checker.specs.syntax_tree.declared.statement.CaseElse.{CaseElse}
-use Rattle.constant_checker.specs.syntax_tree.declared.statement.Statement.{Statement}
-use Rattle.constant_checker.specs.syntax_tree.statement_tree.Trees.{Tasks, view_statement, view_statements, view_case_else, view_arms}
-use Rattle.constant_checker.proofs.syntax_tree_proofs.statement_tree.Views.{view_case_present}
-use Rattle.constant_checker.specs.typed_tree.Expressions.{view_expr}
-use Rattle.constant_checker.specs.typed_tree.Statements.{view_stmt}
-use Rattle.constant_checker.specs.typing_rules.Sorts.{sort_of}
+use Rattle.syntax_tree.specs.declared.statement.CaseElse.{CaseElse}
+use Rattle.syntax_tree.specs.declared.statement.Statement.{Statement}
+use Rattle.syntax_tree.specs.statement_tree.Trees.{Tasks, view_statement, view_statements, view_case_else, view_arms}
+use Rattle.syntax_tree.proofs.statement_tree.Views.{view_case_present}
+use Rattle.typed_tree.specs.Expressions.{view_expr}
+use Rattle.typed_tree.specs.Statements.{view_stmt}
+use Rattle.typing_rules.specs.Sorts.{sort_of}
 use Rattle.tp_check_stmt.specs.Asked.{condition}
 use Rattle.tp_check_stmt.specs.Typed.{view_arm, blocked, repeating, stated, listed, branched}
 use Rattle.tp_check_stmt.proofs.TreeSteps.{compound_judged, repeat_judged, arms_fail, other_fails, case_made}
-use Rattle.constant_checker.specs.syntax_tree.expression_tree.Trees.{view_expression}
+use Rattle.syntax_tree.specs.expression_tree.Trees.{view_expression}
 use Rattle.tp_check_stmt.proofs.statements.+parts.Goals as goal
 
 pub case_else_listed-returns-in-Present-clause-gives : goal.case_else_listed-returns-in-Present-clause-gives

@@ -1,7 +1,7 @@
 use Rattle.std.proofs.Common.{◌≡◌, [], drop, map}
-use Rattle.constant_checker.specs.typed_tree.Statements.{view_stmt}
-use Rattle.constant_checker.specs.syntax_tree.statement_tree.Trees.{view_statements, view_arms}
-use Rattle.constant_checker.specs.call_rules.Lists.{behind}
+use Rattle.typed_tree.specs.Statements.{view_stmt}
+use Rattle.syntax_tree.specs.statement_tree.Trees.{view_statements, view_arms}
+use Rattle.call_rules.specs.Lists.{behind}
 use Rattle.tp_check_stmt.specs.Typed.{view_arm, listed, branched}
 use Rattle.tp_check_stmt.proofs.statements.+parts.Given as goal
 

@@ -1,4 +1,4 @@
-use Rattle.constant_checker.proofs.typing_rules_proofs.JudgementLaws.{exact}
+use Rattle.typing_rules.proofs.JudgementLaws.{exact}
 use Rattle.declaration_checker.specs.declarations.Parts.{part_declared}
 use Rattle.declaration_checker.proofs.declarations.PartLaws.{lawful_declared}
 use Rattle.declaration_checker.proofs.declarations.laws.declaration_laws.Goals as goal

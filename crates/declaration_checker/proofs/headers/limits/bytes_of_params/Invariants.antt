@@ -1,7 +1,7 @@
 use Rattle.std.proofs.Common.{◌≡◌, take}
 use Rattle.std.specs.List.{sum_by}
-use Rattle.constant_checker.specs.typed_tree.Slots.{capped}
-use Rattle.constant_checker.specs.typed_tree.Frames.{param_bytes}
+use Rattle.typed_tree.specs.Slots.{capped}
+use Rattle.typed_tree.specs.Frames.{param_bytes}
 use Rattle.declaration_checker.proofs.headers.limits.bytes_of_params.Given as goal
 
 abbrev pub invariant-loop-param : goal.invariant-loop-param

@@ -1,8 +1,8 @@
 use Rattle.std.proofs.Common.{◌≡◌, ◌∙◌, sym, ap, subst, true, false, Err, length}
-use Rattle.constant_checker.specs.type_layout.declared.table.TypeError.TheVariants.{TooLarge}
-use Rattle.constant_checker.specs.type_layout.Layouts.{size_over}
-use Rattle.constant_checker.specs.type_layout.Table.{Table, IsAddable}
-use Rattle.constant_checker.specs.scopes.Predeclared.{type_id}
+use Rattle.type_layout.specs.declared.table.TypeError.TheVariants.{TooLarge}
+use Rattle.type_layout.specs.Layouts.{size_over}
+use Rattle.type_layout.specs.Table.{Table, IsAddable}
+use Rattle.scopes.specs.Predeclared.{type_id}
 use Rattle.declaration_checker.specs.type_denoters.Additions.{is_addable, with_type_of}
 use Rattle.declaration_checker.proofs.type_denoters.Addable.{taken_is, keeps_limit, passes_limit}
 use Rattle.declaration_checker.proofs.type_denoters.Steps.{added_not, added_large, added_made}

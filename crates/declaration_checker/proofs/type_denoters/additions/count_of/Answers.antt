@@ -1,6 +1,6 @@
 use Rattle.std.proofs.Common.{◌≡◌, ◌∙◌, ℕ, ap, refl, arith}
 use Rattle.std.specs.List.{sum_by}
-use Rattle.constant_checker.specs.type_layout.Table.{place_of}
+use Rattle.type_layout.specs.Table.{place_of}
 use Rattle.declaration_checker.specs.type_denoters.Additions.{one_of}
 use Rattle.declaration_checker.proofs.type_denoters.Counts.{next_count, whole_count}
 use Rattle.declaration_checker.proofs.type_denoters.additions.count_of.Goals as goal

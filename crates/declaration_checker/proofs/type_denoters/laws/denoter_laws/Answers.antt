@@ -1,4 +1,4 @@
-use Rattle.constant_checker.proofs.typing_rules_proofs.JudgementLaws.{exact}
+use Rattle.typing_rules.proofs.JudgementLaws.{exact}
 use Rattle.declaration_checker.specs.type_denoters.Denoters.{judged}
 use Rattle.declaration_checker.proofs.type_denoters.DenoterLaws.{lawful}
 use Rattle.declaration_checker.proofs.type_denoters.laws.denoter_laws.Goals as goal

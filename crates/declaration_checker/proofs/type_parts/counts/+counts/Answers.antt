@@ -1,8 +1,8 @@
 use Rattle.std.proofs.Common.{◌≡◌, ◌+◌, List, arith}
 use Rattle.std.proofs.lemmas.List.{at_drop_all}
-use Rattle.constant_checker.specs.scopes.Members.{narrow}
-use Rattle.constant_checker.specs.syntax_tree.declared.type_tree.types.FieldGroup.{FieldGroup}
-use Rattle.constant_checker.specs.syntax_tree.declared.type_tree.types.TypeDenoter.{TypeDenoter}
+use Rattle.scopes.specs.Members.{narrow}
+use Rattle.syntax_tree.specs.declared.type_tree.types.FieldGroup.{FieldGroup}
+use Rattle.syntax_tree.specs.declared.type_tree.types.TypeDenoter.{TypeDenoter}
 use Rattle.declaration_checker.specs.type_denoters.Trees.{view_denoters, view_groups}
 use Rattle.declaration_checker.specs.type_parts.Promised.{adds_indexes, adds_fields}
 use Rattle.declaration_checker.proofs.type_parts.CountSteps.{object_adds, array_adds, record_adds}

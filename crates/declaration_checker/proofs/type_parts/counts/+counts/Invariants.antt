@@ -1,5 +1,5 @@
 use Rattle.std.proofs.Common.{◌≡◌, ◌≤◌, ◌+◌, drop}
-use Rattle.constant_checker.specs.scopes.Members.{narrow}
+use Rattle.scopes.specs.Members.{narrow}
 use Rattle.declaration_checker.specs.type_denoters.Trees.{view_denoters, view_groups}
 use Rattle.declaration_checker.specs.type_parts.Promised.{adds_indexes, adds_fields}
 use Rattle.declaration_checker.proofs.type_parts.counts.+counts.Given as goal

@@ -1,4 +1,4 @@
-use Rattle.constant_checker.proofs.typing_rules_proofs.JudgementLaws.{exact}
+use Rattle.typing_rules.proofs.JudgementLaws.{exact}
 use Rattle.declaration_checker.specs.type_parts.Parts.{type_part}
 use Rattle.declaration_checker.proofs.type_parts.PartLaws.{lawful_part_of}
 use Rattle.declaration_checker.proofs.type_parts.laws.type_part_laws.Goals as goal

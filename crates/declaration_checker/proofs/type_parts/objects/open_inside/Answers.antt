@@ -1,5 +1,5 @@
 use Rattle.std.proofs.Common.{◌∙◌, ap, length}
-use Rattle.constant_checker.specs.type_layout.Table.{Table}
+use Rattle.type_layout.specs.Table.{Table}
 use Rattle.declaration_checker.proofs.type_parts.Closing.{entered_inside}
 use Rattle.declaration_checker.proofs.type_parts.objects.open_inside.Goals as goal
 

@@ -1,10 +1,10 @@
 use Rattle.std.proofs.Common.{◌≡◌, ◌-◌, ◌≤◌, List, length, take, drop, sym, ap, ◌∙◌, arith}
 use Rattle.std.proofs.lemmas.Bool.Decides.{nat_tests}
-use Rattle.source_graph.specs.syntax_tree.declared.statement.Statement as source
-use Rattle.literal_programs.specs.typed_tree.declared.statements.Stmt.{Stmt}
-use Rattle.literal_programs.specs.typed_tree.Statements as typed
-use Rattle.literal_programs.specs.typed_tree.Statements.{view_stmt, view_stmts}
-use Rattle.literal_programs.proofs.typed_tree_proofs.StatementViews.{view_block}
+use Rattle.syntax_tree.specs.declared.statement.Statement as source
+use Rattle.typed_tree.specs.declared.statements.Stmt.{Stmt}
+use Rattle.typed_tree.specs.Statements as typed
+use Rattle.typed_tree.specs.Statements.{view_stmt, view_stmts}
+use Rattle.typed_tree.proofs.StatementViews.{view_block}
 use Rattle.literal_form_laws.specs.literal_places.Outlines.{Outline, compound, outline_of, outlines_of}
 use Rattle.literal_form_laws.specs.literal_places.Places.{first_in, first_among}
 use Rattle.literal_form_laws.proofs.literal_places.OutlineViews.{outline_compound}

@@ -1,5 +1,5 @@
 use Rattle.std.proofs.Common.{◌≡◌, drop}
-use Rattle.literal_programs.specs.typed_tree.Statements.{view_stmts}
+use Rattle.typed_tree.specs.Statements.{view_stmts}
 use Rattle.literal_form_laws.specs.literal_places.Outlines.{outlines_of}
 use Rattle.literal_form_laws.specs.literal_places.Places.{first_among}
 use Rattle.literal_form_laws.proofs.literal_places.statements.+nodes.Given as goal

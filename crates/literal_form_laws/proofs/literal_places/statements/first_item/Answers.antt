@@ -1,5 +1,5 @@
 use Rattle.std.proofs.Common.{map, Some, option_map, sym, ap, ◌∙◌}
-use Rattle.source_graph.specs.type_layout.declared.texts.Place.{Place}
+use Rattle.type_layout.specs.declared.texts.Place.{Place}
 use Rattle.literal_form_laws.specs.literal_places.Outlines.{argument_place}
 use Rattle.literal_form_laws.specs.literal_places.Places.{argument_at}
 use Rattle.literal_form_laws.proofs.literal_places.WalkSteps.{item_found}

@@ -1,4 +1,4 @@
-use Rattle.std.proofs.Common.{◌≡◌, ℕ, ◌≤◌, length, sym, subst, arith}
+use Rattle.std.proofs.Common.{◌≡◌, ℕ, ◌≤◌, length, sym, ap, ◌∙◌, subst, arith}
 use Rattle.std.specs.Prelude.{vec_len}
 use Rattle.std.specs.List.{All}
 use Rattle.literal_programs.specs.literal_code.Act.{IsWithin}
@@ -6,6 +6,7 @@ use Rattle.mz_file.specs.declared.executable.Exe.{Exe}
 use Rattle.mz_file.specs.Format.{Denotes}
 use Rattle.mz_file.specs.Load.{paragraphs_taken, IsLoadable}
 use Rattle.mz_file.specs.Spelling.{IsWritable}
+use Rattle.literal_programs.proofs.literal_code.Sizes.{image_sized}
 use Rattle.literal_programs.proofs.literal_code.Whole as whole
 use Rattle.literal_programs.proofs.literal_code.image.executable.Goals as goal
 
@@ -41,3 +42,7 @@ pub returns-clause-fits : goal.returns-clause-fits
 returns-clause-fits c =
     let P : Exe → Type 0 = λ exe. paragraphs_taken exe ≤ 40960 in
     subst P (sym c.in_ok-exe.ensures) (whole.fits c.args.memory c.args.program.now.pool.items c.args.program.now.acts.items c.requires.stack c.requires.heap (few c) (short c))
+
+pub returns-clause-size : goal.returns-clause-size
+returns-clause-size c = λ full.
+    ap (λ (exe : Exe). length exe.image) c.in_ok-exe.ensures ∙ image_sized c.args.program.now.pool.items c.args.program.now.acts.items (omega (arith, full))

@@ -1,4 +1,4 @@
-use Rattle.tp_check_stmt.proofs.typing_rules_proofs.JudgementLaws.{exact}
+use Rattle.typing_rules.proofs.JudgementLaws.{exact}
 use Rattle.tp_check_decl.specs.routines.Blocks.{judged, all_judged}
 use Rattle.tp_check_decl.proofs.routines.RoutineLaws.{lawful_heading, lawful_part_of, lawful, lawful_all}
 use Rattle.tp_check_decl.proofs.routines.laws.routine_laws.Goals as goal

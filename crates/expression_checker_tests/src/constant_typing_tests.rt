@@ -1,6 +1,0 @@
-//! Tests of the checker of constant expressions, on texts.
-
-#[cfg(test)]
-mod rows;
-#[cfg(test)]
-mod told;
