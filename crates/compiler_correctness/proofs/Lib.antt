@@ -2,6 +2,7 @@ pub mod Events
 pub mod Written
 pub mod Backward
 pub mod Tabled
+pub mod Seating
 pub mod Costs
 pub mod Chain
 pub mod Plain

@@ -42,6 +42,15 @@ pub as_events : (bytes : List ℕ) (n : ℕ) (p q : Tabled) → TabledRuns bytes
 as_events bytes zero p q x = x
 as_events bytes (suc n) p q x = (x.0, x.1, as_events bytes n x.0 q x.2)
 
+pub as_runs : (bytes : List ℕ) (n : ℕ) (p q : Tabled) → Events (TabledGoes bytes) n p q → TabledRuns bytes n p q
+as_runs bytes zero p q x = x
+as_runs bytes (suc n) p q x = (x.0, x.1, as_runs bytes n x.0 q x.2)
+
+-- what goes on was on its way
+pub goes_from : {bytes : List ℕ} {q : Tabled} → (s : Tabled) → TabledGoes bytes s q → (p : Managed) × (tables : List Table) × (s ≡ On p tables)
+goes_from (On p tables) x = (p, tables, refl)
+goes_from NotLegal x = absurd x
+
 -- ---- nothing follows what is over
 
 running_goes_on : (status : Status) → status ≡ process.Running → IsOver (standing_of status) → ⊥

@@ -1,6 +1,6 @@
 -- The parts of the compiler that are still to come, and the laws of these on which the theorems rest.
 use Rattle.std.specs.Prelude.{◌≡◌, ◌⊎◌, ℕ, ◌*◌, ◌≤◌, Bool, true, false, List, [], ◌∷◌, Option, Some}
-use Rattle.common_values.specs.behaviour.Seen.{IsOver, IsUndefined}
+use Rattle.common_values.specs.behaviour.Seen.{Stopped, Begins, IsOver, IsUndefined}
 use Rattle.typed_tree.specs.declared.units.Program.{Program}
 use Rattle.tp_meaning.specs.Meaning.{mean}
 use Rattle.tp_meaning.specs.Programs.{overlaid}
@@ -29,13 +29,13 @@ pub record Compiler : Type 1 where
   pub machine : Files → resident.Program
   pub start : Files → List ℕ → ResidentState
 
-abbrev pub is_some : List (List ℕ) → Bool
-is_some [] = false
-is_some (name ∷ names) = true
+abbrev pub are_some : List (List ℕ) → Bool
+are_some [] = false
+are_some (name ∷ names) = true
 
 -- whether a program has overlaid units
 abbrev pub has_overlays : Program → Bool
-has_overlays program = is_some (overlaid program)
+has_overlays program = are_some (overlaid program)
 
 -- a well-typed program that can be lowered, and files that are linked from it
 pub record IsCompiled (c : Compiler) (program : Program) (files : Files) : Type 0 where
@@ -68,11 +68,13 @@ PairingLaw c = (program : Program) (files : Files) → IsCompiled c program file
 abbrev pub OverlayLaw : Compiler → Type 0
 OverlayLaw c = (program : Program) (files : Files) → IsCompiled c program files → has_overlays program ≡ true → OverlaysFollow (c.machine files) (c.start files) files
 
--- What the ring chooses is a list of tables: each run of opened files is one by some tables, up to what is counted.
+-- What the ring chooses is a list of tables, also where so many paragraphs of overlays are kept for live returns: each run of opened files is
+-- one by some tables, up to what is counted.
 abbrev pub RingLaw : Type 0
 RingLaw =
     (files : Files) (name : List ℕ) (buffer : Option ℕ) (state : State) (manager : Manager) → IsOpened files.exe name (Some files.ovr) buffer state manager →
-    (input : List ℕ) (m : ℕ) (end : Managed) → ManagedRuns files.ovr m (begun state manager input) end → (last : Managed) × RunsTo files input m last × (last.process ≡ end.process)
+    (retry : ℕ) (input : List ℕ) (m : ℕ) (end : Managed) → ManagedRuns files.ovr m (begun state (record manager { retry = retry }) input) end →
+    (last : Managed) × RunsTo files input m last × (last.process ≡ end.process)
 
 pub record CompilerLaws (c : Compiler) : Type 0 where
   pub lowering : LoweringLaw c
@@ -89,10 +91,16 @@ PlainTheorem c = (program : Program) (files : Files) → IsCompiled c program fi
 abbrev pub OverlaidTheorem : Compiler → Type 0
 OverlaidTheorem c = (program : Program) (files : Files) → IsCompiled c program files → has_overlays program ≡ true → (rate : ℕ) × (rate ≤ 3 * c.rate program) × IsCorrect rate program files
 
--- So what `run` does is what the program means, once it is over.
+-- What a run shows after so many events is what is meant: all of it once the run is over, and else a beginning. It is never stopped before an
+-- undefined act.
+pub record IsMeant (program : Program) (input : List ℕ) (m : ℕ) (end : Managed) : Type 0 where
+  pub over : IsOver (shown end.process).end → (mean program input m ≡ shown end.process) ⊎ IsUndefined (mean program input m).end
+  pub wrote : (Begins end.process.out (mean program input m).out × Begins end.process.err (mean program input m).err) ⊎ IsUndefined (mean program input m).end
+  pub never_stopped : (shown end.process).end ≡ Stopped → IsUndefined (mean program input m).end
+
+-- So what `run` does is what the program means, with each buffer and however many paragraphs are kept for live returns.
 abbrev pub RunTheorem : Compiler → Type 0
 RunTheorem c =
     (program : Program) (files : Files) → IsCompiled c program files → has_overlays program ≡ true →
     (name : List ℕ) (buffer : Option ℕ) (state : State) (manager : Manager) → IsOpened files.exe name (Some files.ovr) buffer state manager →
-    (input : List ℕ) → AreBytes input → (m : ℕ) (end : Managed) → ManagedRuns files.ovr m (begun state manager input) end → IsOver (shown end.process).end →
-    (mean program input m ≡ shown end.process) ⊎ IsUndefined (mean program input m).end
+    (retry : ℕ) (input : List ℕ) → AreBytes input → (m : ℕ) (end : Managed) → ManagedRuns files.ovr m (begun state (record manager { retry = retry }) input) end → IsMeant program input m end

@@ -12,7 +12,7 @@ use Rattle.overlay_manager.specs.Manager.{Manager}
 use Rattle.overlay_manager.specs.overlay_run.Managed.{Managed, ManagedRuns}
 use Rattle.statement_simulation.specs.flow.Sites.{AreBytes}
 use Rattle.dos_runner.specs.opened_program.Matching.{largest}
-use Rattle.dos_runner.specs.opened_program.Opening.{IsOpened, start_manager}
+use Rattle.dos_runner.specs.opened_program.Opening.{room_of, start_manager, IsOpened}
 use Rattle.dos_runner.specs.plain_opening.Laws.{needed}
 use Rattle.compiler_correctness.specs.Runs.{Files, shown, begun, IsPaid}
 use Rattle.compiler_correctness.specs.Tables.{Tabled, On, NotLegal, TabledRuns}
@@ -91,24 +91,23 @@ pub record RunsTo (files : Files) (input : List ℕ) (m : ℕ) (end : Managed) :
   pub left : List Table
   pub runs : TabledRuns files.ovr m (On (begun state manager input) tables) (On end left)
 
--- none of the tables that it uses, then and later, is not legal
-abbrev pub StaysLegal : (files : Files) (input : List ℕ) (m : ℕ) (end : Managed) → RunsTo files input m end → Type 0
-StaysLegal files input m end r = (n : ℕ) → TabledRuns files.ovr n (On (begun r.state r.manager input) r.tables) NotLegal → ⊥
-
 pub record IsCorrect (rate : ℕ) (program : Program) (files : Files) : Type 0 where
   pub overlays : List OvrEntry
-  pub opens : (name : List ℕ) (room : ℕ) → IsFitting files overlays room
-      → IsOpened files.exe name (Some files.ovr) (Some room) (loaded (exe_of files.exe)) (start_manager (exe_of files.exe) name overlays room)
+  pub opens : (name : List ℕ) (buffer : Option ℕ) → IsFitting files overlays (room_of buffer overlays)
+      → IsOpened files.exe name (Some files.ovr) buffer (loaded (exe_of files.exe)) (start_manager (exe_of files.exe) name overlays (room_of buffer overlays))
   pub agrees : Agrees rate program files
   -- a run that is over shows what is meant within as many turns
   pub over : (input : List ℕ) → AreBytes input → (m : ℕ) (end : Managed) → RunsTo files input m end → IsOver (shown end.process).end
       → (mean program input m ≡ shown end.process) ⊎ IsUndefined (mean program input m).end
-  -- a run by legal tables never wrote anything else
-  pub wrote : (input : List ℕ) → AreBytes input → (m : ℕ) (end : Managed) (r : RunsTo files input m end) → StaysLegal files input m end r
+  -- and it never wrote anything else
+  pub wrote : (input : List ℕ) → AreBytes input → (m : ℕ) (end : Managed) → RunsTo files input m end
       → (Begins end.process.out (mean program input m).out × Begins end.process.err (mean program input m).err) ⊎ IsUndefined (mean program input m).end
   -- it is never stopped before an undefined act
   pub never_stopped : (input : List ℕ) → AreBytes input → (m : ℕ) (end : Managed) → RunsTo files input m end → (shown end.process).end ≡ Stopped
       → IsUndefined (mean program input m).end
+  -- runtime errors, as 202 for the stack and 203 for the heap, and other codes come only where they are meant; that they come there is in `agrees`
+  pub ends : (input : List ℕ) → AreBytes input → IsDefined program input → (m : ℕ) (end : Managed) → RunsTo files input m end
+      → (code : ℕ) → (shown end.process).end ≡ Ended code → (mean program input m).end ≡ Ended code
   -- with all buffers, and wherever overlays are put, it comes to the same output, errors and end
   pub one_end : (input : List ℕ) → AreBytes input → IsDefined program input → (m k : ℕ) (end other : Managed) → RunsTo files input m end → RunsTo files input k other
       → IsOver (shown end.process).end → IsOver (shown other.process).end → shown end.process ≡ shown other.process
