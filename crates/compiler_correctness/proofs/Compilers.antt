@@ -1,0 +1,77 @@
+-- From the laws of a compiler's parts to its theorems.
+use Rattle.std.proofs.Common.{◌≡◌, ℕ, ◌≤◌, Bool, true, false, List, sym, subst, arith}
+use Rattle.std.proofs.lemmas.Nat.{mul-le}
+use Rattle.std.specs.Prelude.{◌⊎◌}
+use Rattle.common_values.specs.behaviour.Seen.{Stopped, Seen, Begins, IsOver, IsUndefined}
+use Rattle.typed_tree.specs.declared.units.Program.{Program}
+use Rattle.tp_meaning.specs.Meaning.{mean, IsNeverStopped}
+use Rattle.cpu_8086.specs.Process.{Process}
+use Rattle.overlay_manager.specs.overlay_run.Managed.{Managed}
+use Rattle.program_typing.specs.programs.WellTyped.{IsWellTyped}
+use Rattle.compiler_correctness.specs.Runs.{shown}
+use Rattle.compiler_correctness.specs.Hypotheses.{Placement, Starts, resident_rate, IsBuiltPlain, IsBuilt, plain_rate, overlaid_rate}
+use Rattle.compiler_correctness.specs.Compiler.{Compiler, CompilerLaws, PlainTheorem, OverlaidTheorem, RingLaw, IsMeant, RunTheorem}
+use Rattle.compiler_correctness.proofs.Plain as plain
+use Rattle.compiler_correctness.proofs.Overlaid as overlaid
+
+-- a well-typed program is never stopped
+abbrev pub NeverStopped : Type 0
+NeverStopped = (program : Program) → IsWellTyped program → IsNeverStopped program
+
+pub plain_theorem : (c : Compiler) → CompilerLaws c → plain.LawsBelow → NeverStopped → PlainTheorem c
+plain_theorem c laws below never program files compiled none =
+    let P : Bool → Type 0 = λ (framed : Bool). (p : Placement (c.lowered program) (c.machine files) framed) × Starts (c.lowered program) (c.machine files) framed p (c.start files)
+    × (resident_rate (c.lowered program) (c.machine files) framed p (c.few program) ≤ c.rate program) in
+    let placing : P false = subst P none (laws.placing program files compiled) in
+    let loading = laws.loading program files compiled none in
+    let built : IsBuiltPlain program files.exe = record {
+      few = c.few program;
+      flat = c.lowered program;
+      machine = c.machine files;
+      start = c.start files;
+      lowering = laws.lowering program compiled.typed compiled.lowerable;
+      placement = placing.0;
+      starts = placing.1;
+      loads = loading.1;
+      plain = loading.0;
+    } in
+    (plain_rate program files.exe built, placing.2, plain.correct_plain below program files.exe (never program compiled.typed) built)
+
+pub overlaid_theorem : (c : Compiler) → CompilerLaws c → overlaid.LawsBelow → NeverStopped → OverlaidTheorem c
+overlaid_theorem c laws below never program files compiled some =
+    let P : Bool → Type 0 = λ (framed : Bool). (p : Placement (c.lowered program) (c.machine files) framed) × Starts (c.lowered program) (c.machine files) framed p (c.start files)
+    × (resident_rate (c.lowered program) (c.machine files) framed p (c.few program) ≤ c.rate program) in
+    let placing : P true = subst P some (laws.placing program files compiled) in
+    let built : IsBuilt program files = record {
+      few = c.few program;
+      flat = c.lowered program;
+      machine = c.machine files;
+      start = c.start files;
+      lowering = laws.lowering program compiled.typed compiled.lowerable;
+      placement = placing.0;
+      starts = placing.1;
+      overlays = laws.overlays program files compiled some;
+      pair = laws.pairing program files compiled some;
+    } in
+    (overlaid_rate program files built, mul-le 3 (resident_rate (c.lowered program) (c.machine files) true placing.0 (c.few program)) 3 (c.rate program) (omega arith) placing.2, overlaid.correct below program files built (never program compiled.typed))
+
+-- it is the process that is meant
+meant_too : (program : Program) (input : List ℕ) (m : ℕ) (p q : Managed) → p.process ≡ q.process → IsMeant program input m p → IsMeant program input m q
+meant_too program input m p q same meant =
+    let x : Seen = mean program input m in
+    record {
+      over = subst (λ (r : Process). IsOver (shown r).end → (x ≡ shown r) ⊎ IsUndefined x.end) same meant.over;
+      wrote = subst (λ (r : Process). (Begins r.out x.out × Begins r.err x.err) ⊎ IsUndefined x.end) same meant.wrote;
+      never_stopped = subst (λ (r : Process). (shown r).end ≡ Stopped → IsUndefined x.end) same meant.never_stopped;
+    }
+
+pub run_theorem : (c : Compiler) → OverlaidTheorem c → RingLaw → RunTheorem c
+run_theorem c theorem ring program files compiled some name buffer state manager opened retry input are m end runs =
+    let found = ring files name buffer state manager opened retry input m end runs in
+    let correct = (theorem program files compiled some).2 in
+    let meant : IsMeant program input m found.0 = record {
+      over = correct.over input are m found.0 found.1;
+      wrote = correct.wrote input are m found.0 found.1;
+      never_stopped = correct.never_stopped input are m found.0 found.1;
+    } in
+    meant_too program input m found.0 end found.2 meant
