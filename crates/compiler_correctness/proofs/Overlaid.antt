@@ -162,7 +162,7 @@ module _ (laws : LawsBelow) (program : Program) (files : Files) (b : IsBuilt pro
       let e : k - m ≡ (k - m - 1) + 1 = omega (arith, less) in
       let parts = events_split Go (k - m - 1) 1 (On p left) NotLegal (subst (λ (n : ℕ). Events Go n (On p left) NotLegal) e behind) in
       let goes : TabledGoes files.ovr parts.0 NotLegal = subst (λ (s : Tabled). TabledGoes files.ovr parts.0 s) parts.2.2 parts.2.1 in
-      let there = goes_from parts.0 goes in
+      let there = goes_from files.ovr parts.0 NotLegal goes in
       let way : TabledRuns files.ovr (k - m - 1) (On p left) (On there.0 there.1) = subst (λ (s : Tabled). TabledRuns files.ovr (k - m - 1) (On p left) s) there.2 (as_runs files.ovr (k - m - 1) (On p left) parts.0 parts.1) in
       let event : TabledGoes files.ovr (On there.0 there.1) NotLegal = subst (λ (s : Tabled). TabledGoes files.ovr s NotLegal) there.2 goes in
       let same : fixed there.0.manager ≡ fixed start.manager = run_fixed files.ovr (k - m - 1) p there.0 left there.1 way ∙ run_fixed files.ovr m start p tables left run in

@@ -92,7 +92,7 @@ takes_event bytes p t (Unknown cs ip) = let q : Managed = record p { process = a
 
 -- ---- one event
 
-on_program : Managed → Tabled → Managed
+abbrev on_program : Managed → Tabled → Managed
 on_program other (On p tables) = p
 on_program other NotLegal = other
 
@@ -218,7 +218,7 @@ mended bytes p tables has_room x = by (takes_event bytes p x.machine x.event)
           },
         )
 
-overlay_or : ℕ → Option Trap → ℕ
+abbrev overlay_or : ℕ → Option Trap → ℕ
 overlay_or other None = other
 overlay_or other (Some trap) = trap.overlay
 

@@ -47,9 +47,9 @@ as_runs bytes zero p q x = x
 as_runs bytes (suc n) p q x = (x.0, x.1, as_runs bytes n x.0 q x.2)
 
 -- what goes on was on its way
-pub goes_from : {bytes : List ℕ} {q : Tabled} → (s : Tabled) → TabledGoes bytes s q → (p : Managed) × (tables : List Table) × (s ≡ On p tables)
-goes_from (On p tables) x = (p, tables, refl)
-goes_from NotLegal x = absurd x
+pub goes_from : (bytes : List ℕ) (s q : Tabled) → TabledGoes bytes s q → (p : Managed) × (tables : List Table) × (s ≡ On p tables)
+goes_from bytes (On p tables) q x = (p, tables, refl)
+goes_from bytes NotLegal q x = absurd x
 
 -- ---- nothing follows what is over
 
