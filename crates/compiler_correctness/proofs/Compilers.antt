@@ -1,5 +1,5 @@
 -- From the laws of a compiler's parts to its theorems.
-use Rattle.std.proofs.Common.{◌≡◌, ℕ, ◌≤◌, Bool, true, false, List, sym, subst, arith}
+use Rattle.std.proofs.Common.{◌≡◌, ℕ, ◌≤◌, Bool, true, false, List, subst, arith}
 use Rattle.std.proofs.lemmas.Nat.{mul-le}
 use Rattle.std.specs.Prelude.{◌⊎◌}
 use Rattle.common_values.specs.behaviour.Seen.{Stopped, Seen, Begins, IsOver, IsUndefined}

@@ -1,7 +1,7 @@
 -- Programs without overlaid units.
-use Rattle.std.proofs.Common.{◌≡◌, ℕ, zero, suc, ◌+◌, ◌-◌, ◌≤◌, Bool, false, List, [], length, map, Option, unwrap_or, refl, sym, ap, ◌∙◌, subst}
+use Rattle.std.proofs.Common.{◌≡◌, ℕ, zero, suc, ◌-◌, ◌≤◌, Bool, false, List, [], length, map, Option, unwrap_or, refl, sym, ap, ◌∙◌, subst}
 use Rattle.std.specs.Prelude.{◌⊎◌}
-use Rattle.common_values.specs.behaviour.Seen.{Standing, Ended, Stopped, Seen, Stands, Shows, Begins, IsOver, IsUndefined, IsRun}
+use Rattle.common_values.specs.behaviour.Seen.{Standing, Ended, Seen, Stands, Shows, Begins, IsOver, IsUndefined, IsRun}
 use Rattle.typed_tree.specs.declared.units.Program.{Program}
 use Rattle.tp_meaning.specs.Meaning.{mean, IsNeverStopped}
 use Rattle.cpu_8086.specs.Process.{Process}

@@ -1,16 +1,16 @@
 -- Places for the parts of the small program: the premises of its lowering can be met.
-use Rattle.std.proofs.Common.{◌≡◌, ◌≢◌, ℕ, zero, suc, ◌+◌, ◌*◌, ◌<◌, ◌≤◌, ◌==◌, Bool, true, false, List, [], ◌∷◌, length, Option, Some, None, refl, sym, ap, ◌∙◌, subst, inl, inr, arith, codes}
-use Rattle.std.specs.Prelude.{◌⊎◌, ◌↔◌, if◌then◌else◌, Contains, IsSome, slice_get}
+use Rattle.std.proofs.Common.{◌≡◌, ℕ, zero, suc, ◌<◌, ◌==◌, Bool, true, false, List, [], ◌∷◌, Option, Some, None, refl, sym, ap, ◌∙◌, subst, inl, inr, arith, codes}
+use Rattle.std.specs.Prelude.{◌⊎◌, if◌then◌else◌, IsSome, slice_get}
 use Rattle.std.specs.Option.{option_and_then}
 use Rattle.std.specs.Cmp.Lexicographic.{same_text}
 use Rattle.std.proofs.lemmas.Bool.Decides.{eqb_tells}
 use Rattle.type_layout.specs.Words.{same_bytes}
 use Rattle.flat_code.specs.declared.memory.Place.{Place}
-use Rattle.flat_code.specs.Legal.{Mention, ToRoutine, ToDatum, ToVmt, CodeNames, ResultNames, SlotsName, Reaches, IsLegal, TakesData, IsApart}
+use Rattle.flat_code.specs.Legal.{Mention, ToRoutine, ToDatum, ToVmt, CodeNames, ResultNames, Reaches, IsLegal, TakesData}
 use Rattle.flat_code.specs.Tree.{Code, Error, End, Do, Loop}
 use Rattle.flat_code.specs.Program.{Name, Key, Routine, Datum, Vmt, UnitCode, routine_of}
 use Rattle.code_simulation.specs.bodies.Layouts.{IsIn}
-use Rattle.compiler_correctness.specs.Slice.{flat_part, flat_unit, flat_units, flat_slice, part_key, part_place, far_by, callee_by, slice_choice, everything, HasPlaces, SliceStands}
+use Rattle.compiler_correctness.specs.Slice.{flat_part, flat_unit, flat_units, flat_slice, part_key, part_place, far_by, callee_by, slice_choice, everything, SliceStands}
 
 -- ---- the units
 

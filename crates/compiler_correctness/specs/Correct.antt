@@ -1,5 +1,5 @@
 -- What holds of a program and the files that are linked from it: their runs show what the program means.
-use Rattle.std.specs.Prelude.{◌≡◌, ◌⊎◌, ℕ, ◌+◌, ◌≤◌, List, [], Option, Some}
+use Rattle.std.specs.Prelude.{◌≡◌, ◌⊎◌, ℕ, ◌≤◌, List, Option, Some}
 use Rattle.common_values.specs.behaviour.Seen.{Ended, Going, Stopped, Seen, Shows, Begins, IsOver, IsUndefined}
 use Rattle.typed_tree.specs.declared.units.Program.{Program}
 use Rattle.tp_meaning.specs.Meaning.{mean}

@@ -1,7 +1,7 @@
 -- A small program of two units, as a try of what is asked of the lowering. The unit A has an initialisation part, which does nothing. The main
 -- part of B is `while True do Halt(1 div 0)`: a turn, and then error 200. Where A is overlaid, its part is not begun: its stub refuses the call
 -- with error 208. In flat code an error takes a turn of its own, in the source it takes none.
-use Rattle.std.specs.Prelude.{◌≡◌, ℕ, ◌==◌, ◌&&◌, if◌then◌else◌, Bool, true, false, pos, List, [], ◌∷◌, Option, Some, None, codes}
+use Rattle.std.specs.Prelude.{ℕ, ◌==◌, ◌&&◌, if◌then◌else◌, Bool, true, false, pos, List, [], ◌∷◌, Option, Some, None, codes}
 use Rattle.type_layout.specs.declared.definitions.Kind.TheVariants as kind
 use Rattle.type_layout.specs.Words.{same_bytes}
 use Rattle.typed_tree.specs.declared.expressions.Value.TheVariants as constant
