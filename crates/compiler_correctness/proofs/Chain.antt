@@ -1,5 +1,5 @@
 -- From the meaning to the resident machine.
-use Rattle.std.proofs.Common.{◌≡◌, ℕ, ◌+◌, ◌*◌, ◌≤◌, Bool, List, length, sym, ◌∙◌, subst, arith}
+use Rattle.std.proofs.Common.{◌≡◌, ℕ, ◌+◌, ◌*◌, ◌≤◌, Bool, List, length, sym, subst, arith}
 use Rattle.common_values.specs.behaviour.Seen.{Standing, Ended, Going, Undefined, Stopped, Seen, Shows}
 use Rattle.common_values.proofs.behaviour.SeenLaws.{shows_twice}
 use Rattle.typed_tree.specs.declared.units.Program.{Program}

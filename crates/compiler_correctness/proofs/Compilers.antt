@@ -1,25 +1,27 @@
 -- From the laws of a compiler's parts to its theorems.
-use Rattle.std.proofs.Common.{◌≡◌, ℕ, ◌≤◌, Bool, true, false, List, sym, subst, arith}
+use Rattle.std.proofs.Common.{◌≡◌, ℕ, ◌≤◌, Bool, true, false, List, subst, arith}
 use Rattle.std.proofs.lemmas.Nat.{mul-le}
 use Rattle.std.specs.Prelude.{◌⊎◌}
 use Rattle.common_values.specs.behaviour.Seen.{Stopped, Seen, Begins, IsOver, IsUndefined}
 use Rattle.typed_tree.specs.declared.units.Program.{Program}
-use Rattle.tp_meaning.specs.Meaning.{mean, IsNeverStopped}
+use Rattle.tp_meaning.specs.Meaning.{mean}
 use Rattle.cpu_8086.specs.Process.{Process}
 use Rattle.overlay_manager.specs.overlay_run.Managed.{Managed}
 use Rattle.program_typing.specs.programs.WellTyped.{IsWellTyped}
-use Rattle.compiler_correctness.specs.Runs.{shown}
+use Rattle.compiler_correctness.specs.Runs.{Files, shown}
 use Rattle.compiler_correctness.specs.Hypotheses.{Placement, Starts, resident_rate, IsBuiltPlain, IsBuilt, plain_rate, overlaid_rate}
+use Rattle.compiler_correctness.specs.Correct.{IsCorrectPlain, IsCorrect}
 use Rattle.compiler_correctness.specs.Compiler.{Compiler, CompilerLaws, PlainTheorem, OverlaidTheorem, RingLaw, IsMeant, RunTheorem}
-use Rattle.compiler_correctness.proofs.Plain as plain
-use Rattle.compiler_correctness.proofs.Overlaid as overlaid
 
--- a well-typed program is never stopped
-abbrev pub NeverStopped : Type 0
-NeverStopped = (program : Program) → IsWellTyped program → IsNeverStopped program
+-- the laws on programs that are built
+abbrev pub PlainLaw : Type 0
+PlainLaw = (program : Program) (exe : List ℕ) → IsWellTyped program → (built : IsBuiltPlain program exe) → IsCorrectPlain (plain_rate program exe built) program exe
 
-pub plain_theorem : (c : Compiler) → CompilerLaws c → plain.LawsBelow → NeverStopped → PlainTheorem c
-plain_theorem c laws below never program files compiled none =
+abbrev pub OverlaidLaw : Type 0
+OverlaidLaw = (program : Program) (files : Files) → IsWellTyped program → (built : IsBuilt program files) → IsCorrect (overlaid_rate program files built) program files
+
+pub plain_theorem : (c : Compiler) → CompilerLaws c → PlainLaw → PlainTheorem c
+plain_theorem c laws law program files compiled none =
     let P : Bool → Type 0 = λ (framed : Bool). (p : Placement (c.lowered program) (c.machine files) framed) × Starts (c.lowered program) (c.machine files) framed p (c.start files)
     × (resident_rate (c.lowered program) (c.machine files) framed p (c.few program) ≤ c.rate program) in
     let placing : P false = subst P none (laws.placing program files compiled) in
@@ -35,10 +37,10 @@ plain_theorem c laws below never program files compiled none =
       loads = loading.1;
       plain = loading.0;
     } in
-    (plain_rate program files.exe built, placing.2, plain.correct_plain below program files.exe (never program compiled.typed) built)
+    (plain_rate program files.exe built, placing.2, law program files.exe compiled.typed built)
 
-pub overlaid_theorem : (c : Compiler) → CompilerLaws c → overlaid.LawsBelow → NeverStopped → OverlaidTheorem c
-overlaid_theorem c laws below never program files compiled some =
+pub overlaid_theorem : (c : Compiler) → CompilerLaws c → OverlaidLaw → OverlaidTheorem c
+overlaid_theorem c laws law program files compiled some =
     let P : Bool → Type 0 = λ (framed : Bool). (p : Placement (c.lowered program) (c.machine files) framed) × Starts (c.lowered program) (c.machine files) framed p (c.start files)
     × (resident_rate (c.lowered program) (c.machine files) framed p (c.few program) ≤ c.rate program) in
     let placing : P true = subst P some (laws.placing program files compiled) in
@@ -53,7 +55,7 @@ overlaid_theorem c laws below never program files compiled some =
       overlays = laws.overlays program files compiled some;
       pair = laws.pairing program files compiled some;
     } in
-    (overlaid_rate program files built, mul-le 3 (resident_rate (c.lowered program) (c.machine files) true placing.0 (c.few program)) 3 (c.rate program) (omega arith) placing.2, overlaid.correct below program files built (never program compiled.typed))
+    (overlaid_rate program files built, mul-le 3 (resident_rate (c.lowered program) (c.machine files) true placing.0 (c.few program)) 3 (c.rate program) (omega arith) placing.2, law program files compiled.typed built)
 
 -- it is the process that is meant
 meant_too : (program : Program) (input : List ℕ) (m : ℕ) (p q : Managed) → p.process ≡ q.process → IsMeant program input m p → IsMeant program input m q

@@ -9,3 +9,4 @@ pub mod Plain
 pub mod Overlaid
 pub mod Compilers
 pub mod Slices
+pub mod SlicePlaces

@@ -17,13 +17,13 @@ use Rattle.compiler_correctness.specs.Runs.{Files, shown, begun, IsPaid}
 use Rattle.compiler_correctness.specs.Tables.{Tabled, On, NotLegal, TabledRuns, TabledGoes}
 use Rattle.compiler_correctness.specs.Hypotheses.{IsBuilt, Matches, ComesTo, overlaid_rate, resident_rate}
 use Rattle.compiler_correctness.specs.Correct.{IsShown, ShowsWithin, Agrees, RunsTo, IsCorrect}
-use Rattle.compiler_correctness.proofs.Events.{Events, IsDetermined, events_split, events_rest, events_last, events_same}
+use Rattle.compiler_correctness.proofs.Events.{IsDetermined, events_rest, events_last, events_same}
 use Rattle.compiler_correctness.proofs.Backward.{AreOfOneRun, over_back, written_back, stopped_back, ended_back, one_back, going_back, going_or_over, all_bytes}
 use Rattle.compiler_correctness.proofs.Written.{Extends}
 use Rattle.compiler_correctness.proofs.Costs.{paid_thrice}
 use Rattle.compiler_correctness.proofs.Chain.{StartLaw, ShowsResident, resident_shows}
-use Rattle.compiler_correctness.proofs.Tabled.{StepsOnce, goes_once, as_events, as_runs, goes_from, on_same, on_legal, last_on, last_illegal, runs_write}
-use Rattle.compiler_correctness.proofs.Seating.{fixed, HasRoom, run_with, run_fixed, one_more, mended, opened_room}
+use Rattle.compiler_correctness.proofs.Tabled.{StepsOnce, goes_once, as_events, as_runs, on_same, on_legal, last_on, last_illegal, runs_write}
+use Rattle.compiler_correctness.proofs.Seating.{fixed, HasRoom, run_with, run_fixed, asked, one_more, mended, opened_room}
 
 -- ---- the laws below
 
@@ -159,25 +159,21 @@ module _ (laws : LawsBelow) (program : Program) (files : Files) (b : IsBuilt pro
       let below : j ≤ k - m = events_last Go one (k - m) j (On p left) NotLegal (On q rest) behind (last_illegal files.ovr) beyond in
       let other : j ≡ k - m → ⊥ = λ e. on_legal q rest (sym (events_same Go one (k - m) j (On p left) NotLegal (On q rest) behind beyond e)) in
       let less : j < k - m = elim (cases_lt j (k - m)) [ inl h ↦ h | inr h ↦ absurd (other (omega (arith, below, h))) ] in
-      let e : k - m ≡ (k - m - 1) + 1 = omega (arith, less) in
-      let parts = events_split Go (k - m - 1) 1 (On p left) NotLegal (subst (λ (n : ℕ). Events Go n (On p left) NotLegal) e behind) in
-      let goes : TabledGoes files.ovr parts.0 NotLegal = subst (λ (s : Tabled). TabledGoes files.ovr parts.0 s) parts.2.2 parts.2.1 in
-      let there = goes_from parts.0 goes in
-      let way : TabledRuns files.ovr (k - m - 1) (On p left) (On there.0 there.1) = subst (λ (s : Tabled). TabledRuns files.ovr (k - m - 1) (On p left) s) there.2 (as_runs files.ovr (k - m - 1) (On p left) parts.0 parts.1) in
-      let event : TabledGoes files.ovr (On there.0 there.1) NotLegal = subst (λ (s : Tabled). TabledGoes files.ovr s NotLegal) there.2 goes in
-      let same : fixed there.0.manager ≡ fixed start.manager = run_fixed files.ovr (k - m - 1) p there.0 left there.1 way ∙ run_fixed files.ovr m start p tables left run in
-      let mend = mended files.ovr there.0 there.1 (subst HasRoom (sym same) room) event in
-      let later = run_with files.ovr (k - m - 1) p there.0 left there.1 (mend.0 ∷ []) way in
+      let found = asked files.ovr (k - m) p left (as_runs files.ovr (k - m) (On p left) NotLegal behind) in
+      let same : fixed found.at.manager ≡ fixed start.manager = run_fixed files.ovr found.before p found.at left found.tables found.way ∙ run_fixed files.ovr m start p tables left run in
+      let mend = mended files.ovr found.at found.tables (subst HasRoom (sym same) room) found.event in
+      let later = run_with files.ovr found.before p found.at left found.tables (mend.0 ∷ []) found.way in
       let whole = run_with files.ovr m start p tables left later.0 run in
+      let count = found.count in
       record {
         tables = whole.0;
         left = later.0;
         run = whole.1;
-        more = (k - m - 1) + 1;
+        more = found.before + 1;
         last = mend.1;
         rest = [];
-        on = one_more files.ovr (k - m - 1) (On p later.0) (On there.0 (mend.0 ∷ [])) (On mend.1 []) later.1 mend.2;
-        further = omega (arith, less);
+        on = one_more files.ovr found.before (On p later.0) (On found.at (mend.0 ∷ [])) (On mend.1 []) later.1 mend.2;
+        further = omega (arith, less, count);
         within = omega (arith, less, reached, few);
       }
 

@@ -1,7 +1,7 @@
 -- Programs without overlaid units.
-use Rattle.std.proofs.Common.{◌≡◌, ℕ, zero, suc, ◌+◌, ◌-◌, ◌≤◌, Bool, false, List, [], length, map, Option, unwrap_or, refl, sym, ap, ◌∙◌, subst}
+use Rattle.std.proofs.Common.{◌≡◌, ℕ, zero, suc, ◌-◌, ◌≤◌, Bool, false, List, [], length, map, Option, unwrap_or, refl, sym, ap, ◌∙◌, subst}
 use Rattle.std.specs.Prelude.{◌⊎◌}
-use Rattle.common_values.specs.behaviour.Seen.{Standing, Ended, Stopped, Seen, Stands, Shows, Begins, IsOver, IsUndefined}
+use Rattle.common_values.specs.behaviour.Seen.{Standing, Ended, Seen, Stands, Shows, Begins, IsOver, IsUndefined, IsRun}
 use Rattle.typed_tree.specs.declared.units.Program.{Program}
 use Rattle.tp_meaning.specs.Meaning.{mean, IsNeverStopped}
 use Rattle.cpu_8086.specs.Process.{Process}
@@ -26,7 +26,7 @@ use Rattle.compiler_correctness.specs.Hypotheses.{IsBuiltPlain, plain_rate}
 use Rattle.compiler_correctness.specs.Correct.{IsDefined, ShowsPlain, FollowsPlain, IsCorrectPlain}
 use Rattle.compiler_correctness.proofs.Events.{Events, IsDetermined, IsLast, events_rest, events_last, events_same, events_keep}
 use Rattle.compiler_correctness.proofs.Written.{Extends, extends_same, extends_both, step_extends}
-use Rattle.compiler_correctness.proofs.Backward.{AreOfOneRun, over_back, written_back, stopped_back, ended_back, all_bytes, seen_same}
+use Rattle.compiler_correctness.proofs.Backward.{AreOfOneRun, over_back, written_back, stopped_back, ended_back, one_back, going_back, going_or_over, all_bytes, seen_same}
 use Rattle.compiler_correctness.proofs.Chain.{StartLaw, ShowsResident, resident_shows}
 use Rattle.compiler_correctness.proofs.Tabled.{not_running}
 
@@ -54,6 +54,7 @@ pub record LawsBelow : Type 0 where
   pub once : GoesOnce
   pub plain : PlainRuns
   pub opening : PlainOpening
+  pub runs : (program : Program) (input : List ℕ) → IsRun (mean program input)
 
 -- ---- what a process shows that stands for a resident state
 
@@ -133,7 +134,7 @@ module _ (laws : LawsBelow) (program : Program) (exe : List ℕ) (b : IsBuiltPla
   process_runs : (m : ℕ) (end : Managed) → ManagedRuns bytes m start end → cpu.Runs m start.process end.process
   process_runs m end runs = laws.plain.only bytes m start end no_stubs runs
 
-  over_there : (m : ℕ) (end : Managed) → ManagedRuns bytes m start end → IsOver (shown end.process).end → (mean program input m ≡ shown end.process) ⊎ IsUndefined (mean program input m).end
+  pub over_there : (m : ℕ) (end : Managed) → ManagedRuns bytes m start end → IsOver (shown end.process).end → (mean program input m ≡ shown end.process) ⊎ IsUndefined (mean program input m).end
   over_there m end runs over =
       let f = follows_there m in
       over_back m f.events (mean program input m) (shown end.process) (shown f.end.process) (mean program input m).end refl f.shows
@@ -177,6 +178,8 @@ module _ (laws : LawsBelow) (program : Program) (exe : List ℕ) (b : IsBuiltPla
     out = out_there;
     err = err_there;
     never_stopped = λ m end runs e. stopped_back (mean program input m) (shown end.process) (over_there m end runs (subst IsOver (sym e) tt)) (never input (all_bytes input are) m) e;
+    goes_on = λ turns going m end few runs.
+        going_or_over (shown end.process).end (λ over. going_back (mean program input) (laws.runs program input) turns m (shown end.process) few going (over_there m end runs over) over);
     ends = ends_there;
   }
 
@@ -185,4 +188,8 @@ correct_plain laws program exe never b = record {
   opens = λ name held buffer fits.
       (loaded (exe_of exe), start_manager (exe_of exe) name [] (unwrap_or buffer 0), laws.opening exe name held buffer b.plain fits);
   follows = λ name held buffer state manager opened input bytes are. follows_plain laws program exe b name held buffer state manager opened input bytes are never;
+  one_end = λ input are defined m k end other r q over over'.
+      one_back (mean program input) (laws.runs program input) m k (shown end.process) (shown other.process)
+      (over_there laws program exe b r.name r.held r.buffer r.state r.manager r.opened input r.bytes are m end r.runs over)
+      (over_there laws program exe b q.name q.held q.buffer q.state q.manager q.opened input q.bytes are k other q.runs over') defined over over';
 }

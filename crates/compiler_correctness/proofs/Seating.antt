@@ -1,17 +1,16 @@
 -- Runs by given tables, and the tables that come later: what a run did it does with others behind those that it took, and behind a table that
 -- is not legal it can be taken further by one that is.
 use Rattle.std.proofs.Common.{◌≡◌, ℕ, zero, suc, ◌+◌, ◌==◌, ◌<◌, ◌≤◌, Bool, true, false, List, [], ◌∷◌, length, map, Option, None, Some, Result, Ok, Err, refl, sym, ap, ◌∙◌, subst, inl, inr, arith}
-use Rattle.std.specs.Prelude.{◌⊎◌, if◌then◌else◌, max, nat_lt, nat_le, slice_index, position}
+use Rattle.std.specs.Prelude.{◌⊎◌, if◌then◌else◌, nat_lt, nat_le, slice_index, position}
 use Rattle.std.proofs.lemmas.Bool.Decides.{nat_tests}
 use Rattle.std.proofs.lemmas.List.{length-map}
 use Rattle.std.proofs.lemmas.List.Quantifiers.{position-Some}
 use Rattle.cpu_8086.specs.declared.process.Why.TheVariants as why
 use Rattle.cpu_8086.specs.declared.machine.Event.{Event}
 use Rattle.cpu_8086.specs.declared.machine.Event.TheVariants.{Ran, Service, Divide, Unknown}
-use Rattle.cpu_8086.specs.Process.{Running, serviced, after_step}
+use Rattle.cpu_8086.specs.Process.{serviced, after_step}
 use Rattle.cpu_8086.specs.Memory.{load_word}
 use Rattle.cpu_8086.specs.State.{State}
-use Rattle.cpu_8086.specs.Step.{Steps}
 use Rattle.mz_file.specs.Format.{exe_of}
 use Rattle.mz_file.specs.Load.{loaded_segment}
 use Rattle.overlay_file.specs.declared.overlay.OvrEntry.{OvrEntry}
@@ -21,11 +20,10 @@ use Rattle.return_repair.specs.Chain.{chain_of}
 use Rattle.overlay_manager.specs.declared.traps.Trap.{Trap}
 use Rattle.overlay_manager.specs.Manager as manager
 use Rattle.overlay_manager.specs.Manager.{Manager, paragraphs_of, with_seats, table_by, cleared_manager}
-use Rattle.overlay_manager.specs.Traps.{is_entry_place, trap_place, trap_in, trap_by, trap_of, is_refused, refused}
+use Rattle.overlay_manager.specs.Traps.{is_entry_place, trap_place, trap_by, trap_of, is_refused, refused}
 use Rattle.overlay_manager.specs.overlay_run.Managed.{Managed, goes_on, is_stopped, with_trap}
 use Rattle.dos_runner.specs.opened_program.Matching.{largest}
 use Rattle.dos_runner.specs.opened_program.Opening.{room_of, start_manager, IsOpened}
-use Rattle.compiler_correctness.specs.Runs.{Files}
 use Rattle.compiler_correctness.specs.Tables.{Tabled, On, NotLegal, next_table, later_tables, seats_of, short_from, loaded_by, seated, served_next, chained, trapped, emptied, emptied_by, all_out, interrupted, after_event, TabledEvent, TabledGoes, TabledRuns}
 use Rattle.compiler_correctness.proofs.Tabled.{on_legal}
 
@@ -92,7 +90,7 @@ takes_event bytes p t (Unknown cs ip) = let q : Managed = record p { process = a
 
 -- ---- one event
 
-on_program : Managed → Tabled → Managed
+abbrev on_program : Managed → Tabled → Managed
 on_program other (On p tables) = p
 on_program other NotLegal = other
 
@@ -181,6 +179,34 @@ run_fixed bytes (suc n) p q tables left x =
     let rest : TabledRuns bytes n (On m.0 m.1) (On q left) = subst (λ (s : Tabled). TabledRuns bytes n s (On q left)) m.2 x.2 in
     run_fixed bytes n m.0 q m.1 left rest ∙ event_fixed bytes p m.0 tables m.1 goes
 
+-- a run of n events from p to a table that is not legal, by the program that asked for it
+pub record Asked (bytes : List ℕ) (n : ℕ) (p : Managed) (left : List Table) : Type 0 where
+  pub before : ℕ
+  pub at : Managed
+  pub tables : List Table
+  pub way : TabledRuns bytes before (On p left) (On at tables)
+  pub event : TabledEvent bytes at tables NotLegal
+  pub count : n ≡ before + 1
+
+kind_of : (s : Tabled) → (s ≡ NotLegal) ⊎ ((p : Managed) × (tables : List Table) × (s ≡ On p tables))
+kind_of NotLegal = inl refl
+kind_of (On p tables) = inr (p, tables, refl)
+
+none_behind : (bytes : List ℕ) (n : ℕ) → TabledRuns bytes n NotLegal NotLegal → n ≡ 0
+none_behind bytes zero x = refl
+none_behind bytes (suc n) x = absurd x.1
+
+pub asked : (bytes : List ℕ) (n : ℕ) (p : Managed) (left : List Table) → TabledRuns bytes n (On p left) NotLegal → Asked bytes n p left
+asked bytes zero p left x = absurd (on_legal p left x)
+asked bytes (suc n) p left x = elim (kind_of x.0) [
+  | inl bad ↦ let goes : TabledGoes bytes (On p left) NotLegal = subst (λ (s : Tabled). TabledGoes bytes (On p left) s) bad x.1 in
+      let none = none_behind bytes n (subst (λ (s : Tabled). TabledRuns bytes n s NotLegal) bad x.2) in
+      record { before = 0; at = p; tables = left; way = refl; event = goes; count = omega (arith, none) }
+  | inr on ↦ let goes : TabledGoes bytes (On p left) (On on.0 on.1) = subst (λ (s : Tabled). TabledGoes bytes (On p left) s) on.2 x.1 in
+      let found = asked bytes n on.0 on.1 (subst (λ (s : Tabled). TabledRuns bytes n s NotLegal) on.2 x.2) in
+      record { before = suc found.before; at = found.at; tables = found.tables; way = (On on.0 on.1, goes, found.way); event = found.event; count = omega (arith, found.count) }
+]
+
 pub one_more : (bytes : List ℕ) (n : ℕ) (p q r : Tabled) → TabledRuns bytes n p q → TabledGoes bytes q r → TabledRuns bytes (n + 1) p r
 one_more bytes zero p q r runs goes = (r, subst (λ (s : Tabled). TabledGoes bytes s r) (sym runs) goes, refl)
 one_more bytes (suc n) p q r runs goes =
@@ -218,7 +244,7 @@ mended bytes p tables has_room x = by (takes_event bytes p x.machine x.event)
           },
         )
 
-overlay_or : ℕ → Option Trap → ℕ
+abbrev overlay_or : ℕ → Option Trap → ℕ
 overlay_or other None = other
 overlay_or other (Some trap) = trap.overlay
 

@@ -1,5 +1,5 @@
 -- The small program, by computation.
-use Rattle.std.proofs.Common.{◌≡◌, ℕ, zero, suc, ◌+◌, ◌*◌, ◌≤◌, true, false, List, [], refl, sym, subst, arith, codes}
+use Rattle.std.proofs.Common.{◌≡◌, ℕ, zero, suc, ◌≤◌, true, false, List, [], refl, sym, subst, arith, codes}
 use Rattle.std.specs.Fmt.{digits}
 use Rattle.common_values.specs.behaviour.Seen.{Ended, Going, Seen, Shows}
 use Rattle.tp_meaning.specs.Examples.{ends, error_line}

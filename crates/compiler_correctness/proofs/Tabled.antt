@@ -1,6 +1,6 @@
 -- Runs with given tables: they have one outcome, and what was written stays written.
-use Rattle.std.proofs.Common.{◌≡◌, ℕ, zero, suc, ◌+◌, ◌*◌, ◌==◌, Bool, true, false, List, [], ◌∷◌, length, Option, None, Some, Result, Ok, Err, refl, sym, ap, ◌∙◌, subst}
-use Rattle.std.specs.Prelude.{if◌then◌else◌, ◌&&◌, ◌≢◌}
+use Rattle.std.proofs.Common.{◌≡◌, ℕ, zero, suc, ◌==◌, Bool, true, false, List, [], length, Option, None, Some, Result, Ok, Err, refl, sym, ap, ◌∙◌, subst}
+use Rattle.std.specs.Prelude.{if◌then◌else◌, ◌≢◌}
 use Rattle.common_values.specs.behaviour.Seen.{Seen, Stopped, IsOver}
 use Rattle.cpu_8086.specs.declared.process.Why.TheVariants as why
 use Rattle.cpu_8086.specs.declared.machine.Event.{Event}
@@ -45,11 +45,6 @@ as_events bytes (suc n) p q x = (x.0, x.1, as_events bytes n x.0 q x.2)
 pub as_runs : (bytes : List ℕ) (n : ℕ) (p q : Tabled) → Events (TabledGoes bytes) n p q → TabledRuns bytes n p q
 as_runs bytes zero p q x = x
 as_runs bytes (suc n) p q x = (x.0, x.1, as_runs bytes n x.0 q x.2)
-
--- what goes on was on its way
-pub goes_from : {bytes : List ℕ} {q : Tabled} → (s : Tabled) → TabledGoes bytes s q → (p : Managed) × (tables : List Table) × (s ≡ On p tables)
-goes_from (On p tables) x = (p, tables, refl)
-goes_from NotLegal x = absurd x
 
 -- ---- nothing follows what is over
 

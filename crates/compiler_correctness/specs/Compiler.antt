@@ -1,5 +1,5 @@
 -- The parts of the compiler that are still to come, and the laws of these on which the theorems rest.
-use Rattle.std.specs.Prelude.{◌≡◌, ◌⊎◌, ℕ, ◌*◌, ◌≤◌, Bool, true, false, List, [], ◌∷◌, Option, Some}
+use Rattle.std.specs.Prelude.{◌≡◌, ◌⊎◌, ℕ, ◌*◌, ◌≤◌, Bool, true, false, IsTrue, List, [], ◌∷◌, Option, Some}
 use Rattle.common_values.specs.behaviour.Seen.{Stopped, Begins, IsOver, IsUndefined}
 use Rattle.typed_tree.specs.declared.units.Program.{Program}
 use Rattle.tp_meaning.specs.Meaning.{mean}
@@ -20,12 +20,12 @@ use Rattle.compiler_correctness.specs.Correct.{IsCorrectPlain, RunsTo, IsCorrect
 
 -- Which programs are lowered, and to what, with how much work for each turn and each byte, and how many events of the resident machine; which
 -- files are linked from the units of a program; and the program of the resident machine that files hold, with its start on each input.
-pub record Compiler : Type 1 where
-  pub IsLowerable : Program → Type 0
+pub record Compiler : Type 0 where
+  pub is_lowerable : Program → Bool
   pub lowered : Program → FlatProgram
   pub few : Program → ℕ
   pub rate : Program → ℕ
-  pub IsLinked : Program → Files → Type 0
+  pub linked : Program → Option Files
   pub machine : Files → resident.Program
   pub start : Files → List ℕ → ResidentState
 
@@ -40,14 +40,14 @@ has_overlays program = are_some (overlaid program)
 -- a well-typed program that can be lowered, and files that are linked from it
 pub record IsCompiled (c : Compiler) (program : Program) (files : Files) : Type 0 where
   pub typed : IsWellTyped program
-  pub lowerable : c.IsLowerable program
-  pub linked : c.IsLinked program files
+  pub lowerable : IsTrue (c.is_lowerable program)
+  pub linked : c.linked program ≡ Some files
 
 -- ---- the laws
 
 -- the flat program follows what the program means
 abbrev pub LoweringLaw : Compiler → Type 0
-LoweringLaw c = (program : Program) → IsWellTyped program → c.IsLowerable program → IsLoweringOf (c.few program) program (c.lowered program)
+LoweringLaw c = (program : Program) → IsWellTyped program → IsTrue (c.is_lowerable program) → IsLoweringOf (c.few program) program (c.lowered program)
 
 -- what is linked is placed, and has a start; where overlays are, each event is framed
 abbrev pub PlacingLaw : Compiler → Type 0

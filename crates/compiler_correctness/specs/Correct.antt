@@ -1,5 +1,5 @@
 -- What holds of a program and the files that are linked from it: their runs show what the program means.
-use Rattle.std.specs.Prelude.{◌≡◌, ◌⊎◌, ℕ, ◌+◌, ◌≤◌, List, [], Option, Some}
+use Rattle.std.specs.Prelude.{◌≡◌, ◌⊎◌, ℕ, ◌≤◌, List, Option, Some}
 use Rattle.common_values.specs.behaviour.Seen.{Ended, Going, Stopped, Seen, Shows, Begins, IsOver, IsUndefined}
 use Rattle.typed_tree.specs.declared.units.Program.{Program}
 use Rattle.tp_meaning.specs.Meaning.{mean}
@@ -41,10 +41,23 @@ pub record FollowsPlain (rate : ℕ) (program : Program) (input bytes : List ℕ
   pub err : (m : ℕ) (end : Managed) → ManagedRuns bytes m start end → Begins end.process.err (mean program input m).err ⊎ IsUndefined (mean program input m).end
   -- it is never stopped before an undefined act
   pub never_stopped : (m : ℕ) (end : Managed) → ManagedRuns bytes m start end → (shown end.process).end ≡ Stopped → IsUndefined (mean program input m).end
+  -- it goes on as long as the meaning does
+  pub goes_on : (turns : ℕ) → (mean program input turns).end ≡ Going → (m : ℕ) (end : Managed) → m ≤ turns → ManagedRuns bytes m start end → (shown end.process).end ≡ Going
   -- runtime errors, as 202 for the stack and 203 for the heap, and other codes come just where they are meant
   pub ends : (code : ℕ) → IsDefined program input →
       ((m : ℕ) (end : Managed) → ManagedRuns bytes m start end → (shown end.process).end ≡ Ended code → (mean program input m).end ≡ Ended code)
       × ((turns : ℕ) → (mean program input turns).end ≡ Ended code → (m : ℕ) × (end : Managed) × ManagedRuns bytes m start end × ((shown end.process).end ≡ Ended code))
+
+-- A run after so many events, of an executable that was opened with some buffer, whatever the overlay file holds.
+pub record RunsPlainTo (exe input : List ℕ) (m : ℕ) (end : Managed) : Type 0 where
+  pub name : List ℕ
+  pub held : Option (List ℕ)
+  pub buffer : Option ℕ
+  pub state : State
+  pub manager : Manager
+  pub opened : IsOpened exe name held buffer state manager
+  pub bytes : List ℕ
+  pub runs : ManagedRuns bytes m (begun state manager input) end
 
 -- With whatever buffer the executable is opened, each run of it on an input of bytes follows the meaning; and it is opened wherever it fits.
 pub record IsCorrectPlain (rate : ℕ) (program : Program) (exe : List ℕ) : Type 0 where
@@ -52,6 +65,9 @@ pub record IsCorrectPlain (rate : ℕ) (program : Program) (exe : List ℕ) : Ty
       → (state : State) × (manager : Manager) × IsOpened exe name held buffer state manager
   pub follows : (name : List ℕ) (held : Option (List ℕ)) (buffer : Option ℕ) (state : State) (manager : Manager) → IsOpened exe name held buffer state manager
       → (input bytes : List ℕ) → AreBytes input → FollowsPlain rate program input bytes (begun state manager input)
+  -- with all buffers it comes to the same output, errors and end
+  pub one_end : (input : List ℕ) → AreBytes input → IsDefined program input → (m k : ℕ) (end other : Managed) → RunsPlainTo exe input m end → RunsPlainTo exe input k other
+      → IsOver (shown end.process).end → IsOver (shown other.process).end → shown end.process ≡ shown other.process
 
 -- ---- programs with overlaid units
 

@@ -6,7 +6,8 @@ ghost use Rattle.program_typing.specs.programs.WellTyped.{IsWellTyped};
 ghost use Rattle.compiler_correctness.specs.Runs.{Files};
 ghost use Rattle.compiler_correctness.specs.Hypotheses.{IsBuiltPlain, plain_rate, IsBuilt, overlaid_rate};
 ghost use Rattle.compiler_correctness.specs.Correct.{IsCorrectPlain, IsCorrect};
-ghost use Rattle.compiler_correctness.specs.Slice.{SliceFollows};
+ghost use Rattle.compiler_correctness.specs.Compiler.{Compiler, CompilerLaws, PlainTheorem, OverlaidTheorem, RingLaw, RunTheorem};
+ghost use Rattle.compiler_correctness.specs.Slice.{SliceFollows, SliceStands};
 ghost use Rattle.compiler_correctness.specs.Tables.{Tabled, TabledRuns};
 
 use code_simulation::start::start_law;
@@ -30,6 +31,7 @@ pub fn plain_program_law()
     run_law();
     plain_law();
     plain_opening_law();
+    meaning_laws();
     sound_program_laws();
 }
 
@@ -47,6 +49,16 @@ pub fn overlaid_program_law()
     sound_program_laws();
 }
 
+/// The theorems of a whole compiler, from the laws of its parts: without overlaid units, with them, and of what the ring chooses.
+pub fn compiler_law()
+    ensures plain { (c : Compiler) → CompilerLaws c → PlainTheorem c }
+    ensures overlaid { (c : Compiler) → CompilerLaws c → OverlaidTheorem c }
+    ensures run { (c : Compiler) → CompilerLaws c → RingLaw → RunTheorem c }
+{
+    plain_program_law();
+    overlaid_program_law();
+}
+
 /// A run by given tables has one outcome after so many events.
 pub fn tabled_run_law()
     ensures { (bytes : List ℕ) (n : ℕ) (p q r : Tabled) → TabledRuns bytes n p q → TabledRuns bytes n p r → q ≡ r }
@@ -55,7 +67,9 @@ pub fn tabled_run_law()
 }
 
 /// What is asked of the lowering can be met: by a program of two units, the first of which has a part that is called at the start,
-/// through a stub that refuses it where the unit is overlaid; the second takes a turn and ends with an error.
+/// through a stub that refuses it where the unit is overlaid; the second takes a turn and ends with an error. There are places for
+/// its parts, of which this can be asked.
 pub fn slice_law()
-    ensures { SliceFollows }
+    ensures follows { SliceFollows }
+    ensures stands { SliceStands }
 {}

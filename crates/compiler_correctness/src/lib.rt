@@ -3,4 +3,4 @@
 
 mod laws;
 
-pub use laws::{overlaid_program_law, plain_program_law, slice_law, tabled_run_law};
+pub use laws::{compiler_law, overlaid_program_law, plain_program_law, slice_law, tabled_run_law};

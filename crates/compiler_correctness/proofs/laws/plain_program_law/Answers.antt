@@ -10,5 +10,6 @@ returns c = λ program exe typed built. correct_plain
       once = c.run_law-2.ensures.one;
       plain = record { only = c.plain_law.ensures.only; all = c.plain_law.ensures.all };
       opening = c.plain_opening_law.ensures.opened;
+      runs = c.meaning_laws.ensures.runs;
     })
     program exe (c.sound_program_laws.ensures.all program typed) built
