@@ -1,0 +1,4 @@
+pub mod Parts
+pub mod Frames
+pub mod Homes
+pub mod Sorts
