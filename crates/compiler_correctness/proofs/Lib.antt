@@ -1,0 +1,12 @@
+pub mod Events
+pub mod Written
+pub mod Backward
+pub mod Tabled
+pub mod Seating
+pub mod Costs
+pub mod Chain
+pub mod Plain
+pub mod Overlaid
+pub mod Compilers
+pub mod Slices
+pub mod SlicePlaces

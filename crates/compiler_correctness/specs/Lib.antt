@@ -1,0 +1,6 @@
+pub mod Runs
+pub mod Tables
+pub mod Hypotheses
+pub mod Correct
+pub mod Compiler
+pub mod Slice

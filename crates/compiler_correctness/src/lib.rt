@@ -1,0 +1,6 @@
+//! The theorem of the compiler, over what its parts promise: the files that are linked from a well-typed program do what it means.
+#![tactic(auto)]
+
+mod laws;
+
+pub use laws::{compiler_law, overlaid_program_law, plain_program_law, slice_law, tabled_run_law};
