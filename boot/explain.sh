@@ -158,7 +158,7 @@ explain_words() {
 
 # Runs the program with `words`. Where standard error is a terminal, or TP_EXPLAIN is 1, explains behind what it wrote its last line.
 run_words() {
-    local command source status last
+    local command source tee status last
     case ${TP_EXPLAIN-} in
     1) ;;
     '') [ -t 2 ] || exec "$program" "${words[@]}" ;;
@@ -173,9 +173,12 @@ run_words() {
     fi
     said=$(mktemp 2>/dev/null) || exec "$program" "${words[@]}"
     trap 'rm -f "$said"' EXIT
-    "$program" "${words[@]}" 2> >(exec tee "$said" >&2)
+    exec 4> >(exec tee "$said" >&2)
+    tee=$!
+    "$program" "${words[@]}" 2>&4 4>&-
     status=$?
-    wait $!
+    exec 4>&-
+    wait $tee
     # (only what the program said at its end, and on a line of its own)
     last=$(tail -c 400 "$said" | tr -d '\0\r' | tail -n 1)
     [ "$status" -eq 0 ] || explain_line "$last" >&2

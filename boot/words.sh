@@ -129,7 +129,11 @@ wrong_words() {
     fi
     command=${words[plain[0]]}
     if ! is_among "$commands" "$command"; then
-        near=$(nearest "$commands"$'\nexplain' "$command")
+        case ${command,,} in
+        compile | build | make | tpc | turbo) near='go NAME' ;;
+        check | interpret) near='mean NAME' ;;
+        *) near=$(nearest "$commands"$'\nexplain' "$command") ;;
+        esac
         if [ -n "$(files_like '' "$command.pas")$(files_like '' "$command")" ]; then near="go $command"; fi
         echo "there is no command '$command'; ${near:+did you mean '$near'? }$known"
     elif [ ${#plain[@]} -eq 1 ]; then
