@@ -5,7 +5,6 @@ mod check;
 mod fields;
 mod fitting;
 mod initial;
-mod places;
 mod plain;
 mod written;
 

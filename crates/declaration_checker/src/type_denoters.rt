@@ -6,11 +6,9 @@ mod denoters;
 mod enumerations;
 mod fields;
 mod laws;
-mod places;
 mod promises;
 
 pub use additions::{added, entered};
 pub use denoters::{judged_denoter, judged_fields};
 pub use laws::denoter_laws;
-pub use places::first_place;
 pub use promises::Promise;

@@ -5,7 +5,11 @@ pub mod Operators
 pub mod Lexemes
 pub mod Productions
 pub mod Rules
+pub mod DeclarationChoices
+pub mod StatementChoices
 pub mod Choices
+pub mod DeclarationStarts
+pub mod StatementStarts
 pub mod Starts
 pub mod Follows
 pub mod Omissions

@@ -28,3 +28,4 @@ mod word;
 pub use lexer::{one_list, tokens};
 pub use symbol::Symbol;
 pub use token::{Feature, LexError, Switches, Text, Token, TokenKind, TokenList};
+pub use word::reserved_place;

@@ -1,9 +1,9 @@
 //! Words.
 
-ghost use Rattle.std.specs.Prelude.{◌≡◌, nat_eq};
+ghost use Rattle.std.specs.Prelude.{◌≡◌, ◌<◌, IfSome, length, nat_eq, position};
 ghost use Rattle.std.specs.List.{list_any};
 ghost use Rattle.std.specs.Cmp.Lexicographic.{pointwise};
-ghost use Rattle.tp_lexer.specs.Words.{name_of, is_reserved, word_of};
+ghost use Rattle.tp_lexer.specs.Words.{name_of, reserved, is_reserved, word_of};
 
 use crate::token::TokenKind;
 use type_layout::Name;
@@ -60,10 +60,25 @@ const RESERVED: [&[u8]; 48] = [
     b"XOR",
 ];
 
+fn place_among(name: &[u8], words: &[&[u8]]) -> Option<usize>
+    ensures value { result ≡ position (λ word. pointwise nat_eq name.now word.now) words.now }
+    ensures within { IfSome result (λ place. place < length words.now) }
+{
+    words.iter().position(|word| name == *word)
+}
+
 fn is_one_of(name: &[u8], words: &[&[u8]]) -> bool
     ensures { result ≡ list_any (λ word. pointwise nat_eq name.now word.now) words.now }
 {
     words.iter().any(|word| name == *word)
+}
+
+/// The place of a name among the reserved words, which stand in the order of the alphabet.
+pub fn reserved_place(name: &[u8]) -> Option<usize>
+    ensures value { result ≡ position (λ word. pointwise nat_eq name.now word) reserved }
+    ensures within { IfSome result (λ place. place < 48) }
+{
+    place_among(name, &RESERVED)
 }
 
 fn is_reserved(name: &[u8]) -> bool

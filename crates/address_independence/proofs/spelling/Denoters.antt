@@ -24,7 +24,7 @@ use Rattle.tp_check_decl.specs.constant_checker.constant_expressions.Constants a
 use Rattle.tp_check_decl.specs.declaration_checker.headers.Names.{type_named}
 use Rattle.tp_check_decl.specs.declaration_checker.declared.type_denoters.promises.Promise.{Promise}
 use Rattle.tp_check_decl.specs.declaration_checker.type_denoters.Trees.{view_denoter, view_structured, view_denoter_row, view_field_row, view_string, view_target, structured_place}
-use Rattle.tp_check_decl.specs.declaration_checker.type_denoters.Places.{first_place}
+use Rattle.tp_check_decl.specs.syntax_tree.expression_tree.Places.{first_place}
 use Rattle.tp_check_decl.specs.declaration_checker.type_denoters.Additions.{Denoted, denoted, added}
 use Rattle.tp_check_decl.specs.declaration_checker.type_denoters.Denoters as types
 use Rattle.tp_check_decl.specs.declaration_checker.type_denoters.Denoters.{Ground, range_of, enumeration_of, pointer_to, string_of, arrays_of, names_onto, Listed, listed, Indexes, indexes}

@@ -28,7 +28,7 @@ use Rattle.constant_checker.specs.constant_expressions.Values.{number_of, bytes_
 use Rattle.constant_checker.proofs.constant_expressions.ConstantLaws as constant
 use Rattle.constant_checker.specs.declared.typed_constants.written.Written.{Written}
 use Rattle.constant_checker.specs.typed_constants.Trees.{Initial, Initials, Named, value, list, group, no_initials, and_initial, no_named, and_named, count}
-use Rattle.constant_checker.specs.typed_constants.Places.{first_place}
+use Rattle.syntax_tree.specs.expression_tree.Places.{first_place}
 use Rattle.constant_checker.specs.stored_values.Stored.{ordinal_bytes, string_bytes}
 use Rattle.constant_checker.specs.typed_constants.Written.{written_as}
 use Rattle.constant_checker.specs.typed_constants.Initializers.{is_plain, byte_bounds, FitsOrdinal, fits_ordinal, FitsString, fits_string, FitsSet, fits_set, set_fitted, fitted_by, fitted, due_type, element_of, counted_by, counted, fields_in, is_next, behind_next, due_for, placed, ended, grouped_by, grouped, judged, items_judged, fields_judged, first_value}

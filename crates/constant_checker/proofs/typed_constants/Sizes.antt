@@ -19,7 +19,7 @@ use Rattle.typing_rules.specs.Sorts.{sort_of_type}
 use Rattle.constant_checker.specs.constant_expressions.Values.{number_of, bytes_of, elements_of}
 use Rattle.constant_checker.specs.declared.typed_constants.written.Written.{Written}
 use Rattle.constant_checker.specs.typed_constants.Trees.{Initial, Initials, Named, value, list, group, no_initials, and_initial, no_named, and_named, count}
-use Rattle.constant_checker.specs.typed_constants.Places.{first_place}
+use Rattle.syntax_tree.specs.expression_tree.Places.{first_place}
 use Rattle.constant_checker.specs.stored_values.Stored.{ordinal_bytes, string_bytes}
 use Rattle.constant_checker.proofs.stored_values.Sizes.{whole as stored}
 use Rattle.constant_checker.specs.typed_constants.Initializers.{set_fitted, fitted_by, fitted, due_type, element_of, counted_by, counted, fields_in, is_next, behind_first, behind_next, first_type, due_for, placed, ended, grouped_by, grouped, is_plain, judged, items_judged, fields_judged}

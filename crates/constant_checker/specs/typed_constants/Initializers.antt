@@ -23,7 +23,7 @@ use Rattle.typing_rules.specs.Plans.{AreOfOneHost, are_of_one_host, IsText, is_t
 use Rattle.constant_checker.specs.constant_expressions.Values.{number_of, bytes_of, elements_of}
 use Rattle.constant_checker.specs.declared.typed_constants.written.Written.{Written}
 use Rattle.constant_checker.specs.typed_constants.Trees.{Initial, Initials, Named, value, list, group, no_initials, and_initial, no_named, and_named, count}
-use Rattle.constant_checker.specs.typed_constants.Places.{first_place}
+use Rattle.syntax_tree.specs.expression_tree.Places.{first_place}
 use Rattle.constant_checker.specs.stored_values.Stored.{ordinal_bytes, string_bytes}
 use Rattle.constant_checker.specs.typed_constants.Written.{written_as}
 

@@ -11,12 +11,12 @@ use crate::typed_constants::fields::{
     behind_next, due_for, element_due, ended, fields_due, grouped, placed,
 };
 use crate::typed_constants::fitting::{counted, fitted};
-use crate::typed_constants::places::first_place;
 use crate::typed_constants::plain::is_plain;
 use crate::typed_constants::written::written_as;
 use scopes::Scope;
 use std::alloc::Global;
 use syntax_tree::SimpleExpression;
+use syntax_tree::expression_tree::first_place;
 use syntax_tree::type_tree::{FieldValue, Initializer};
 use tp_lexer::Feature;
 use type_layout::{Bytes, Field, Place, TypeId};

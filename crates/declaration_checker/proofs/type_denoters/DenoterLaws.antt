@@ -36,7 +36,7 @@ use Rattle.declaration_checker.specs.headers.Names.{type_named}
 use Rattle.declaration_checker.specs.headers.Headers.{procedure_header, function_header}
 use Rattle.declaration_checker.proofs.headers.HeaderLaws.{tells_not, lawful_type_named, lawful_procedure, lawful_function}
 use Rattle.declaration_checker.specs.type_denoters.Trees.{Denoter, Denoters, Fields, named, range, enumeration, pointer, string, sized, procedure, function, object, array, record_of, set, no_denoters, and_denoter, no_fields, and_fields}
-use Rattle.declaration_checker.specs.type_denoters.Places.{first_place}
+use Rattle.syntax_tree.specs.expression_tree.Places.{first_place}
 use Rattle.declaration_checker.specs.type_denoters.Additions.{is_addable, with_type_of, Denoted, denoted, bytes_of, added, entered}
 use Rattle.declaration_checker.specs.type_denoters.Denoters.{host_of, set_base_of, with_set, followed, range_by, range_of, values_entered, enumerated, enumeration_of, Ground, promise_of, promised, target_of, pointer_to, IsSize, is_size, string_of, IsIndex, is_index, array_of, arrays_of, has_field, is_new, field, names_onto, Listed, Indexes, judged, indexes_judged, fields_judged}
 use Rattle.declaration_checker.proofs.type_denoters.Addable.{tells_rising, tells_within, tells_addable}

@@ -32,7 +32,7 @@ use Rattle.declaration_checker.specs.headers.Names.{type_named}
 use Rattle.declaration_checker.specs.headers.Headers.{procedure_header, function_header}
 use Rattle.declaration_checker.specs.declared.type_denoters.promises.Promise.{Promise}
 use Rattle.declaration_checker.specs.type_denoters.Trees.{Denoter, Denoters, Fields, named, range, enumeration, pointer, string, sized, procedure, function, object, array, record_of, set, no_denoters, and_denoter, no_fields, and_fields}
-use Rattle.declaration_checker.specs.type_denoters.Places.{first_place}
+use Rattle.syntax_tree.specs.expression_tree.Places.{first_place}
 use Rattle.declaration_checker.specs.type_denoters.Additions.{Denoted, denoted, added, entered}
 
 -- ---- subranges

@@ -12,11 +12,11 @@ use crate::type_denoters::additions::added;
 use crate::type_denoters::bounds::{arrays_of, range_of, string_of};
 use crate::type_denoters::enumerations::enumeration_of;
 use crate::type_denoters::fields::add_names;
-use crate::type_denoters::places::first_place;
 use crate::type_denoters::promises::{Promise, target_of};
 use constant_checker::constant_expressions::constant_of;
 use scopes::{STRING, Scope};
 use std::alloc::Global;
+use syntax_tree::expression_tree::first_place;
 use syntax_tree::type_tree::{
     FieldGroup, NamedType, ParameterGroup, PointerTarget, StructuredType, TypeDenoter,
 };

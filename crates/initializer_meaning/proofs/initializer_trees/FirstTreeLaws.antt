@@ -27,7 +27,7 @@ use Rattle.initializer_meaning.proofs.stored_value_laws.Strings.{strings}
 use Rattle.initializer_meaning.proofs.stored_value_laws.Sets.{sets}
 use Rattle.constant_checker.specs.constant_expressions.Values.{number_of, bytes_of, elements_of}
 use Rattle.constant_checker.specs.declared.typed_constants.written.Written.{Written}
-use Rattle.constant_checker.specs.typed_constants.Places.{first_place}
+use Rattle.syntax_tree.specs.expression_tree.Places.{first_place}
 use Rattle.constant_checker.specs.typed_constants.Trees.{Initial, Initials, Named, value, list, group, no_initials, and_initial, no_named, and_named, count}
 use Rattle.constant_checker.specs.typed_constants.Initializers.{set_fitted, fitted_by, fitted, element_of, counted_by, counted, fields_in, behind_first, due_for, placed, ended, grouped_by, grouped, is_plain, judged, items_judged, fields_judged}
 use Rattle.initializer_meaning.specs.initializer_trees.FirstTrees.{IsSetCell, IsCell, IsForked, IsTree, AreElements, AreFields}

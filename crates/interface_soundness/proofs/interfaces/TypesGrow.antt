@@ -23,7 +23,7 @@ use Rattle.front_end.specs.declaration_checker.type_denoters.Trees.{Denoter, Den
 use Rattle.front_end.specs.declaration_checker.type_denoters.Additions.{Denoted, with_type_of, added, entered}
 use Rattle.front_end.specs.typing_rules.Sorts.{sort_of_type}
 use Rattle.front_end.specs.constant_checker.constant_expressions.Values.{number_of}
-use Rattle.front_end.specs.declaration_checker.type_denoters.Places.{first_place}
+use Rattle.front_end.specs.syntax_tree.expression_tree.Places.{first_place}
 use Rattle.front_end.specs.declaration_checker.type_denoters.Denoters.{set_base_of, ground, with_set, range_by, range_of, values_entered, enumeration_of, Ground, string_of, array_of, arrays_of, Listed, Indexes, judged, indexes_judged, fields_judged}
 use Rattle.front_end.specs.declaration_checker.type_parts.Promised.{promises}
 use Rattle.front_end.specs.declaration_checker.type_parts.Objects.{object_allowed}

@@ -1,64 +1,12 @@
 //! Reserved words, symbols and names.
 
-ghost use Rattle.std.specs.Prelude.{◌≡◌, ◌<◌, IfSome, length, nat_eq, position};
-ghost use Rattle.std.specs.Cmp.Lexicographic.{pointwise};
+ghost use Rattle.std.specs.Prelude.{◌≡◌};
 ghost use Rattle.pascal_grammar.specs.lexeme_list.Words.{reserved_kind, symbol_kind, class_of};
 
 use crate::{Kind, NameClass};
-use tp_lexer::Symbol;
+use tp_lexer::{Symbol, reserved_place};
 
-const RESERVED: [&[u8]; 48] = [
-    b"AND",
-    b"ARRAY",
-    b"BEGIN",
-    b"CASE",
-    b"CONST",
-    b"CONSTRUCTOR",
-    b"DESTRUCTOR",
-    b"DIV",
-    b"DO",
-    b"DOWNTO",
-    b"ELSE",
-    b"END",
-    b"FILE",
-    b"FOR",
-    b"FUNCTION",
-    b"GOTO",
-    b"IF",
-    b"IMPLEMENTATION",
-    b"IN",
-    b"INLINE",
-    b"INTERFACE",
-    b"LABEL",
-    b"MOD",
-    b"NIL",
-    b"NOT",
-    b"OBJECT",
-    b"OF",
-    b"OR",
-    b"PACKED",
-    b"PROCEDURE",
-    b"PROGRAM",
-    b"RECORD",
-    b"REPEAT",
-    b"SET",
-    b"SHL",
-    b"SHR",
-    b"STRING",
-    b"THEN",
-    b"TO",
-    b"TYPE",
-    b"UNIT",
-    b"UNTIL",
-    b"USES",
-    b"VAR",
-    b"VIRTUAL",
-    b"WHILE",
-    b"WITH",
-    b"XOR",
-];
-
-// The kinds of the reserved words, in the same order.
+// The kinds of the reserved words, in the order in which the lexer has them.
 const KINDS: [Kind; 48] = [
     Kind::And,
     Kind::Array,
@@ -110,18 +58,11 @@ const KINDS: [Kind; 48] = [
     Kind::Xor,
 ];
 
-fn place_among(name: &[u8], words: &[&[u8]]) -> Option<usize>
-    ensures value { result ≡ position (λ word. pointwise nat_eq name.now word.now) words.now }
-    ensures within { IfSome result (λ place. place < length words.now) }
-{
-    words.iter().position(|word| name == *word)
-}
-
 /// The kind of a reserved word; of another name it is that of a token that can stand nowhere.
 pub fn reserved_kind(name: &[u8]) -> Kind
     ensures { result ≡ reserved_kind name.now }
 {
-    match place_among(name, &RESERVED) {
+    match reserved_place(name) {
         Some(place) => KINDS[place],
         None => Kind::Stray,
     }

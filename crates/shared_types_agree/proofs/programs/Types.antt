@@ -23,7 +23,7 @@ use Rattle.units_well_formed.specs.declaration_checker.type_denoters.Trees.{Deno
 use Rattle.units_well_formed.specs.declaration_checker.type_denoters.Additions.{Denoted, with_type_of, added, entered}
 use Rattle.units_well_formed.specs.typing_rules.Sorts.{sort_of_type}
 use Rattle.units_well_formed.specs.constant_checker.constant_expressions.Values.{number_of}
-use Rattle.units_well_formed.specs.declaration_checker.type_denoters.Places.{first_place}
+use Rattle.units_well_formed.specs.syntax_tree.expression_tree.Places.{first_place}
 use Rattle.units_well_formed.specs.declaration_checker.type_denoters.Denoters.{set_base_of, ground, with_set, range_by, range_of, values_entered, enumeration_of, Ground, string_of, array_of, arrays_of, Listed, Indexes, judged, indexes_judged, fields_judged}
 use Rattle.units_well_formed.specs.declaration_checker.type_parts.Promised.{promises}
 use Rattle.units_well_formed.specs.declaration_checker.type_parts.Objects.{inside, object_allowed}

@@ -22,7 +22,7 @@ use Rattle.tp_check_decl.specs.constant_checker.declared.constant_expressions.co
 use Rattle.tp_check_decl.specs.constant_checker.constant_expressions.Values.{number_of}
 use Rattle.tp_check_decl.specs.declaration_checker.headers.Names.{type_named}
 use Rattle.tp_check_decl.specs.declaration_checker.type_denoters.Trees.{Denoter, Denoters, Fields, named, range, enumeration, pointer, string, sized, procedure, function, object, array, record_of, set, no_denoters, and_denoter, no_fields, and_fields}
-use Rattle.tp_check_decl.specs.declaration_checker.type_denoters.Places.{first_place}
+use Rattle.tp_check_decl.specs.syntax_tree.expression_tree.Places.{first_place}
 use Rattle.tp_check_decl.specs.declaration_checker.type_denoters.Additions.{Denoted, denoted}
 use Rattle.tp_check_decl.specs.declaration_checker.type_denoters.Denoters.{set_base_of, with_set, range_by, range_of, values_entered, enumeration_of, Ground, promise_of, promised, string_of, array_of, arrays_of, Listed, Indexes, judged, indexes_judged, fields_judged}
 use Rattle.tp_check_decl.specs.declaration_checker.type_parts.Promised.{adds, adds_indexes, adds_fields}

@@ -3,7 +3,7 @@ use Rattle.std.specs.Prelude.{Some, None}
 use Rattle.type_layout.specs.declared.texts.Place.{Place}
 use Rattle.syntax_tree.specs.expression_tree.Trees.{Tree, number, text, control, nil, set, call, signed, negated, combined, name, field, index, followed}
 
--- Its first lexeme, but for a parenthesis, with which no first value that is an expression begins.
+-- Its first lexeme, but for a parenthesis: with one neither a bound of a subrange nor an initializer that is an expression begins.
 abbrev pub first_place : Tree → Place
 first_place (number place n) = place
 first_place (text place bytes) = place

@@ -2,10 +2,10 @@
 
 ghost use Rattle.std.specs.Prelude.{◌≡◌};
 ghost use Rattle.syntax_tree.specs.expression_tree.Trees.{view_expression, view_simple, view_term, view_factor, view_designator};
-ghost use Rattle.constant_checker.specs.typed_constants.Places.{first_place};
+ghost use Rattle.syntax_tree.specs.expression_tree.Places.{first_place};
 
-use syntax_tree::expression_tree::begins;
-use syntax_tree::{Designator, Expression, Factor, SimpleExpression, Term};
+use crate::expression_tree::operators::begins;
+use crate::{Designator, Expression, Factor, SimpleExpression, Term};
 use type_layout::Place;
 
 fn first_of_designator(tree: &Designator) -> Place
@@ -31,7 +31,7 @@ fn first_of_expression(tree: &Expression) -> Place
 
 /// The place of the first lexeme of an expression. Parentheses stand nowhere.
 #[cycle(places)]
-pub(crate) fn first_place(tree: &SimpleExpression) -> Place
+pub fn first_place(tree: &SimpleExpression) -> Place
     ensures { result ≡ first_place (view_simple tree.now) }
 {
     match tree {
