@@ -1,4 +1,5 @@
 pub mod Meeting
+pub mod Choosing
 pub mod Predicting
 pub mod Checking
 pub mod Unique

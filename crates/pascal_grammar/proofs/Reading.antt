@@ -14,7 +14,8 @@ use Rattle.pascal_grammar.proofs.Samples.{has_sample, of_asked, always, allowed,
 use Rattle.pascal_grammar.proofs.Somes.{some, joins}
 use Rattle.ll1_grammar.specs.Grammar.{Symbol, token, part, Tree, pair, leaf, head, one_if}
 use Rattle.ll1_grammar.specs.Readers.{Fault, Syntax, LeftOut, ◌>>=◌, Reader, through, made, kept_by, token_at, Below, opened}
-use Rattle.ll1_grammar.proofs.Meeting.{one, all, Meets, AllMeet, AreBelow, IsBelow, AllJoin, token_meets, then, then_within, rest_read, token_found, none_meets, through_meets, node_meets, empty_meets, none_chosen, opened_meets, is_left_out}
+use Rattle.ll1_grammar.proofs.Meeting.{one, all, Meets, AllMeet, AllJoin, token_meets, then, then_within, rest_read, token_found, none_meets, through_meets}
+use Rattle.ll1_grammar.proofs.Choosing.{AreBelow, IsBelow, node_meets, empty_meets, none_chosen, opened_meets, is_left_out}
 
 abbrev pub Reads : Part → ℕ → List Lexeme → Result (Tree Kept Production × List Lexeme) (Fault Production) → Type 0
 Reads n = Meets grammar Follow (one grammar Follow (part n))

@@ -12,7 +12,8 @@ use Rattle.pascal_grammar.proofs.Tables.{Follow, accepted, known, followed, pred
 use Rattle.pascal_grammar.proofs.Samples.{Some_, has_sample, of_asked, always, allowed}
 use Rattle.ll1_grammar.proofs.Checking.{and, first_of, second_of}
 use Rattle.ll1_grammar.specs.Grammar.{Symbol, token, part, node, nil, Belongs}
-use Rattle.ll1_grammar.proofs.Meeting.{one, AllJoin, node_begun, Begun-none}
+use Rattle.ll1_grammar.proofs.Meeting.{one, AllJoin, Begun-none}
+use Rattle.ll1_grammar.proofs.Choosing.{node_begun}
 use Rattle.ll1_grammar.proofs.Predicting.{AllBegun, RestBegun, list_begun, all_join, rest_of}
 
 abbrev Begun_ : List (Symbol Asked Part) → Type 0

@@ -15,7 +15,8 @@ use Rattle.pascal_grammar.proofs.Samples.{always, allowed}
 use Rattle.pascal_grammar.proofs.Reading.{Reads, front_is}
 use Rattle.ll1_grammar.specs.Grammar.{Symbol, token, part, nil, pair, leaf, node, one_if}
 use Rattle.ll1_grammar.specs.Readers.{Fault, ◌>>=◌, Reader, through, made, kept_by, token_at}
-use Rattle.ll1_grammar.proofs.Meeting.{one, all, Meets, AllJoin, then, then_within, rest_read, token_found, token_known, none_meets, node_meets}
+use Rattle.ll1_grammar.proofs.Meeting.{one, all, Meets, AllJoin, then, then_within, rest_read, token_found, token_known, none_meets}
+use Rattle.ll1_grammar.proofs.Choosing.{node_meets}
 use Rattle.syntax_tree.specs.Expressions.{Parsed, of}
 
 abbrev pub Outcome : Type 0

@@ -14,7 +14,8 @@ use Rattle.pascal_grammar.proofs.Samples.{always, allowed}
 use Rattle.pascal_grammar.proofs.Reading.{Reads, front_is}
 use Rattle.ll1_grammar.specs.Grammar.{Symbol, token, part, pair, leaf, node, size, one_if}
 use Rattle.ll1_grammar.specs.Readers.{◌>>=◌, Reader, through, made, opened, kept_by, token_at}
-use Rattle.ll1_grammar.proofs.Meeting.{one, all, Meets, AllJoin, then_within, rest_read, token_found, node_meets}
+use Rattle.ll1_grammar.proofs.Meeting.{one, all, Meets, AllJoin, then_within, rest_read, token_found}
+use Rattle.ll1_grammar.proofs.Choosing.{node_meets}
 use Rattle.syntax_tree.specs.Expressions.{Parsed}
 use Rattle.expression_parser.specs.Gives.{Inside}
 use Rattle.type_parser.proofs.parameter_parser.Behind.{Outcome, last_part, then_read}

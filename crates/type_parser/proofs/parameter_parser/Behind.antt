@@ -15,7 +15,8 @@ use Rattle.pascal_grammar.proofs.Reading.{Reads, AllRead, AreRead, front_is, lef
 use Rattle.pascal_grammar.proofs.Somes.{some}
 use Rattle.ll1_grammar.specs.Grammar.{Symbol, token, part, nil, pair, leaf, node, one_if, head, front, Fit, Fits, Belongs, BelongsOr}
 use Rattle.ll1_grammar.specs.Readers.{Fault, Syntax, LeftOut, TooDeep, ◌>>=◌, Reader, through, made, opened, kept_by, token_at}
-use Rattle.ll1_grammar.proofs.Meeting.{one, all, Meets, Joins, AllJoin, IsBelow, MayFollow, Stopped, Denies, Denies-left, GoesOn, Begun-part, front_append, regroup, then, then_within, rest_read, token_found, none_meets, node_meets, wrong}
+use Rattle.ll1_grammar.proofs.Meeting.{one, all, Meets, Joins, AllJoin, MayFollow, Stopped, Denies, Denies-left, GoesOn, Begun-part, front_append, regroup, then, then_within, rest_read, token_found, none_meets, wrong}
+use Rattle.ll1_grammar.proofs.Choosing.{IsBelow, node_meets}
 use Rattle.syntax_tree.specs.Expressions.{Parsed}
 use Rattle.expression_parser.specs.Gives.{Inside, ask}
 use Rattle.expression_parser.specs.Gives as g
