@@ -1,3 +1,4 @@
+pub mod Choosing
 pub mod Commas
 pub mod Exact
 pub mod Fronts

@@ -28,6 +28,7 @@ use Rattle.expression_parser.specs.Gives as g
 use Rattle.expression_parser.specs.Reading.{begins, tail_of, placed, placed_sign, relator_at, adder_at, multiplier_at, sign_found, optional_sign_at, sign_at, field_at, index_at, dereference_at, selectors_by, selectors_at, more_indexes_by, more_indexes_at, named_at, group_at, negation_at, set_at, arguments_at, argument_end_by, argument_end_at, call_by, call_at, named_factor_at, control_at, plain_by, closed_by, closed_factor_at, wrapped, factor_by, factor_at, factors_by, factors_at, term_at, terms_by, terms_at, simple_by, simple_at, relation_by, relation_at, expression_at, element_end_by, element_at, argument_width_by, argument_at, list_from, more_elements_at, elements_by, elements_at, more_arguments_at, expression_parts, inside}
 use Rattle.expression_parser.specs.declared.lookahead.FactorStart.TheVariants as factor
 use Rattle.expression_parser.specs.Starting.{selector_start, factor_start, closed_start, plain_start}
+use Rattle.expression_parser.proofs.Choosing.{at_kind, at_all, accepted_word, sign_some, sign_none, no_comma, no_open, more_factors_by, no_factors_by, no_factors, more_terms_by, no_terms_by, no_terms, signed_by, unsigned_by, signed, unsigned, related_by, unrelated_by, related, unrelated, no_dots, dots, no_colon, colon, closing}
 use Rattle.expression_parser.proofs.Shapes.{begins_is, same_kind, word_asked, relator_asked, adder_asked, multiplier_asked, sign_asked, first_read, second_read, pair_read, operator_read}
 
 -- what the readers of fewer constructs read
@@ -44,37 +45,7 @@ Held n.argument = Unit {0}
 Held n.more_arguments = Unit {0}
 Held m = ⊥
 
--- the choice at a lexeme of which the kind is known
-at_kind : (m : Part) (x : Lexeme) (k : Kind) (o : Option Production) → kind_of x ≡ k → choose_by m k ≡ o → choose m (Some (kind_of x)) ≡ o
-at_kind m x k o e c = ap (choose_by m) e ∙ c
-
--- the choice of a part of one production
-at_all : (m : Part) (o : Option Production) → choose_at_end m ≡ o → ((x : Kind) → choose_by m x ≡ o) → (h : Option Kind) → choose m h ≡ o
-at_all m o e f None = e
-at_all m o e f (Some x) = f x
-
-accepted_word : (x : Lexeme) (k want : Kind) → kind_of x ≡ k → same k want ≡ true → same (kind_of x) want ≡ true
-accepted_word x k want e s = ap (λ (z : Kind). same z want) e ∙ s
-
 -- ---- signs
-
-sign_some : (ts : List Lexeme) (s : PlacedSign) → sign_found ts ≡ Some s → choose n.sign (front_kind ts) ≡ Some p.sign
-sign_some [] s e = absurd cc
-sign_some (x ∷ xs) s e = by (kind_of x) x.position e
-  where
-    by : (y : Kind) (here : Position) → placed_sign (sign_of y) here ≡ Some s → choose_by n.sign y ≡ Some p.sign
-    by k.Plus here e = refl
-    by k.Minus here e = refl
-    by y here e = absurd cc
-
-sign_none : (ts : List Lexeme) → sign_found ts ≡ None → choose n.sign (front_kind ts) ≡ Some p.no_sign
-sign_none [] e = refl
-sign_none (x ∷ xs) e = by (kind_of x) x.position e
-  where
-    by : (y : Kind) (here : Position) → placed_sign (sign_of y) here ≡ None → choose_by n.sign y ≡ Some p.no_sign
-    by k.Plus here e = absurd cc
-    by k.Minus here e = absurd cc
-    by y here e = refl
 
 pub sign_reads : (d : ℕ) (ts : List Lexeme) → Reads n.sign d ts (sign_at ts)
 unfolding optional_sign_at
@@ -113,14 +84,6 @@ module _ (d : ℕ) (b : Inside) (h : AreRead Held d b) where
   unfolding selectors_by field_at index_at dereference_at
   selectors_reads [] = empty p.no_selectors d [] refl refl refl refl refl
   selectors_reads (x ∷ ts) = selectors_by_kind x ts (kind_of x) refl
-
-  no_comma : (ts : List Lexeme) → begins k.Comma ts ≡ false → choose n.more_indexes (front_kind ts) ≡ Some p.last_index
-  no_comma [] e = refl
-  no_comma (x ∷ ts) e = by (kind_of x) e
-    where
-      by : (y : Kind) → same y k.Comma ≡ false → choose_by n.more_indexes y ≡ Some p.last_index
-      by k.Comma e = absurd cc
-      by y e = refl
 
   pub more_indexes_reads : (ts : List Lexeme) → Reads n.more_indexes d ts (more_indexes_at b ts)
   unfolding more_indexes_by
@@ -188,14 +151,6 @@ module _ (d : ℕ) (b : Inside) (h : AreRead Held d b) where
   arguments_reads x ts e = opens Held p.arguments x ts (at_kind n.arguments x k.Open _ e refl) refl refl refl (q.word k.Open) (part n.argument ∷ part n.more_arguments ∷ token (q.word k.Close) ∷ []) refl (joins p.arguments) (accepted_word x k.Open k.Open e refl)
       (λ e l. l n.argument ∷ l n.more_arguments ∷ ask (q.word k.Close) ∷ []) d b h (λ e l m. (m.meets n.argument tt, (m.meets n.more_arguments tt, (asked (q.word k.Close) refl e, tt))))
 
-  no_open : (ts : List Lexeme) → begins k.Open ts ≡ false → choose n.call (front_kind ts) ≡ Some p.no_call
-  no_open [] e = refl
-  no_open (x ∷ ts) e = by (kind_of x) e
-    where
-      by : (y : Kind) → same y k.Open ≡ false → choose_by n.call y ≡ Some p.no_call
-      by k.Open e = absurd cc
-      by y e = refl
-
   pub call_reads : (ts : List Lexeme) → Reads n.call d ts (call_at b ts)
   unfolding call_by
   call_reads ts = by (begins k.Open ts) refl
@@ -236,34 +191,11 @@ module _ (d : ℕ) (b : Inside) (h : AreRead Held d b) where
   multiplied_reads x ts e = opens Held p.multiplied x ts refl refl refl refl q.multiplier (part n.sign ∷ part n.factor ∷ part n.factors ∷ []) refl (joins p.multiplied) e
       (λ e l. sign_at ∷ l n.factor ∷ l n.factors ∷ []) d b h (λ e l m. (sign_reads e, (m.meets n.factor tt, (m.meets n.factors tt, tt))))
 
-  more_factors_by : (x : Lexeme) (ts : List Lexeme) (y : Kind) (o : Multiplier × Position) → kind_of x ≡ y → placed (multiplier_of y) x.position ≡ Some o → (choose n.factors (Some (kind_of x)) ≡ Some p.more_factors) × (is_multiplier (kind_of x) ≡ true)
-  more_factors_by x ts k.Times o e a = (at_kind n.factors x k.Times _ e refl, ap is_multiplier e)
-  more_factors_by x ts k.Div o e a = (at_kind n.factors x k.Div _ e refl, ap is_multiplier e)
-  more_factors_by x ts k.Mod o e a = (at_kind n.factors x k.Mod _ e refl, ap is_multiplier e)
-  more_factors_by x ts k.And o e a = (at_kind n.factors x k.And _ e refl, ap is_multiplier e)
-  more_factors_by x ts k.Shl o e a = (at_kind n.factors x k.Shl _ e refl, ap is_multiplier e)
-  more_factors_by x ts k.Shr o e a = (at_kind n.factors x k.Shr _ e refl, ap is_multiplier e)
-  more_factors_by x ts y o e a = absurd cc
-
   more_factors_reads : (ts : List Lexeme) (o : Multiplier × Position) → multiplier_at ts ≡ Some o → Reads n.factors d ts (made p.more_factors (opened p.multiplied (λ e l. ask q.multiplier ∷ sign_at ∷ l n.factor ∷ l n.factors ∷ []) b ∷ []) ts)
   more_factors_reads [] o e = absurd cc
   more_factors_reads (x ∷ ts) o e =
       let a = more_factors_by x ts (kind_of x) o refl e in
       begun p.more_factors d (x ∷ ts) a.0 refl refl refl (part n.multiplied) [] refl (joins p.more_factors) (opened p.multiplied (λ e l. ask q.multiplier ∷ sign_at ∷ l n.factor ∷ l n.factors ∷ []) b) [] (multiplied_reads x ts a.1) tt
-
-  no_factors_by : (x : Lexeme) (y : Kind) → kind_of x ≡ y → placed (multiplier_of y) x.position ≡ None → same y k.Slash ≡ false → choose n.factors (Some (kind_of x)) ≡ Some p.no_factors
-  no_factors_by x k.Times e a c = absurd cc
-  no_factors_by x k.Div e a c = absurd cc
-  no_factors_by x k.Mod e a c = absurd cc
-  no_factors_by x k.And e a c = absurd cc
-  no_factors_by x k.Shl e a c = absurd cc
-  no_factors_by x k.Shr e a c = absurd cc
-  no_factors_by x k.Slash e a c = absurd cc
-  no_factors_by x y e a c = at_kind n.factors x y _ e refl
-
-  no_factors : (ts : List Lexeme) → multiplier_at ts ≡ None → begins k.Slash ts ≡ false → choose n.factors (front_kind ts) ≡ Some p.no_factors
-  no_factors [] a c = refl
-  no_factors (x ∷ ts) a c = no_factors_by x (kind_of x) refl a c
 
   factors_with : (ts : List Lexeme) (o : Option (Multiplier × Position)) (c : Bool) → multiplier_at ts ≡ o → begins k.Slash ts ≡ c → Reads n.factors d ts (factors_by o c b ts)
   unfolding factors_by
@@ -287,29 +219,11 @@ module _ (d : ℕ) (b : Inside) (h : AreRead Held d b) where
   added_reads x ts e = opens Held p.added x ts refl refl refl refl q.adder (part n.sign ∷ part n.term ∷ part n.terms ∷ []) refl (joins p.added) e
       (λ e l. sign_at ∷ l n.term ∷ l n.terms ∷ []) d b h (λ e l m. (sign_reads e, (m.meets n.term tt, (m.meets n.terms tt, tt))))
 
-  more_terms_by : (x : Lexeme) (ts : List Lexeme) (y : Kind) (o : Adder × Position) → kind_of x ≡ y → placed (adder_of y) x.position ≡ Some o → (choose n.terms (Some (kind_of x)) ≡ Some p.more_terms) × (is_adder (kind_of x) ≡ true)
-  more_terms_by x ts k.Plus o e a = (at_kind n.terms x k.Plus _ e refl, ap is_adder e)
-  more_terms_by x ts k.Minus o e a = (at_kind n.terms x k.Minus _ e refl, ap is_adder e)
-  more_terms_by x ts k.Or o e a = (at_kind n.terms x k.Or _ e refl, ap is_adder e)
-  more_terms_by x ts k.Xor o e a = (at_kind n.terms x k.Xor _ e refl, ap is_adder e)
-  more_terms_by x ts y o e a = absurd cc
-
   more_terms_reads : (ts : List Lexeme) (o : Adder × Position) → adder_at ts ≡ Some o → Reads n.terms d ts (made p.more_terms (opened p.added (λ e l. ask q.adder ∷ sign_at ∷ l n.term ∷ l n.terms ∷ []) b ∷ []) ts)
   more_terms_reads [] o e = absurd cc
   more_terms_reads (x ∷ ts) o e =
       let a = more_terms_by x ts (kind_of x) o refl e in
       begun p.more_terms d (x ∷ ts) a.0 refl refl refl (part n.added) [] refl (joins p.more_terms) (opened p.added (λ e l. ask q.adder ∷ sign_at ∷ l n.term ∷ l n.terms ∷ []) b) [] (added_reads x ts a.1) tt
-
-  no_terms_by : (x : Lexeme) (y : Kind) → kind_of x ≡ y → placed (adder_of y) x.position ≡ None → choose n.terms (Some (kind_of x)) ≡ Some p.no_terms
-  no_terms_by x k.Plus e a = absurd cc
-  no_terms_by x k.Minus e a = absurd cc
-  no_terms_by x k.Or e a = absurd cc
-  no_terms_by x k.Xor e a = absurd cc
-  no_terms_by x y e a = at_kind n.terms x y _ e refl
-
-  no_terms : (ts : List Lexeme) → adder_at ts ≡ None → choose n.terms (front_kind ts) ≡ Some p.no_terms
-  no_terms [] a = refl
-  no_terms (x ∷ ts) a = no_terms_by x (kind_of x) refl a
 
   terms_with : (ts : List Lexeme) (o : Option (Adder × Position)) → adder_at ts ≡ o → Reads n.terms d ts (terms_by o b ts)
   unfolding terms_by
@@ -318,24 +232,6 @@ module _ (d : ℕ) (b : Inside) (h : AreRead Held d b) where
 
   pub terms_reads : (ts : List Lexeme) → Reads n.terms d ts (terms_at b ts)
   terms_reads ts = terms_with ts (adder_at ts) refl
-
-  signed_by : (x : Lexeme) (y : Kind) (s : PlacedSign) → kind_of x ≡ y → placed_sign (sign_of y) x.position ≡ Some s → choose n.simple (Some (kind_of x)) ≡ Some p.signed
-  signed_by x k.Plus s e a = at_kind n.simple x k.Plus _ e refl
-  signed_by x k.Minus s e a = at_kind n.simple x k.Minus _ e refl
-  signed_by x y s e a = absurd cc
-
-  unsigned_by : (x : Lexeme) (y : Kind) → kind_of x ≡ y → placed_sign (sign_of y) x.position ≡ None → choose n.simple (Some (kind_of x)) ≡ Some p.unsigned
-  unsigned_by x k.Plus e a = absurd cc
-  unsigned_by x k.Minus e a = absurd cc
-  unsigned_by x y e a = at_kind n.simple x y _ e refl
-
-  signed : (ts : List Lexeme) (s : PlacedSign) → sign_found ts ≡ Some s → choose n.simple (front_kind ts) ≡ Some p.signed
-  signed [] s e = absurd cc
-  signed (x ∷ ts) s e = signed_by x (kind_of x) s refl e
-
-  unsigned : (ts : List Lexeme) → sign_found ts ≡ None → choose n.simple (front_kind ts) ≡ Some p.unsigned
-  unsigned [] e = refl
-  unsigned (x ∷ ts) e = unsigned_by x (kind_of x) refl e
 
   simple_with : (ts : List Lexeme) (o : Option PlacedSign) → sign_found ts ≡ o → Reads n.simple d ts (simple_by o b ts)
   unfolding simple_by
@@ -347,34 +243,6 @@ module _ (d : ℕ) (b : Inside) (h : AreRead Held d b) where
   simple_reads ts = simple_with ts (sign_found ts) refl
 
   -- ---- expressions
-
-  related_by : (x : Lexeme) (y : Kind) (o : Relator × Position) → kind_of x ≡ y → placed (relator_of y) x.position ≡ Some o → choose n.relation (Some (kind_of x)) ≡ Some p.relation
-  related_by x k.Equal o e a = at_kind n.relation x k.Equal _ e refl
-  related_by x k.Unequal o e a = at_kind n.relation x k.Unequal _ e refl
-  related_by x k.Less o e a = at_kind n.relation x k.Less _ e refl
-  related_by x k.Greater o e a = at_kind n.relation x k.Greater _ e refl
-  related_by x k.AtMost o e a = at_kind n.relation x k.AtMost _ e refl
-  related_by x k.AtLeast o e a = at_kind n.relation x k.AtLeast _ e refl
-  related_by x k.In o e a = at_kind n.relation x k.In _ e refl
-  related_by x y o e a = absurd cc
-
-  unrelated_by : (x : Lexeme) (y : Kind) → kind_of x ≡ y → placed (relator_of y) x.position ≡ None → choose n.relation (Some (kind_of x)) ≡ Some p.no_relation
-  unrelated_by x k.Equal e a = absurd cc
-  unrelated_by x k.Unequal e a = absurd cc
-  unrelated_by x k.Less e a = absurd cc
-  unrelated_by x k.Greater e a = absurd cc
-  unrelated_by x k.AtMost e a = absurd cc
-  unrelated_by x k.AtLeast e a = absurd cc
-  unrelated_by x k.In e a = absurd cc
-  unrelated_by x y e a = at_kind n.relation x y _ e refl
-
-  related : (ts : List Lexeme) (o : Relator × Position) → relator_at ts ≡ Some o → choose n.relation (front_kind ts) ≡ Some p.relation
-  related [] o e = absurd cc
-  related (x ∷ ts) o e = related_by x (kind_of x) o refl e
-
-  unrelated : (ts : List Lexeme) → relator_at ts ≡ None → choose n.relation (front_kind ts) ≡ Some p.no_relation
-  unrelated [] e = refl
-  unrelated (x ∷ ts) e = unrelated_by x (kind_of x) refl e
 
   relation_with : (ts : List Lexeme) (o : Option (Relator × Position)) → relator_at ts ≡ o → Reads n.relation d ts (relation_by o b ts)
   unfolding relation_by
@@ -388,17 +256,6 @@ module _ (d : ℕ) (b : Inside) (h : AreRead Held d b) where
 
   -- ---- elements and arguments
 
-  no_dots : (ts : List Lexeme) → begins k.Dots ts ≡ false → choose n.element_end (front_kind ts) ≡ Some p.single_element
-  no_dots [] e = refl
-  no_dots (x ∷ ts) e = by (kind_of x) e
-    where
-      by : (y : Kind) → same y k.Dots ≡ false → choose_by n.element_end y ≡ Some p.single_element
-      by k.Dots e = absurd cc
-      by y e = refl
-
-  dots : (ts : List Lexeme) → begins k.Dots ts ≡ true → choose n.element_end (front_kind ts) ≡ Some p.element_range
-  dots ts e = let i = begins_is k.Dots ts e in subst (λ (us : List Lexeme). choose n.element_end (front_kind us) ≡ Some p.element_range) (sym i.2) (at_kind n.element_end i.0 k.Dots _ i.3 refl)
-
   element_end_with : (ts : List Lexeme) (c : Bool) → begins k.Dots ts ≡ c → Reads n.element_end d ts (element_end_by c b ts)
   unfolding element_end_by
   element_end_with ts true e = plain p.element_range d ts (dots ts e) refl refl refl (ask (q.word k.Dots) ∷ expression_at b ∷ []) (asked (q.word k.Dots) refl d, (expression_reads, tt))
@@ -407,17 +264,6 @@ module _ (d : ℕ) (b : Inside) (h : AreRead Held d b) where
   pub element_reads : (ts : List Lexeme) → Reads n.element d ts (element_at b ts)
   unfolding element_at
   element_reads ts = plain p.element d ts (at_all n.element (Some p.element) refl (λ x. refl) (front_kind ts)) refl refl refl (expression_at b ∷ (λ us. element_end_by (begins k.Dots us) b us) ∷ []) (expression_reads, ((λ us. element_end_with us (begins k.Dots us) refl), tt))
-
-  no_colon : (ts : List Lexeme) → begins k.Colon ts ≡ false → choose n.argument_width (front_kind ts) ≡ Some p.no_width
-  no_colon [] e = refl
-  no_colon (x ∷ ts) e = by (kind_of x) e
-    where
-      by : (y : Kind) → same y k.Colon ≡ false → choose_by n.argument_width y ≡ Some p.no_width
-      by k.Colon e = absurd cc
-      by y e = refl
-
-  colon : (ts : List Lexeme) → begins k.Colon ts ≡ true → choose n.argument_width (front_kind ts) ≡ Some p.width
-  colon ts e = let i = begins_is k.Colon ts e in subst (λ (us : List Lexeme). choose n.argument_width (front_kind us) ≡ Some p.width) (sym i.2) (at_kind n.argument_width i.0 k.Colon _ i.3 refl)
 
   argument_width_with : (ts : List Lexeme) (c : Bool) → begins k.Colon ts ≡ c → Reads n.argument_width d ts (argument_width_by c b ts)
   unfolding argument_width_by
@@ -480,17 +326,6 @@ module _ (d : ℕ) (b : Inside) (h : AreRead Held d b) where
 
   pub more_arguments_reads : (ts : List Lexeme) → Reads n.more_arguments d ts (more_arguments_at b ts)
   more_arguments_reads ts = arguments_from (length ts) ts (omega arith)
-
-  closing : (ts : List Lexeme) (c : Bool) → begins k.CloseBracket ts ≡ c → choose n.elements (front_kind ts) ≡ (if c then Some p.no_elements else Some p.elements)
-  closing [] true e = absurd cc
-  closing [] false e = refl
-  closing (x ∷ ts) c e = by (kind_of x) c e
-    where
-      by : (y : Kind) (c : Bool) → same y k.CloseBracket ≡ c → choose_by n.elements y ≡ (if c then Some p.no_elements else Some p.elements)
-      by k.CloseBracket true e = refl
-      by k.CloseBracket false e = absurd cc
-      by y true e = absurd cc
-      by y false e = refl
 
   elements_with : (ts : List Lexeme) (c : Bool) → begins k.CloseBracket ts ≡ c → Reads n.elements d ts (elements_by c b ts)
   unfolding elements_by
