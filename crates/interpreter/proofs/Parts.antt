@@ -3,25 +3,27 @@ use Rattle.std.proofs.Common.{◌≡◌, ℕ, List, refl, sym, ap, subst, ◌∙
 use Rattle.std.specs.Prelude.{ℤ, Bool, Result, Ok}
 use Rattle.typed_tree.specs.declared.units.Program.{Program}
 use Rattle.typed_tree.specs.declared.statements.Destructor.{Destructor}
-use Rattle.typed_tree.specs.Expressions.{Expression, Arguments}
+use Rattle.typed_tree.specs.Expressions.{Expression}
 use Rattle.typed_tree.specs.Statements.{Written}
 use Rattle.tp_meaning.specs.Trees.{Value}
 use Rattle.tp_meaning.specs.Programs.{Sort, definition}
 use Rattle.tp_meaning.specs.Outcomes.{State, Outcome, Done, Does, and_then, give, found, looked, printed}
 use Rattle.tp_meaning.specs.Activations.{Reached, Activation, whole}
 use Rattle.tp_meaning.specs.Calls.{Flow}
-use Rattle.tp_meaning.specs.Standard.{field_text, text_of, target}
-use Rattle.tp_meaning.specs.Expressions.{operands, sort_of}
-use Rattle.tp_meaning.specs.Statements.{written, line_written, block_of, freed}
+use Rattle.tp_meaning.specs.Store.{followed}
+use Rattle.tp_meaning.specs.Standard.{Operand, field_text, text_of, target}
+use Rattle.tp_meaning.specs.Expressions.{sort_of}
+use Rattle.tp_meaning.specs.Statements.{written, line_written, freed, unmade_at}
 use Rattle.tp_meaning.specs.Meaning.{run}
 use Rattle.interpreter_steps.specs.declared.state.Over.{Over as OverAs}
 use Rattle.interpreter_steps.specs.Running.{Ends}
-use Rattle.interpreter_steps.specs.StatementParts.{printed_in, block_at}
+use Rattle.interpreter_steps.specs.Places.{followed_to}
+use Rattle.interpreter_steps.specs.StatementParts.{printed_in}
 use Rattle.interpreter_steps.proofs.Ends.{ends_bind}
 use Rattle.interpreter_steps.proofs.Entered.{bind_assoc, bind_same}
 use Rattle.interpreter_steps.specs.declared.interpreter_frames.frames.Next.{Next as NextStep}
 use Rattle.interpreter_steps.specs.declared.interpreter_frames.work.Work.{Work}
-use Rattle.interpreter_steps.specs.interpreter_frames.Frames.{printed_then, disposed_with, Goes}
+use Rattle.interpreter_steps.specs.interpreter_frames.Frames.{printed_then, Goes}
 use Rattle.interpreter_steps.proofs.interpreter_frames.Moves.{goes, two_binds}
 
 printed_is : (p : Program) (f : Activation) (sort : Sort) (v : Value) (rest : List Written) (width : ℤ) (s : State)
@@ -57,24 +59,24 @@ three_parts {A} {B} {C} {E} {F} a b c e k =
     bind_assoc (b x s) (three x) k ∙ bind_same (b x s) (λ y t. and_then (three x y t) k) (three' x) (λ y t.
     bind_assoc (c x y t) (last x y) k))
 
--- the destructor's arguments behind the block
-abbrev pub with_arguments : Program → Activation → Destructor → Arguments → Reached → Does Flow
-with_arguments p f destructor args at s = and_then (operands p (run p) f args s) (λ xs. freed p (run p) f destructor xs at.spot.object at)
+-- the destructor of the block at a place is called, and then the block is freed
+abbrev pub freed_by : Program → Activation → Destructor → List Operand → Reached → Does Flow
+freed_by p f destructor xs at s = freed p (run p) f destructor xs at.spot.object at s
 
-disposed_is : (p : Program) (f : Activation) (pointer : Expression) (destructor : Destructor) (args : Arguments) (v : Value) (s : State)
-    → disposed_with p f pointer destructor args v s ≡ and_then (block_at f pointer v s) (with_arguments p f destructor args)
-disposed_is p f pointer destructor args v s =
-    sym (three_parts (looked (block_of v) s) (λ serial. sort_of f pointer) (λ serial sort. found (target sort)) (λ serial sort to. record { spot = whole serial; sort = to })
-    (with_arguments p f destructor args))
+unmade_is : (p : Program) (f : Activation) (pointer : Expression) (destructor : Destructor) (xs : List Operand) (v : Value) (s : State)
+    → unmade_at p (run p) f pointer destructor xs v s ≡ and_then (followed_to f pointer v s) (freed_by p f destructor xs)
+unmade_is p f pointer destructor xs v s =
+    sym (three_parts (looked (λ store. followed store v) s) (λ serial. sort_of f pointer) (λ serial sort. found (target sort)) (λ serial sort to. record { spot = whole serial; sort = to })
+    (freed_by p f destructor xs))
 
-pub moves_disposed : (p : Program) (r : Result NextStep OverAs) (w : Work) (t : State) (f : Activation) (pointer : Expression) (destructor : Destructor) (args : Arguments) (v : Value) (at : Reached) (k : Flow → Does Value) (s : State)
-    → block_at f pointer v s ≡ Done at s → Goes p r w t (and_then (with_arguments p f destructor args at s) k)
-    → Goes p r w t (and_then (disposed_with p f pointer destructor args v s) k)
-moves_disposed p r w t f pointer destructor args v at k s e x =
-    goes p r w t _ _ (ap (λ (o : Outcome Flow). and_then o k) (disposed_is p f pointer destructor args v s ∙ ap (λ (o : Outcome Reached). and_then o (with_arguments p f destructor args)) e)) x
+pub moves_unmade : (p : Program) (r : Result NextStep OverAs) (w : Work) (t : State) (f : Activation) (pointer : Expression) (destructor : Destructor) (xs : List Operand) (v : Value) (at : Reached) (k : Flow → Does Value) (s : State)
+    → followed_to f pointer v s ≡ Done at s → Goes p r w t (and_then (freed_by p f destructor xs at s) k)
+    → Goes p r w t (and_then (unmade_at p (run p) f pointer destructor xs v s) k)
+moves_unmade p r w t f pointer destructor xs v at k s e x =
+    goes p r w t _ _ (ap (λ (o : Outcome Flow). and_then o k) (unmade_is p f pointer destructor xs v s ∙ ap (λ (o : Outcome Reached). and_then o (freed_by p f destructor xs)) e)) x
 
-pub ends_disposed : (over : OverAs) (p : Program) (f : Activation) (pointer : Expression) (destructor : Destructor) (args : Arguments) (v : Value) (k : Flow → Does Value) (s : State)
-    → Ends over s (block_at f pointer v s) → Ends over s (and_then (disposed_with p f pointer destructor args v s) k)
-ends_disposed over p f pointer destructor args v k s x =
-    ends_bind over s (disposed_with p f pointer destructor args v s) k
-    (subst (Ends over s) (sym (disposed_is p f pointer destructor args v s)) (ends_bind over s (block_at f pointer v s) (with_arguments p f destructor args) x))
+pub ends_unmade : (over : OverAs) (p : Program) (f : Activation) (pointer : Expression) (destructor : Destructor) (xs : List Operand) (v : Value) (k : Flow → Does Value) (s : State)
+    → Ends over s (followed_to f pointer v s) → Ends over s (and_then (unmade_at p (run p) f pointer destructor xs v s) k)
+ends_unmade over p f pointer destructor xs v k s x =
+    ends_bind over s (unmade_at p (run p) f pointer destructor xs v s) k
+    (subst (Ends over s) (sym (unmade_is p f pointer destructor xs v s)) (ends_bind over s (followed_to f pointer v s) (freed_by p f destructor xs) x))

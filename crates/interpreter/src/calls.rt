@@ -1,9 +1,11 @@
 //! Calls, once their arguments are known.
 
 ghost use Rattle.std.specs.Prelude.{map};
+ghost use Rattle.typed_tree.specs.Expressions.{view_expr};
 ghost use Rattle.tp_meaning.specs.Expressions.{called_by_class, called_through};
-ghost use Rattle.tp_meaning.specs.Statements.{freed};
+ghost use Rattle.tp_meaning.specs.Statements.{freed, unmade_at};
 ghost use Rattle.tp_meaning.specs.Meaning.{run as runs};
+ghost use Rattle.interpreter_store.specs.cell_store.Views.{view_value};
 ghost use Rattle.interpreter_store.specs.typed_cells.Sorts.{view_sort, view_reached};
 ghost use Rattle.interpreter_effects.specs.activations.Views.{view_activation};
 ghost use Rattle.interpreter_effects.specs.standard_effects.Operands.{view_operand};
@@ -14,9 +16,10 @@ use crate::machine::Machine;
 use interpreter_effects::standard_effects::Operand;
 use interpreter_steps::interpreter_frames::{Callable, Next, OnValue, Work, gave_value};
 use interpreter_steps::{Instance, Over, Run, all_handed, held_routine, named, new_instance};
+use interpreter_store::cell_store::Value;
 use interpreter_store::typed_cells::{Reached, Sort};
 use type_layout::{RoutineId, TypeId};
-use typed_tree::Destructor;
+use typed_tree::{Destructor, Expr};
 
 impl<'a> Machine<'a> {
     // Calls a routine by its name.
@@ -87,7 +90,7 @@ impl<'a> Machine<'a> {
     }
 
     // Calls the destructor of a block, which is then freed.
-    fn destroy(
+    fn destroy_at(
         &self,
         run: &mut Run,
         work: &mut Work<'a>,
@@ -103,6 +106,22 @@ impl<'a> Machine<'a> {
         let own = at.spot.copied(self.steps.alloc)?;
         work.expect(OnValue::Freed { at })?;
         self.enter(run, work, &key, Some(&own), None, values.as_slice())
+    }
+
+    // Calls the destructor of the block to which a pointer leads, which is then freed.
+    fn destroy(
+        &self,
+        run: &mut Run,
+        work: &mut Work<'a>,
+        pointer: &'a Box<Expr>,
+        block: &Value,
+        destructor: Destructor,
+        args: Vec<Operand>,
+    ) -> Result<Next<'a>, Over>
+        ensures { let p = program_of self.now.steps in Goes p result work.new (view_run run.new) (then_flow p work.old (λ f. unmade_at p (runs p) f (view_expr pointer.now.value) destructor (map view_operand args.entry.items) (view_value block.now)) (view_run run.old)) }
+    {
+        let at = self.steps.follow(run, &work.f, pointer, block)?;
+        self.destroy_at(run, work, at, destructor, args)
     }
 
     /// Calls what is called, with its arguments.
@@ -134,9 +153,11 @@ impl<'a> Machine<'a> {
                 serial,
                 sort,
             } => self.construct(run, work, routine, serial, &sort, args),
-            Callable::Destructor { at, destructor } => {
-                self.destroy(run, work, at, destructor, args)
-            }
+            Callable::Destructor {
+                pointer,
+                block,
+                destructor,
+            } => self.destroy(run, work, pointer, &block, destructor, args),
         }
     }
 }

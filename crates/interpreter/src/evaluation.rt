@@ -1,15 +1,20 @@
 //! Expressions and places begin.
 
 ghost use Rattle.type_layout.specs.declared.definitions.TypeId.{TypeId as TypeOf};
-ghost use Rattle.std.specs.Prelude.{Option};
+ghost use Rattle.std.specs.Prelude.{◌≡◌, Option};
+ghost use Rattle.std.specs.Option.{option_map, option_copied};
 ghost use Rattle.typed_tree.specs.declared.units.Program.{Program};
-ghost use Rattle.typed_tree.specs.Expressions.{Call, Make, view_expr, view_place, view_receiver, view_element, view_elements, view_args};
-ghost use Rattle.tp_meaning.specs.Outcomes.{State};
-ghost use Rattle.tp_meaning.specs.Expressions.{value, place, elements};
+ghost use Rattle.typed_tree.specs.Expressions.{Call, Std, Make, NoArguments, view_expr, view_place, view_receiver, view_element, view_elements, view_arg, view_args};
+ghost use Rattle.typed_tree.specs.Standard as routine;
+ghost use Rattle.tp_meaning.specs.Trees.{Value as PureValue};
+ghost use Rattle.tp_meaning.specs.Outcomes.{State, Does};
+ghost use Rattle.tp_meaning.specs.Activations.{Activation as PureActivation};
+ghost use Rattle.tp_meaning.specs.Calls.{Runs};
+ghost use Rattle.tp_meaning.specs.Expressions.{value, measured, place, elements};
 ghost use Rattle.tp_meaning.specs.Meaning.{run as runs};
 ghost use Rattle.interpreter_store.specs.cell_store.Views.{view_value};
 ghost use Rattle.interpreter_steps.specs.Running.{view_run, program_of};
-ghost use Rattle.interpreter_steps.specs.interpreter_frames.Frames.{then_value, then_place, operated, Goes};
+ghost use Rattle.interpreter_steps.specs.interpreter_frames.Frames.{then_value, then_place, operated, measured_at, Goes};
 
 use crate::machine::Machine;
 use interpreter_steps::interpreter_frames::{
@@ -20,6 +25,7 @@ use interpreter_store::cell_store::Value;
 use interpreter_store::value_operators::decided;
 use std::alloc::Global;
 use type_layout::{Bytes, RoutineId, TypeId};
+use typed_tree::standard::LENGTH;
 use typed_tree::{Arg, BinaryOp, Expr, PlaceExpr, SetElement};
 
 // An element or a span comes next, and then the others that are listed.
@@ -75,7 +81,53 @@ pub fn operate<'a>(
     }
 }
 
+// The variable that an argument loads.
+fn loaded_from<'a>(one: &'a Arg) -> Option<&'a PlaceExpr>
+    ensures { (p : Program) (again : Runs) (f : PureActivation) (other : Does PureValue) → measured p again f routine.length (view_arg one.now NoArguments) other ≡ measured_at p again f (option_map view_place (option_copied result)) other }
+{
+    match one {
+        Arg::Value(Expr::Load { place, .. }) => Some(place),
+        _ => None,
+    }
+}
+
+// The variable of which Length is asked for.
+fn variable_measured<'a>(number: u32, args: &'a [Arg]) -> Option<&'a PlaceExpr>
+    ensures { (p : Program) (again : Runs) (f : PureActivation) (other : Does PureValue) → measured p again f number (view_args args.now) other ≡ measured_at p again f (option_map view_place (option_copied result)) other }
+{
+    match args {
+        [one] => {
+            if number == LENGTH {
+                loaded_from(one)
+            } else {
+                None
+            }
+        }
+        _ => None,
+    }
+}
+
 impl<'a> Machine<'a> {
+    // Length of a variable reads its length alone. Of any other standard routine the arguments come next.
+    fn perform(
+        &self,
+        run: &mut Run,
+        work: &mut Work<'a>,
+        ty: Option<TypeId>,
+        number: u32,
+        args: &'a [Arg],
+    ) -> Result<Next<'a>, Over>
+        ensures { let p = program_of self.now.steps in Goes p result work.new (view_run run.new) (then_value p work.old (λ f. value p (runs p) f (Std ty number (view_args args.now))) (view_run run.old)) }
+    {
+        match variable_measured(number, args) {
+            Some(place) => work.locate(place, OnPlace::Length),
+            None => {
+                let call = Callable::Standard { ty, number };
+                self.argue(run, work, args, Vec::new(self.steps.alloc), call)
+            }
+        }
+    }
+
     fn call(
         &self,
         run: &mut Run,
@@ -192,16 +244,9 @@ impl<'a> Machine<'a> {
                     args: args.as_slice(),
                 },
             ),
-            Expr::Std { ty, number, args } => self.argue(
-                run,
-                work,
-                args.as_slice(),
-                Vec::new(alloc),
-                Callable::Standard {
-                    ty: *ty,
-                    number: *number,
-                },
-            ),
+            Expr::Std { ty, number, args } => {
+                self.perform(run, work, *ty, *number, args.as_slice())
+            }
             Expr::Make { ty, routine, args } => {
                 self.make(run, work, *ty, *routine, args.as_slice())
             }

@@ -144,7 +144,7 @@ impl<'a> Machine<'a> {
         ensures { let p = program_of self.now.steps in Goes p result work.new (view_run run.new) (then_flow p work.old (λ f. counting_from p counting.entry f first last) (view_run run.old)) }
     {
         if is_past(counting.down, first, last) {
-            return gave_flow(self.steps.counted(run, &work.f, counting.variable));
+            return Ok(Next::Flow(Flow::Next));
         }
         let high = self.steps.count_from(
             run,

@@ -27,7 +27,8 @@ use interpreter_steps::interpreter_frames::{
     gave_value,
 };
 use interpreter_steps::{
-    Flow, Over, Run, element_number, halted, instance_at, number_of, unary_value, value_within,
+    Flow, Over, Run, element_number, halted, instance_at, number_of, set_spanned, unary_value,
+    unless_nil, value_within,
 };
 use interpreter_store::cell_store::Value;
 use interpreter_store::typed_cells::{Reached, Sort};
@@ -56,11 +57,10 @@ fn span_from<'a>(
     last: &'a Expr,
     rest: &'a [SetElement],
     set: Vec<u8>,
-    value: &Value,
+    first: Value,
 ) -> Result<Next<'a>, Over>
-    ensures { (p : Program) (s : State) → Goes p result work.new s (then_value p work.old (λ f. span_begun p f (view_expr last.now) (view_elements rest.now) set.items (view_value value.now)) s) }
+    ensures { (p : Program) (s : State) → Goes p result work.new s (then_value p work.old (λ f. span_begun p f (view_expr last.now) (view_elements rest.now) set.items (view_value first)) s) }
 {
-    let first = element_number(value)?;
     work.evaluate(last, OnValue::Last { first, rest, set })
 }
 
@@ -68,15 +68,15 @@ fn span_from<'a>(
 fn add_span<'a>(
     alloc: Global,
     work: &mut Work<'a>,
-    first: u8,
+    first: &Value,
     rest: &'a [SetElement],
-    set: &[u8],
-    value: &Value,
+    set: Vec<u8>,
+    last: &Value,
 ) -> Result<Next<'a>, Over>
-    ensures { (p : Program) (s : State) → Goes p result work.new s (then_value p work.old (λ f. span_added p f first (view_elements rest.now) set.now (view_value value.now)) s) }
+    ensures { (p : Program) (s : State) → Goes p result work.new s (then_value p work.old (λ f. span_added p f (view_value first.now) (view_elements rest.now) set.items (view_value last.now)) s) }
 {
-    let last = element_number(value)?;
-    list_elements(work, rest, with_range(alloc, set, first, last)?)
+    let all = set_spanned(alloc, set, first, last)?;
+    list_elements(work, rest, all)
 }
 
 fn choose<'a>(value: &Value, yes: &'a Stmt, no: &'a Stmt) -> Result<Next<'a>, Over>
@@ -158,7 +158,7 @@ impl<'a> Machine<'a> {
         self.print(run, work, sort, item, width, rest, line)
     }
 
-    // The arguments of a destructor come behind the block that is disposed of.
+    // The arguments of a destructor come behind the pointer to what is disposed of, which is not nil.
     fn dispose(
         &self,
         run: &mut Run,
@@ -166,12 +166,16 @@ impl<'a> Machine<'a> {
         pointer: &'a Box<Expr>,
         destructor: Destructor,
         args: &'a [Arg],
-        value: &Value,
+        block: Value,
     ) -> Result<Next<'a>, Over>
-        ensures { let p = program_of self.now.steps in Goes p result work.new (view_run run.new) (then_flow p work.old (λ f. disposed_with p f (view_expr pointer.now.value) destructor (view_args args.now) (view_value value.now)) (view_run run.old)) }
+        ensures { let p = program_of self.now.steps in Goes p result work.new (view_run run.new) (then_flow p work.old (λ f. disposed_with p f (view_expr pointer.now.value) destructor (view_args args.now) (view_value block)) (view_run run.old)) }
     {
-        let at = self.steps.block_of(run, &work.f, pointer, value)?;
-        let call = Callable::Destructor { at, destructor };
+        unless_nil(&block)?;
+        let call = Callable::Destructor {
+            pointer,
+            block,
+            destructor,
+        };
         self.argue(run, work, args, Vec::new(self.steps.alloc), call)
     }
 
@@ -249,9 +253,9 @@ impl<'a> Machine<'a> {
             OnValue::Element { rest, set } => {
                 add_element(alloc, work, rest, set.as_slice(), &value)
             }
-            OnValue::First { last, rest, set } => span_from(work, last, rest, set, &value),
+            OnValue::First { last, rest, set } => span_from(work, last, rest, set, value),
             OnValue::Last { first, rest, set } => {
-                add_span(alloc, work, first, rest, set.as_slice(), &value)
+                add_span(alloc, work, &first, rest, set, &value)
             }
             OnValue::Deref { pointer } => {
                 gave_place(self.steps.follow(run, &work.f, pointer, &value))
@@ -292,7 +296,7 @@ impl<'a> Machine<'a> {
                 pointer,
                 destructor,
                 args,
-            } => self.dispose(run, work, pointer, destructor, args, &value),
+            } => self.dispose(run, work, pointer, destructor, args, value),
         }
     }
 
@@ -309,6 +313,7 @@ impl<'a> Machine<'a> {
         let alloc = self.steps.alloc;
         match frame {
             OnPlace::Load => gave_value(self.steps.load(run, &at)),
+            OnPlace::Length => gave_value(self.steps.measure(run, &at)),
             OnPlace::Indexed { index, checked } => {
                 work.evaluate(index, OnValue::Index { at, checked })
             }

@@ -4,16 +4,14 @@ use Rattle.type_layout.specs.declared.definitions.TypeId.{TypeId}
 use Rattle.type_layout.specs.declared.definitions.TypeDef.{TypeDef}
 use Rattle.typed_tree.specs.declared.expressions.Variable.{Variable}
 use Rattle.typed_tree.specs.declared.units.Program.{Program}
-use Rattle.typed_tree.specs.Expressions.{Expression}
 use Rattle.tp_meaning.specs.Trees.{Value, Ordinal}
 use Rattle.tp_meaning.specs.Store.{disposed}
 use Rattle.tp_meaning.specs.Programs.{Sort, definition, sort_in}
 use Rattle.tp_meaning.specs.Outcomes.{Does, ◌>>=◌, ◌>>◌, give, found, looked, changed, printed}
-use Rattle.tp_meaning.specs.Activations.{Reached, Activation, whole, assigned}
+use Rattle.tp_meaning.specs.Activations.{Reached, Activation, assigned}
 use Rattle.tp_meaning.specs.Calls.{Flow, Next}
-use Rattle.tp_meaning.specs.Standard.{number_assigned, field_text, text_of, target, size_freed}
-use Rattle.tp_meaning.specs.Expressions.{sort_of}
-use Rattle.tp_meaning.specs.Statements.{tested, numeral_or_error, counter, block_of}
+use Rattle.tp_meaning.specs.Standard.{number_assigned, field_text, text_of, size_freed}
+use Rattle.tp_meaning.specs.Statements.{tested, numeral_or_error, counter}
 
 -- a loop's variable gets a value
 abbrev pub counted_at : Program → Activation → Variable → ℤ → Does (Unit {0})
@@ -38,14 +36,6 @@ numeral_stored checked at ty numeral = numeral_or_error numeral >>= stored_withi
 -- a value is written in a field of a width
 abbrev pub printed_in : Sort → Value → ℤ → Does (Unit {0})
 printed_in sort v width = found (text_of (definition sort) v) >>= λ text. printed (field_text width text)
-
--- the block that is disposed of, as its pointer is typed
-abbrev pub block_at : Activation → Expression → Value → Does Reached
-block_at f pointer v = do
-  serial ← looked (block_of v)
-  sort ← sort_of f pointer
-  to ← found (target sort)
-  give (record { spot = whole serial; sort = to })
 
 -- the block of an instance is freed
 abbrev pub freed_at : Program → Reached → Does Flow

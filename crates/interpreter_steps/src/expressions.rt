@@ -6,7 +6,7 @@ ghost use Rattle.typed_tree.specs.type_fits.Fits.{stored_as};
 ghost use Rattle.typed_tree.specs.Expressions.{view_expr, type_of};
 ghost use Rattle.tp_meaning.specs.Outcomes.{State, looked, found};
 ghost use Rattle.tp_meaning.specs.Programs.{sort_in};
-ghost use Rattle.tp_meaning.specs.Operators.{unary, binary, converted, ranged, element_of};
+ghost use Rattle.tp_meaning.specs.Operators.{unary, binary, converted, ranged, element_of, spanned};
 ghost use Rattle.tp_meaning.specs.Expressions.{constant_value, sort_of, storage};
 ghost use Rattle.interpreter_store.specs.cell_store.Views.{view_value};
 ghost use Rattle.interpreter_store.specs.typed_cells.Sorts.{view_sort};
@@ -23,7 +23,7 @@ use interpreter_effects::standard_effects::{
 };
 use interpreter_store::cell_store::Value;
 use interpreter_store::typed_cells::Sort;
-use interpreter_store::value_operators::{binary, converted, element_of, ranged, unary};
+use interpreter_store::value_operators::{binary, converted, element_of, ranged, spanned, unary};
 use std::alloc::{AllocError, Global};
 use type_layout::{Host, RoutineId, TypeId};
 use typed_tree::{BinaryOp, Expr, UnaryOp, Value as Constant};
@@ -114,6 +114,13 @@ pub fn element_number(value: &Value) -> Result<u8, Over>
     ensures { (s : State) → Comes (λ element. element) result s (found (element_of (view_value value.now)) s) }
 {
     Ok(element_of(value)?)
+}
+
+/// The set with the elements from one number to another.
+pub fn set_spanned(alloc: Global, set: Vec<u8>, low: &Value, high: &Value) -> Result<Vec<u8>, Over>
+    ensures { (s : State) → Comes (λ more. more.items) result s (found (spanned set.items (view_value low.now) (view_value high.now)) s) }
+{
+    Ok(spanned(alloc, set, low, high)?)
 }
 
 /// A value that must lie between bounds.

@@ -4,7 +4,7 @@ ghost use Rattle.std.specs.Prelude.{◌≡◌, pos, Err};
 ghost use Rattle.type_layout.specs.Layouts.{bounds_at};
 ghost use Rattle.typed_tree.specs.Expressions.{view_expr};
 ghost use Rattle.tp_meaning.specs.Outcomes.{State, looked};
-ghost use Rattle.tp_meaning.specs.Activations.{Reached as PureReached, variable_at, loaded};
+ghost use Rattle.tp_meaning.specs.Activations.{Reached as PureReached, variable_at, loaded, length_held};
 ghost use Rattle.tp_meaning.specs.Programs.{definition, char_sort};
 ghost use Rattle.tp_meaning.specs.Expressions.{field_at, outside, element_between, element_in};
 ghost use Rattle.interpreter_store.specs.cell_store.Views.{view_spot, view_value};
@@ -76,6 +76,13 @@ impl<'a> Interpreter<'a> {
         ensures { let s = view_run run.now in Comes view_value result s (looked (loaded (view_reached at.now)) s) }
     {
         Ok(at.loaded(self.alloc, &run.store)?)
+    }
+
+    /// The length of what a string variable holds.
+    pub fn measure(&self, run: &Run, at: &Reached) -> Result<Value, Over>
+        ensures { let s = view_run run.now in Comes view_value result s (looked (length_held (view_reached at.now)) s) }
+    {
+        Ok(at.length(&run.store)?)
     }
 
     /// The place to which a pointer leads, as its expression is typed.

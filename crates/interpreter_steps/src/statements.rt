@@ -4,18 +4,17 @@ ghost use Rattle.std.specs.Prelude.{◌≡◌, ◌+ℤ◌, Err};
 ghost use Rattle.std.specs.List.{list_any};
 ghost use Rattle.std.specs.Option.{option_copied};
 ghost use Rattle.type_layout.specs.Layouts.{bounds_of};
-ghost use Rattle.typed_tree.specs.Expressions.{view_expr};
 ghost use Rattle.tp_meaning.specs.Store.{number_of};
 ghost use Rattle.tp_meaning.specs.Programs.{definition, sort_in};
 ghost use Rattle.tp_meaning.specs.Outcomes.{State, found, looked, changed};
 ghost use Rattle.tp_meaning.specs.Activations.{assigned, copied, number_in};
 ghost use Rattle.tp_meaning.specs.Standard.{number_assigned};
-ghost use Rattle.tp_meaning.specs.Statements.{covers, is_past, step, counted, tested, line_written, line_read, halted, destructor_of};
+ghost use Rattle.tp_meaning.specs.Statements.{covers, is_past, step, counted, tested, line_written, line_read, halted, unless_nil, destructor_of};
 ghost use Rattle.interpreter_store.specs.cell_store.Views.{view_key, view_spot, view_value};
 ghost use Rattle.interpreter_store.specs.typed_cells.Sorts.{view_sort, view_reached};
 ghost use Rattle.interpreter_effects.specs.activations.Views.{view_activation};
 ghost use Rattle.interpreter_steps.specs.Running.{view_run, view_flow, program_of, Comes};
-ghost use Rattle.interpreter_steps.specs.StatementParts.{counted_at, begun_at, printed_in, block_at, freed_at};
+ghost use Rattle.interpreter_steps.specs.StatementParts.{counted_at, begun_at, printed_in, freed_at};
 
 use crate::expressions::sort_in;
 use crate::instances::named;
@@ -28,7 +27,7 @@ use interpreter_store::cell_store::{Key, Spot, Tree, Value};
 use interpreter_store::typed_cells::{Reached, Sort};
 use interpreter_store::value_operators::{field_text, is_between, text_of, within};
 use type_layout::{TypeDef, TypeId};
-use typed_tree::{Destructor, Expr, LabelRange, Variable};
+use typed_tree::{Destructor, LabelRange, Variable};
 
 /// The number of an ordinal.
 pub fn number_of(value: &Value) -> Result<i32, Over>
@@ -65,6 +64,16 @@ pub fn halted(z: i32) -> Over
     ensures { (s : State) → Comes view_flow (Err result) s (halted z s) }
 {
     Over::Ended(shift_count(z))
+}
+
+/// A pointer that is disposed of is not nil: for that it is error 204.
+pub fn unless_nil(pointer: &Value) -> Result<(), Over>
+    ensures { (s : State) → Comes (λ done. done) result s (found (unless_nil (view_value pointer.now)) s) }
+{
+    match pointer {
+        Value::Nil => Err(Over::Error(204)),
+        _ => Ok(()),
+    }
 }
 
 /// Skips the rest of the line, with `line`.
@@ -149,7 +158,7 @@ impl<'a> Interpreter<'a> {
         self.store_number(run, at, i64::from(z) + by)
     }
 
-    /// Ends a loop: its variable is unset.
+    /// Ends a loop that has turned: its variable is unset.
     pub fn counted(
         &self,
         run: &mut Run,
@@ -203,22 +212,6 @@ impl<'a> Interpreter<'a> {
         let field = field_text(self.alloc, width, text.as_slice())?;
         run.out.extend_from_slice(field.as_slice())?;
         Ok(())
-    }
-
-    /// The block to which a pointer leads, which is disposed of: for nil it is error 204.
-    pub fn block_of(
-        &self,
-        run: &Run,
-        f: &Activation<'a>,
-        e: &Expr,
-        pointer: &Value,
-    ) -> Result<Reached<'a>, Over>
-        ensures { let s = view_run run.now in Comes view_reached result s (block_at (view_activation f.now) (view_expr e.now) (view_value pointer.now) s) }
-    {
-        match pointer {
-            Value::Nil => Err(Over::Error(204)),
-            _ => self.follow(run, f, e, pointer),
-        }
     }
 
     /// The destructor that is called for an instance.

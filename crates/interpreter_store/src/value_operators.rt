@@ -8,7 +8,7 @@ mod relations;
 mod sets;
 mod texts;
 
-pub use conversions::{converted, element_of, is_between, ranged, within};
+pub use conversions::{converted, element_of, is_between, ranged, spanned, within};
 pub use functions::{
     absolute, character, high_byte_of, is_odd, low_byte_of, predecessor, squared, successor,
     swapped, upper_case,

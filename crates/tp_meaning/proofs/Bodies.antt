@@ -18,14 +18,14 @@ use Rattle.typed_tree.specs.Statements.{Written, Taken, Statement, Assign, CopyA
 use Rattle.common_values.specs.Written.{line_end}
 use Rattle.common_values.specs.Input.{char_read, string_read, number_read, after_line}
 use Rattle.tp_meaning.specs.Trees.{Value, Ordinal, Text, Void, unset}
-use Rattle.tp_meaning.specs.Store.{number_of, replaced, disposed}
+use Rattle.tp_meaning.specs.Store.{followed, number_of, replaced, disposed}
 use Rattle.tp_meaning.specs.Programs.{definition, sort_in, routine_key}
 use Rattle.tp_meaning.specs.Outcomes.{State, Outcome, Done, Over, Does}
 use Rattle.tp_meaning.specs.Operators.{is_true}
 use Rattle.tp_meaning.specs.Activations.{Reached, Activation, whole, variable_at, assigned, copied, number_in}
 use Rattle.tp_meaning.specs.Calls.{Flow, Next, Left, Task, Do, Turns, Runs}
 use Rattle.tp_meaning.specs.Standard.{Operand, handed, field_text, text_of, number_assigned, target, size_freed}
-use Rattle.tp_meaning.specs.Statements.{then_next, chosen, number, condition, covers, tested, width_of, written, line_written, numeral_or_error, number_taken, char_taken, text_taken, ordinal_taken, taken_as, read, line_read, is_past, step, counted, turned, turn, block_of, destructor_of, freed, unmade, halted, with_held, statement, statements, branches, task}
+use Rattle.tp_meaning.specs.Statements.{then_next, chosen, number, condition, covers, tested, width_of, written, line_written, numeral_or_error, number_taken, char_taken, text_taken, ordinal_taken, taken_as, read, line_read, is_past, step, counted, turned, turn, unless_nil, destructor_of, freed, unmade_at, unmade, halted, with_held, statement, statements, branches, task}
 use Rattle.tp_meaning.specs.Meaning.{run_by, run, start_state, start_activation, started, all_started, seen_so, seen_of, mean}
 use Rattle.tp_meaning.proofs.Turns.{After, Falls, Grows, begins_itself, More, Like, like_weaker, like_bind, like_then, like_spending, like_give, like_stuck, like_raised, like_found, like_known, like_looked, like_changed, like_printed, like_taking}
 use Rattle.tp_meaning.proofs.Parts.{Alike, like_entered, like_method_of, like_sort_of, like_value, like_place, like_operands}
@@ -140,14 +140,19 @@ like_freed alike program f with args serial at =
     like_bind (like_looked (size_freed program at)) (λ bytes.
     like_then (like_changed (λ store. disposed store serial bytes)) (like_give Next)))
 
+like_unmade_at : {k m n : ℕ} {A B : Runs} → Alike k m n A B → (program : Program) (f : Activation) (pointer : Expression) (with : Destructor) (args : List Operand) (v : Value) → Like k (suc m) (suc n) (unmade_at program A f pointer with args v) (unmade_at program B f pointer with args v)
+like_unmade_at alike program f pointer with args v =
+    like_bind (like_looked (λ store. followed store v)) (λ serial.
+    like_bind (like_sort_of f pointer) (λ sort.
+    like_bind (like_found (target sort)) (λ to.
+    like_freed alike program f with args serial (record { spot = whole serial; sort = to }))))
+
 like_unmade : {k m n : ℕ} {A B : Runs} → Alike k m n A B → (program : Program) (f : Activation) (pointer : Expression) (with : Destructor) (args : Arguments) → Like k (suc m) (suc n) (unmade program A f pointer with args) (unmade program B f pointer with args)
 like_unmade alike program f pointer with args =
     like_bind (like_value alike program f pointer) (λ v.
-    like_bind (like_looked (block_of v)) (λ serial.
-    like_bind (like_sort_of f pointer) (λ sort.
-    like_bind (like_found (target sort)) (λ to.
+    like_then (like_found (unless_nil v)) (
     like_bind (like_operands alike program f args) (λ xs.
-    like_freed alike program f with xs serial (record { spot = whole serial; sort = to }))))))
+    like_unmade_at alike program f pointer with xs v)))
 
 like_halted : {k m n : ℕ} (z : ℤ) → Like k m n (halted z) (halted z)
 like_halted z = record { falls = λ s. omega arith; grows = λ s. (begins_itself s.out, begins_itself s.err); alike = λ s l l'. refl }
@@ -181,7 +186,7 @@ mutual
   like_statement alike program f (For variable ty from to down checked body) =
       like_bind (like_number alike program f from) (λ first.
       like_bind (like_number alike program f to) (λ last.
-      like_chosen (is_past down first last) (like_counted program f variable) (
+      like_chosen (is_past down first last) (like_give Next) (
       like_bind (like_tested checked (definition (sort_in f.unit ty)) first) (λ low.
       like_bind (like_tested checked (definition (sort_in f.unit ty)) last) (λ high.
       like_bind (like_looked (variable_at program f variable)) (λ at.

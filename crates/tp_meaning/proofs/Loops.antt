@@ -283,7 +283,7 @@ begun program f variable ty down body first last s =
     turn program (run program) f variable high down body (statement program (run program) f body)))))
 
 abbrev bounded : Program → Activation → Variable → TypeId → Bool → Statement → ℤ → ℤ → Does Flow
-bounded program f variable ty down body first last = chosen (is_past down first last) (counted program f variable) (begun program f variable ty down body first last)
+bounded program f variable ty down body first last = chosen (is_past down first last) (give Next) (begun program f variable ty down body first last)
 
 for_is : (program : Program) (f : Activation) (variable : Variable) (ty : TypeId) (down : Bool) (body : Statement) (at : Reached) (first last : ℤ) (from to : Expression) (s : State) → HasBounds program f at from to first last s → statement program (run program) f (For variable ty from to down false body) s ≡ bounded program f variable ty down body first last s
 for_is program f variable ty down body at first last from to s bounds =
@@ -306,7 +306,7 @@ begins program f variable ty down body at host first last from to s counter boun
     record {
       after = after;
       is = for_is program f variable ty down body at first last from to s bounds
-          ∙ ap (λ b. chosen b (counted program f variable) (begun program f variable ty down body first last) s) p
+          ∙ ap (λ b. chosen b (give Next) (begun program f variable ty down body first last) s) p
           ∙ found_is (variable_at program f variable s.store) at s rest (counter.place s.store)
           ∙ ap (λ (r : Found Store). and_then (and_then (found r s) with_store) (λ _. turns)) x.is
           ∙ sym ((run_laws program).steps (Turns variable last down body) f after);
@@ -326,15 +326,10 @@ goes_on program f variable ty down body at host n first last from to s counter a
     let done = few_turns program f variable last down body at host n s.turns first b.after counter alone r b.number b.spent l in
     record { end = done.end; is = b.is ∙ done.is }
 
-no_turns : (program : Program) (f : Activation) (variable : Variable) (ty : TypeId) (down : Bool) (body : Statement) (at : Reached) (host : Host) (first last : ℤ) (from to : Expression) (s : State) → IsCounter program f variable at host → HasBounds program f at from to first last s → is_past down first last ≡ true → EndsAfter program f (For variable ty from to down false body) s 0
-no_turns program f variable ty down body at host first last from to s counter bounds p =
-    let done = counted_ends program f variable at bounds.cell s (counter.place s.store) bounds.there in
-    record {
-      end = done.end;
-      is = for_is program f variable ty down body at first last from to s bounds
-          ∙ ap (λ b. chosen b (counted program f variable) (begun program f variable ty down body first last) s) p ∙ done.is;
-      spent = done.spent;
-    }
+no_turns : (program : Program) (f : Activation) (variable : Variable) (ty : TypeId) (down : Bool) (body : Statement) (at : Reached) (first last : ℤ) (from to : Expression) (s : State) → HasBounds program f at from to first last s → is_past down first last ≡ true → statement program (run program) f (For variable ty from to down false body) s ≡ Done Next s
+no_turns program f variable ty down body at first last from to s bounds p =
+    for_is program f variable ty down body at first last from to s bounds
+    ∙ ap (λ b. chosen b (give Next) (begun program f variable ty down body first last) s) p
 
 pub for_laws : (program : Program) (f : Activation) (variable : Variable) (ty : TypeId) (body : Statement) (at : Reached) (host : Host) → IsCounter program f variable at host → LeavesAlone program f at body → ForLaws program f variable ty body at host
 for_laws program f variable ty body at host counter alone = record {
@@ -346,6 +341,6 @@ for_laws program f variable ty body at host counter alone = record {
       goes_on program f variable ty false body at host n first last from to s counter alone bounds (not_past_up first last n e) (up_reaches host n first last p q e) l;
   down_on = λ first last n from to s bounds p q e l.
       goes_on program f variable ty true body at host n first last from to s counter alone bounds (not_past_down first last n e) (down_reaches host n first last p q e) l;
-  up_none = λ first last from to s bounds p. no_turns program f variable ty false body at host first last from to s counter bounds (past last first p);
-  down_none = λ first last from to s bounds p. no_turns program f variable ty true body at host first last from to s counter bounds (past first last p);
+  up_none = λ first last from to s bounds p. no_turns program f variable ty false body at first last from to s bounds (past last first p);
+  down_none = λ first last from to s bounds p. no_turns program f variable ty true body at first last from to s bounds (past first last p);
 }

@@ -1,5 +1,5 @@
 -- Calls, expressions and places with more turns.
-use Rattle.std.proofs.Common.{ℕ, zero, suc, ◌&&◌, Bool, true, false, List, [], ◌∷◌, Option, Some, None}
+use Rattle.std.proofs.Common.{ℕ, zero, suc, ◌&&◌, ◌==◌, Bool, true, false, List, [], ◌∷◌, Option, Some, None}
 use Rattle.std.specs.Prelude.{ℤ, pos, negsuc, map, not, length, Ok}
 use Rattle.std.specs.Option.{option_map}
 use Rattle.type_layout.specs.declared.definitions.TypeId.{TypeId}
@@ -12,17 +12,18 @@ use Rattle.typed_tree.specs.Expressions.{Expression, Const, RoutineValue, Load, 
 use Rattle.common_values.specs.Sets.{with_range}
 use Rattle.typed_tree.specs.type_fits.Fits.{stored_as, field_type}
 use Rattle.typed_tree.specs.type_fits.Routines.{variables_of}
+use Rattle.typed_tree.specs.Standard as routine
 use Rattle.tp_meaning.specs.Trees.{Key, Spot, Value, Ordinal, Text, Elements, Block, Code, Void}
 use Rattle.tp_meaning.specs.Shapes.{parts_at, field_place}
 use Rattle.tp_meaning.specs.Store.{next_serial, followed, number_of, without}
 use Rattle.tp_meaning.specs.Programs.{routine_key, Sort, definition, beside, sort_in, class_key, is_overlay, is_overlaid, char_sort, class_sort, method_in}
 use Rattle.tp_meaning.specs.Outcomes.{Does}
-use Rattle.tp_meaning.specs.Operators.{unary, binary, decided, converted, ranged, is_between, element_of}
-use Rattle.tp_meaning.specs.Activations.{Reached, Activation, Callee, callee_of, whole, inside, variable_at, loaded, held_routine, opened, class_set, class_at, levels_around, result_of, assigned}
+use Rattle.tp_meaning.specs.Operators.{unary, binary, decided, converted, ranged, is_between, element_of, spanned}
+use Rattle.tp_meaning.specs.Activations.{Reached, Activation, Callee, callee_of, whole, inside, variable_at, loaded, length_held, held_routine, opened, class_set, class_at, levels_around, result_of, assigned}
 use Rattle.tp_meaning.specs.Calls.{Task, Do, Runs, activation_of, activated, is_too_deep, entered, without_class, with_method, dispatched_in, dispatched_by, method_of, with_overlay_result, overlay_variable, installed_if, is_file, overlay_called}
 use Rattle.tp_meaning.specs.Programs.{overlay_file}
 use Rattle.tp_meaning.specs.Standard.{Operand, Given, Named, handed, standard, Effect, Gives, Changes, Makes, Asks, effect_of, target, made}
-use Rattle.tp_meaning.specs.Expressions.{constant_value, sort_of, storage, field_of, outside, element_between, element_in, Instance, no_instance, instance_at, called, called_by_class, called_through, effect_done, block_made, unless, value, place, receiver, elements, operands}
+use Rattle.tp_meaning.specs.Expressions.{constant_value, sort_of, storage, field_of, outside, element_between, element_in, Instance, no_instance, instance_at, called, called_by_class, called_through, effect_done, block_made, unless, value, measured, place, receiver, elements, operands}
 use Rattle.tp_meaning.proofs.Turns.{Like, like_bind, like_then, like_spending, like_give, like_stuck, like_undefined, like_raised, like_found, like_known, like_raised_if, like_looked, like_changed, like_ahead, like_is_installed, like_install, like_if}
 
 -- tasks are alike in each activation
@@ -158,9 +159,10 @@ mutual
       like_bind (like_operands alike program f args) (λ xs.
       like_called_through alike program f at xs))
   like_value alike program f (Std ty number args) =
+      like_measured alike program f number args (
       like_bind (like_operands alike program f args) (λ xs.
       like_bind (like_known (standard number)) (λ one.
-      like_effect_done program (effect_of program one (option_map (sort_in f.unit) ty) xs)))
+      like_effect_done program (effect_of program one (option_map (sort_in f.unit) ty) xs))))
   like_value alike program f (Make ty routine args) =
       like_bind (like_found (target (sort_in f.unit ty))) (λ sort.
       like_bind (like_block_made program sort) (λ serial.
@@ -169,6 +171,11 @@ mutual
       like_bind (like_known (class_key sort)) (λ class.
       like_then (like_called alike program f key (record { own = Some (whole serial); class = Some class }) xs)
       (like_give (Block serial)))))))
+
+  like_measured : {k m n : ℕ} {A B : Runs} → Alike k m n A B → (program : Program) (f : Activation) (number : ℕ) (args : Arguments) {a b : Does Value} → Like k (suc m) (suc n) a b → Like k (suc m) (suc n) (measured program A f number args a) (measured program B f number args b)
+  like_measured alike program f number (ByValue (Load ty from) NoArguments) other =
+      like_if (number == routine.length) (like_bind (like_place alike program f from) (λ at. like_looked (length_held at))) other
+  like_measured alike program f number args other = other
 
   pub like_place : {k m n : ℕ} {A B : Runs} → Alike k m n A B → (program : Program) (f : Activation) (p : Place) → Like k (suc m) (suc n) (place program A f p) (place program B f p)
   like_place alike program f (Var variable) = like_looked (variable_at program f variable)
@@ -198,10 +205,9 @@ mutual
       like_elements alike program f rest (with_range set n n)))
   like_elements alike program f (Span low high rest) set =
       like_bind (like_value alike program f low) (λ v.
-      like_bind (like_found (element_of v)) (λ first.
       like_bind (like_value alike program f high) (λ w.
-      like_bind (like_found (element_of w)) (λ last.
-      like_elements alike program f rest (with_range set first last)))))
+      like_bind (like_found (spanned set v w)) (λ more.
+      like_elements alike program f rest more)))
 
   pub like_operands : {k m n : ℕ} {A B : Runs} → Alike k m n A B → (program : Program) (f : Activation) (args : Arguments) → Like k (suc m) (suc n) (operands program A f args) (operands program B f args)
   like_operands alike program f NoArguments = like_give []

@@ -11,7 +11,7 @@ use Rattle.common_values.proofs.BlockLemmas.{sum_laws}
 use Rattle.typed_tree.specs.declared.units.Program.{Program}
 use Rattle.tp_meaning.specs.Trees.{Spot, Tree, Leaf, Tip, Fork, part_at, with_part, part_count}
 use Rattle.tp_meaning.specs.Found.{Act, Error, Found, ◌>>=◌, known}
-use Rattle.tp_meaning.specs.Store.{Object, Store, next_serial, object_at, with_object, without, tree_in, tree_at, replaced_in, replaced, bytes_in, text_of_length, bytes_over, without_row, disposed_in, disposed}
+use Rattle.tp_meaning.specs.Store.{Object, Store, next_serial, object_at, with_object, without, tree_in, tree_at, replaced_in, replaced, byte_in, bytes_in, text_of_length, text_in, length_within, length_in, bytes_over, without_row, disposed_in, disposed}
 use Rattle.tp_meaning.specs.Programs.{Sort, size_in, heap_of}
 use Rattle.tp_meaning.specs.Shapes.{new_tree}
 use Rattle.tp_meaning.specs.Standard.{with_new_block}
@@ -147,10 +147,36 @@ text_back bytes cells p =
     let e : nat_le (length bytes) count ≡ true = le-leb (length bytes) count (subst (λ n. length bytes ≤ n) (sym (count_over bytes cells)) p) in
     ap (λ b. if b then bytes_in (length bytes) (bytes_over bytes cells) else Err (Act 3)) e ∙ bytes_back bytes cells p
 
+many_step : (bytes : List ℕ) (count : ℕ) (b : Found ℕ) (r : Found (List ℕ)) → ((rest : List ℕ) → Same r (Ok rest) → length rest ≡ count) → Same (b >>= λ byte. r >>= λ rest. Ok (byte ∷ rest)) (Ok bytes) → length bytes ≡ suc count
+many_step bytes count (Ok byte) (Ok rest) same e = sym (ap length (ok_same (byte ∷ rest) bytes e)) ∙ ap suc (same rest refl)
+many_step bytes count (Ok byte) (Err trap) same e = absurd (cc e)
+many_step bytes count (Err trap) r same e = absurd (cc e)
+
+-- so many bytes are found
+bytes_many : (count : ℕ) (cells : Tree) (bytes : List ℕ) → Same (bytes_in count cells) (Ok bytes) → length bytes ≡ count
+bytes_many zero cells bytes e = sym (ap length (ok_same [] bytes e))
+bytes_many (suc count) (Fork head tail) bytes e = many_step bytes count (byte_in head) (bytes_in count tail) (bytes_many count tail) e
+bytes_many (suc count) Tip bytes e = absurd (cc e)
+bytes_many (suc count) (Leaf cell) bytes e = absurd (cc e)
+
+within_measures : (count : ℕ) (cells : Tree) (bytes : List ℕ) (fits : Bool) → Same (if fits then bytes_in count cells else Err (Act 3)) (Ok bytes) → Same (if fits then Ok count else Err (Act 3)) (Ok (length bytes))
+within_measures count cells bytes true e = ap Ok (sym (bytes_many count cells bytes e))
+within_measures count cells bytes false e = absurd (cc e)
+
+head_measures : (cells : Tree) (bytes : List ℕ) (b : Found ℕ) → Same (b >>= λ count. text_of_length count cells) (Ok bytes) → Same (b >>= λ count. length_within count cells) (Ok (length bytes))
+head_measures cells bytes (Ok count) e = within_measures count cells bytes (nat_le count (part_count cells)) e
+head_measures cells bytes (Err trap) e = absurd (cc e)
+
+text_measures : (tree : Tree) (bytes : List ℕ) → Same (text_in tree) (Ok bytes) → Same (length_in tree) (Ok (length bytes))
+text_measures (Fork head tail) bytes e = head_measures tail bytes (byte_in head) e
+text_measures Tip bytes e = absurd (cc e)
+text_measures (Leaf cell) bytes e = absurd (cc e)
+
 pub text_laws : TextLaws
 text_laws = record {
   shows = λ bytes head tail. text_back (take (part_count tail) bytes) tail
       (let e : length (take (part_count tail) bytes) ≡ min (part_count tail) (length bytes) = length-take (part_count tail) bytes in omega (arith, e));
+  measures = text_measures;
 }
 
 -- ---- blocks

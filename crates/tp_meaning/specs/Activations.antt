@@ -1,5 +1,5 @@
 -- Activations of routines, and what their variables are.
-use Rattle.std.specs.Prelude.{ℕ, zero, suc, ◌+◌, ◌-◌, ◌^◌, ◌==◌, ◌&&◌, nat_lt, Bool, true, false, if◌then◌else◌, ℤ, List, [], ◌∷◌, ◌++◌, length, map, slice_get, Option, Some, None, is_some, Ok, Err}
+use Rattle.std.specs.Prelude.{ℕ, zero, suc, ◌+◌, ◌-◌, ◌^◌, ◌==◌, ◌&&◌, nat_lt, Bool, true, false, if◌then◌else◌, ℤ, pos, List, [], ◌∷◌, ◌++◌, length, map, slice_get, Option, Some, None, is_some, Ok, Err}
 use Rattle.std.specs.Option.{option_map_or}
 use Rattle.type_layout.specs.declared.definitions.TypeId.{TypeId}
 use Rattle.type_layout.specs.declared.definitions.Param.{Param}
@@ -12,10 +12,10 @@ use Rattle.typed_tree.specs.declared.units.Routine.{Routine}
 use Rattle.typed_tree.specs.declared.units.Unit.{Unit as TypedUnit}
 use Rattle.typed_tree.specs.declared.units.Program.{Program}
 use Rattle.typed_tree.specs.type_fits.Routines.{variables_of}
-use Rattle.tp_meaning.specs.Trees.{Key, Spot, Value, Text, Class, At, Void, Tree, holding}
+use Rattle.tp_meaning.specs.Trees.{Key, Spot, Value, Ordinal, Text, Class, At, Void, Tree, holding}
 use Rattle.tp_meaning.specs.Found.{IllTyped, Found, ◌>>=◌, known}
 use Rattle.tp_meaning.specs.Shapes.{new_tree, parts_at, class_place}
-use Rattle.tp_meaning.specs.Store.{Object, Store, with_new, tree_at, value_at, text_at, spot_of, class_of, number_of, routine_of, replaced, assigned_over, copied_over}
+use Rattle.tp_meaning.specs.Store.{Object, Store, with_new, tree_at, value_at, text_at, length_at, spot_of, class_of, number_of, routine_of, replaced, assigned_over, copied_over}
 use Rattle.tp_meaning.specs.Programs.{unit_named, key_of, Sort, definition, sort_in, global_serial, global_sort}
 
 -- a place, with the type that it has
@@ -107,6 +107,14 @@ loaded_as (Some (type.Procedural header)) spot store = value_at store spot
 -- what a place holds; of a record, an array or an object the place itself
 abbrev pub loaded : Reached → Store → Found Value
 loaded at store = loaded_as (definition at.sort) at.spot store
+
+-- the length of what a string variable holds
+abbrev pub length_as : Option TypeDef → Spot → Store → Found ℕ
+length_as (Some (type.Str max)) spot store = length_at store spot
+length_as _ spot store = Err IllTyped
+
+abbrev pub length_held : Reached → Store → Found Value
+length_held at store = length_as (definition at.sort) at.spot store >>= λ count. Ok (Ordinal (pos count))
 
 -- the routine that a procedural variable holds
 abbrev pub held_routine : Reached → Store → Found Key

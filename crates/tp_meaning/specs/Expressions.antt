@@ -1,6 +1,6 @@
 -- What expressions and places mean. Parts are evaluated from left to right, and a call's instance or variable before its
 -- arguments.
-use Rattle.std.specs.Prelude.{ℕ, Bool, true, false, if◌then◌else◌, ℤ, pos, ◌-ℤ◌, unsigned_abs, List, [], ◌∷◌, map, Option, Some, None, Ok}
+use Rattle.std.specs.Prelude.{ℕ, Bool, true, false, ◌==◌, if◌then◌else◌, ℤ, pos, ◌-ℤ◌, unsigned_abs, List, [], ◌∷◌, map, Option, Some, None, Ok}
 use Rattle.std.specs.Option.{option_map}
 use Rattle.type_layout.specs.declared.definitions.TypeId.{TypeId}
 use Rattle.type_layout.specs.declared.definitions.TypeDef.{TypeDef}
@@ -11,14 +11,15 @@ use Rattle.typed_tree.specs.declared.expressions.Value.TheVariants as constant
 use Rattle.typed_tree.specs.declared.units.Program.{Program}
 use Rattle.typed_tree.specs.Expressions.{Expression, Const, RoutineValue, Load, Unary, Binary, Convert, Range, SetOf, Call, CallVirtual, CallThrough, Std, Make, Place, Var, Deref, Index, FieldOf, Receiver, NoReceiver, Own, Elements as Listed, NoElements, One, Span, Arguments, NoArguments, ByValue, ByPlace, type_of}
 use Rattle.common_values.specs.Sets.{with_range}
+use Rattle.typed_tree.specs.Standard as routine
 use Rattle.typed_tree.specs.type_fits.Fits.{stored_as, field_type}
 use Rattle.tp_meaning.specs.Trees.{Key, Spot, Value, Ordinal, Text, Elements, Nil, Block, Code, Void}
 use Rattle.tp_meaning.specs.Shapes.{parts_at, field_place}
 use Rattle.tp_meaning.specs.Store.{next_serial, followed, number_of}
 use Rattle.tp_meaning.specs.Programs.{routine_key, Sort, definition, beside, sort_in, class_key, is_overlay, char_sort}
 use Rattle.tp_meaning.specs.Outcomes.{Does, ◌>>=◌, ◌>>◌, give, raised, undefined, stuck, found, known, spending, looked, changed, ahead}
-use Rattle.tp_meaning.specs.Operators.{unary, binary, decided, converted, ranged, is_between, element_of}
-use Rattle.tp_meaning.specs.Activations.{Reached, Activation, whole, inside, variable_at, is_self, loaded, held_routine}
+use Rattle.tp_meaning.specs.Operators.{unary, binary, decided, converted, ranged, is_between, element_of, spanned}
+use Rattle.tp_meaning.specs.Activations.{Reached, Activation, whole, inside, variable_at, is_self, loaded, length_held, held_routine}
 use Rattle.tp_meaning.specs.Calls.{Runs, entered, method_of, overlay_called}
 use Rattle.tp_meaning.specs.Standard.{Operand, Given, Named, handed, Standard, standard, Effect, Gives, Changes, Makes, Asks, effect_of, target, made}
 
@@ -152,7 +153,7 @@ abbrev mutual
     at ← place program again f through
     xs ← operands program again f args
     called_through program again f at xs
-  value program again f (Std ty number args) = do
+  value program again f (Std ty number args) = measured program again f number args do
     xs ← operands program again f args
     one ← known (standard number)
     standard_done program (option_map (sort_in f.unit) ty) xs one
@@ -164,6 +165,12 @@ abbrev mutual
     class ← known (class_key sort)
     called program again f key (record { own = Some (whole serial); class = Some class }) xs
     give (Block serial)
+
+  -- Length of a variable reads the length of its text alone
+  pub measured : Program → Runs → Activation → ℕ → Arguments → Does Value → Does Value
+  measured program again f number (ByValue (Load ty from) NoArguments) other =
+      if number == routine.length then (place program again f from >>= λ at. looked (length_held at)) else other
+  measured program again f number args other = other
 
   pub place : Program → Runs → Activation → Place → Does Reached
   place program again f (Var variable) = looked (variable_at program f variable)
@@ -193,10 +200,9 @@ abbrev mutual
     elements program again f rest (with_range set n n)
   elements program again f (Span low high rest) set = do
     v ← value program again f low
-    first ← found (element_of v)
     w ← value program again f high
-    last ← found (element_of w)
-    elements program again f rest (with_range set first last)
+    more ← found (spanned set v w)
+    elements program again f rest more
 
   pub operands : Program → Runs → Activation → Arguments → Does (List Operand)
   operands program again f NoArguments = give []

@@ -46,7 +46,8 @@ pub record GoesOn (program : Program) (f : Activation) (loop : Statement) (s : S
   pub end : State
   pub is : statement program (run program) f loop s ≡ Over Going end
 
--- From `first` up to `last`, or down to it, there are n + 1 turns where n lies between them; and none where `last` was passed.
+-- From `first` up to `last`, or down to it, there are n + 1 turns where n lies between them. Where `last` was passed there is none,
+-- and nothing changes: the variable is what it was.
 pub record ForLaws (program : Program) (f : Activation) (variable : Variable) (ty : TypeId) (body : Statement) (at : Reached) (host : Host) : Type 0 where
   pub up : (first last : ℤ) (n : ℕ) (from to : Expression) (s : State) → HasBounds program f at from to first last s
       → IsValueOf (stored_among host) first → IsValueOf (stored_among host) last → last ≡ first +ℤ pos n → n + 1 ≤ s.turns
@@ -61,6 +62,6 @@ pub record ForLaws (program : Program) (f : Activation) (variable : Variable) (t
       → IsValueOf (stored_among host) first → IsValueOf (stored_among host) last → first ≡ last +ℤ pos n → s.turns ≤ n
       → GoesOn program f (For variable ty from to true false body) s
   pub up_none : (first last : ℤ) (from to : Expression) (s : State) → HasBounds program f at from to first last s
-      → last <ℤ first → EndsAfter program f (For variable ty from to false false body) s 0
+      → last <ℤ first → statement program (run program) f (For variable ty from to false false body) s ≡ Done Next s
   pub down_none : (first last : ℤ) (from to : Expression) (s : State) → HasBounds program f at from to first last s
-      → first <ℤ last → EndsAfter program f (For variable ty from to true false body) s 0
+      → first <ℤ last → statement program (run program) f (For variable ty from to true false body) s ≡ Done Next s

@@ -1,5 +1,5 @@
 -- What holds of the meaning and of the store.
-use Rattle.std.specs.Prelude.{◌≡◌, ◌≢◌, ℕ, ◌+◌, ◌<◌, ◌≤◌, ℤ, pos, ◌+ℤ◌, ◌-ℤ◌, ◌*ℤ◌, List, take, None, Ok}
+use Rattle.std.specs.Prelude.{◌≡◌, ◌≢◌, ℕ, ◌+◌, ◌<◌, ◌≤◌, ℤ, pos, ◌+ℤ◌, ◌-ℤ◌, ◌*ℤ◌, List, length, take, None, Ok}
 use Rattle.std.specs.Int.RustNames.{int_div, int_rem}
 use Rattle.typed_tree.specs.declared.units.Program.{Program}
 use Rattle.typed_tree.specs.declared.expressions.BinaryOp.TheVariants.{Add, Subtract, Multiply, Divide, Modulo}
@@ -8,7 +8,7 @@ use Rattle.common_values.specs.Ordinals.{IsValueOf}
 use Rattle.common_values.specs.Blocks.{block_sum}
 use Rattle.tp_meaning.specs.Trees.{Spot, Tree, Fork, part_count}
 use Rattle.tp_meaning.specs.Found.{◌>>=◌}
-use Rattle.tp_meaning.specs.Store.{Store, next_serial, object_at, tree_at, replaced, without, text_over, text_in, disposed}
+use Rattle.tp_meaning.specs.Store.{Store, next_serial, object_at, tree_at, replaced, without, text_over, text_in, length_in, disposed}
 use Rattle.tp_meaning.specs.Programs.{Sort, size_in}
 use Rattle.tp_meaning.specs.Outcomes.{State, Outcome, Done, Over}
 use Rattle.tp_meaning.specs.Operators.{arithmetic}
@@ -40,6 +40,8 @@ pub record StoreLaws (store : Store) : Type 0 where
 -- a string variable shows the text that was assigned, as far as it has room for it
 pub record TextLaws : Type 0 where
   pub shows : (bytes : List ℕ) (head tail : Tree) → (text_over bytes (Fork head tail) >>= text_in) ≡ Ok (take (part_count tail) bytes)
+  -- and where it shows a text, its length is that of the text
+  pub measures : (tree : Tree) (bytes : List ℕ) → text_in tree ≡ Ok bytes → length_in tree ≡ Ok (length bytes)
 
 -- New gives a block that was not there, and Dispose takes it away and leaves the block sum as it was
 pub record HeapLaws (program : Program) (sort : Sort) (store : Store) : Type 0 where

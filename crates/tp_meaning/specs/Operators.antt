@@ -1,5 +1,5 @@
 -- The operators, on values.
-use Rattle.std.specs.Prelude.{ℕ, ◌==◌, nat_lt, Bool, true, false, not, ◌&&◌, ◌||◌, if◌then◌else◌, ℤ, pos, negsuc, ◌+ℤ◌, ◌-ℤ◌, ◌*ℤ◌, neg_ℤ, int_le, bit_and, bit_or, bit_xor, List, [], ◌∷◌, Option, Some, None, Ok, Err}
+use Rattle.std.specs.Prelude.{ℕ, ◌==◌, nat_lt, Bool, true, false, not, ◌&&◌, ◌||◌, if◌then◌else◌, ℤ, pos, negsuc, ◌+ℤ◌, ◌-ℤ◌, ◌*ℤ◌, neg_ℤ, int_le, int_lt, bit_and, bit_or, bit_xor, List, [], ◌∷◌, Option, Some, None, Ok, Err}
 use Rattle.std.specs.declared.cmp.Ordering.{Ordering}
 use Rattle.std.specs.declared.cmp.Ordering.TheVariants as ordering
 use Rattle.std.specs.Ordering.{int_eq, int_cmp}
@@ -16,7 +16,7 @@ use Rattle.typed_tree.specs.declared.expressions.BinaryOp.TheVariants.{Add, Subt
 use Rattle.common_values.specs.declared.ordinals.IntegerType.{IntegerType}
 use Rattle.common_values.specs.Ordinals.{width_of, meant_by, kept, quotient, remainder, left_shift, right_shift}
 use Rattle.common_values.specs.Strings.{joined, compared}
-use Rattle.common_values.specs.Sets.{is_member, union, difference, intersection, is_subset, is_same}
+use Rattle.common_values.specs.Sets.{is_member, union, difference, intersection, is_subset, is_same, with_range}
 use Rattle.tp_meaning.specs.Trees.{Value, Ordinal, Text, Elements, Nil, Block}
 use Rattle.tp_meaning.specs.Found.{Act, Error, IllTyped, Found, ◌>>=◌, known}
 use Rattle.tp_meaning.specs.Shapes.{stored_among, kept_as}
@@ -191,3 +191,10 @@ abbrev pub element_of : Value → Found ℕ
 element_of (Ordinal (pos n)) = if nat_lt n 256 then Ok n else Err (Act 3)
 element_of (Ordinal (negsuc n)) = Err (Act 3)
 element_of v = Err IllTyped
+
+-- the set with the elements from one number to another: a range that is empty adds nothing, whatever its bounds are
+abbrev pub spanned : List ℕ → Value → Value → Found (List ℕ)
+spanned set low high = do
+  first ← number_of low
+  last ← number_of high
+  if int_lt last first then Ok set else (element_of low >>= λ m. element_of high >>= λ n. Ok (with_range set m n))

@@ -22,7 +22,7 @@ use Rattle.typed_tree.specs.declared.statements.Stmt.TheVariants as stmt
 use Rattle.typed_tree.specs.declared.units.Routine.{Routine}
 use Rattle.typed_tree.specs.declared.units.Unit.{Unit as TypedUnit}
 use Rattle.typed_tree.specs.declared.units.Program.{Program}
-use Rattle.typed_tree.specs.Expressions.{Expression, Load, Call, CallVirtual, CallThrough, RoutineValue, Make, Std, Deref, FieldOf, Var, Own, NoReceiver, NoArguments, ByValue, ByPlace}
+use Rattle.typed_tree.specs.Expressions.{Expression, Const, Load, Call, CallVirtual, CallThrough, RoutineValue, Make, Std, Deref, FieldOf, Var, Own, NoReceiver, NoArguments, ByValue, ByPlace}
 use Rattle.typed_tree.specs.Standard.{size_of, new, dispose}
 use Rattle.typed_tree.specs.declared.statements.Destructor.TheVariants as destructor
 use Rattle.typed_tree.specs.Statements.{Statement, Assign, CopyAll, Run, Unmake}
@@ -102,6 +102,8 @@ routines b =
     -- 10: an initialisation part that makes a global 5, and 11: a main part that ends with it
     ∷ routine kind.Procedure [] None None (stmt.Assign (boxed b (place.Var (record { unit = 0; level = 0; number = 0 }))) (boxed b (expr.Const integer (constant.Number (pos 5)))))
     ∷ routine kind.Procedure [] None None (stmt.Halt (boxed b (expr.Load' integer b (place.Var (record { unit = 1; level = 0; number = 0 })))))
+    -- 12: destructor T.Free(n)
+    ∷ routine kind.Destructor (param false ∷ []) None (Some (id 13)) stmt.Exit
     ∷ []
 
 -- ---- a program
@@ -219,6 +221,11 @@ unmaking b make = shown b (id 15 ∷ []) (block (
     ∷ Assign (FieldOf (Deref (load (id 15) 0)) 0) (number (pos 1))
     ∷ [])) 2
 
+-- Dispose(p, Free(1 div 0)): p is nil or not before the argument is evaluated, and followed only behind it
+abbrev pub freeing : Boxed → List Statement → Seen
+freeing b before = shown b (id 15 ∷ []) (block (
+    before ++ Unmake (load (id 15) 0) (destructor.Routine (routine_id 12)) (ByValue (on two.Divide (number (pos 1)) (number (pos 0))) NoArguments) ∷ [])) 0
+
 -- ---- order
 
 -- P(1 div 0, i), where i is unset: the first argument comes first
@@ -270,6 +277,8 @@ pub record CallExamples (b : Boxed) : Type 0 where
   pub making : making b ≡ ends (Undefined 5) (codes "2") []
   pub unmade : unmaking b (Assign (var 0) (Make (id 16) (routine_id 3) NoArguments)) ≡ ends (Undefined 2) (codes "d") []
   pub unmaking : unmaking b (Run (Std None new (ByPlace (var 0) NoArguments))) ≡ ends (Undefined 1) [] []
+  pub freeing_nil : freeing b (Assign (var 0) (Const (id 15) constant.Nil) ∷ []) ≡ ends (Ended 204) [] (error_line (codes "204"))
+  pub freeing_gone : freeing b (Run (Std None new (ByPlace (var 0) NoArguments)) ∷ Run (Std None dispose (ByValue (load (id 15) 0) NoArguments)) ∷ []) ≡ ends (Ended 200) [] (error_line (codes "200"))
   pub arguments : arguments b ≡ ends (Ended 200) [] (error_line (codes "200"))
   pub nested : nested b ≡ ends (Ended 0) (codes "6") []
   pub not_started : starting b (codes "A" ∷ []) ≡ ends (Ended 208) [] (error_line (codes "208"))

@@ -1,5 +1,5 @@
 -- Examples of strings, sets, arrays, records, pointers, input and output.
-use Rattle.std.specs.Prelude.{◌≡◌, ℕ, ◌++◌, Bool, true, false, pos, List, [], ◌∷◌, codes}
+use Rattle.std.specs.Prelude.{◌≡◌, ℕ, ◌++◌, Bool, true, false, ℤ, pos, List, [], ◌∷◌, codes}
 use Rattle.common_values.specs.behaviour.Seen.{Seen, Ended, Undefined}
 use Rattle.type_layout.specs.declared.definitions.TypeId.{TypeId}
 use Rattle.typed_tree.specs.declared.expressions.Value.TheVariants as constant
@@ -30,6 +30,17 @@ too_long = shown (id 6 ∷ []) (block (
     Assign (Index (var 0) (number (pos 0)) false) (Const (id 2) (constant.Number (pos 4)))
     ∷ write (load (id 6) 0 ∷ [])
     ∷ [])) [] 0
+
+-- t[0] := n; Write(Length(t)), where no other byte of t is set
+abbrev pub measuring : ℕ → Seen
+measuring n = shown (id 6 ∷ []) (block (
+    Assign (Index (var 0) (number (pos 0)) false) (Const (id 2) (constant.Number (pos n)))
+    ∷ write (gives integer routine.length (ByValue (load (id 6) 0) NoArguments) ∷ [])
+    ∷ [])) [] 0
+
+-- Write(Length(t))
+abbrev pub measuring_unset : Seen
+measuring_unset = shown (id 6 ∷ []) (write (gives integer routine.length (ByValue (load (id 6) 0) NoArguments) ∷ [])) [] 0
 
 abbrev pub join : Expression → Expression → Expression
 join a b = Binary (id 3) two.Add a b false
@@ -74,6 +85,10 @@ members = shown [] (write (holds (number (pos 4)) ∷ holds (number (pos 8)) ∷
 -- [256]
 abbrev pub no_element : Seen
 no_element = shown (id 8 ∷ []) (Assign (var 0) (SetOf (id 8) (One (number (pos 256)) NoElements))) [] 0
+
+-- Write(1 in [300..256]), and the same with [256..300]
+abbrev pub span : ℤ → ℤ → Seen
+span low high = shown [] (write (truth_of two.In (number (pos 1)) (SetOf (id 8) (Span (number low) (number high) NoElements)) ∷ [])) [] 0
 
 -- ---- arrays and records
 
@@ -191,10 +206,15 @@ pub record PartExamples : Type 0 where
   pub cutting : cutting ≡ ends (Ended 0) (codes "abc") []
   pub behind : behind ≡ ends (Ended 0) (codes "xbc") []
   pub too_long : too_long ≡ ends (Undefined 3) [] []
+  pub measured : measuring 3 ≡ ends (Ended 0) (codes "3") []
+  pub measured_past : measuring 4 ≡ ends (Undefined 3) [] []
+  pub measuring_unset : measuring_unset ≡ ends (Undefined 1) [] []
   pub comparing : comparing ≡ ends (Ended 0) (codes "TRUETRUE") []
   pub editing : editing ≡ ends (Ended 0) (codes "axyd 3 xyd 4") []
   pub valuing : valuing ≡ ends (Ended 0) (codes "3   ab|abc" ++ 13 ∷ 10 ∷ []) []
   pub members : members ≡ ends (Ended 0) (codes "TRUEFALSEFALSE") []
+  pub empty_span : span (pos 300) (pos 256) ≡ ends (Ended 0) (codes "FALSE") []
+  pub past_span : span (pos 256) (pos 300) ≡ ends (Undefined 3) [] []
   pub no_element : no_element ≡ ends (Undefined 3) [] []
   pub arrays : arrays ≡ ends (Ended 0) (codes "7") []
   pub outside : outside ≡ ends (Undefined 3) [] []

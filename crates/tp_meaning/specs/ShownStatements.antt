@@ -75,6 +75,14 @@ counting turns = shown (integer ∷ []) (For (variable 0) integer (number (pos 1
 abbrev pub after_loop : Seen
 after_loop = shown (integer ∷ []) (block (For (variable 0) integer (number (pos 2)) (number (pos 1)) true false (write (int 0 ∷ [])) ∷ write (int 0 ∷ []) ∷ [])) [] 9
 
+-- i := 7; for i := 2 to 1 do Write('x'); Write(i)
+abbrev pub no_turn : Seen
+no_turn = shown (integer ∷ []) (block (
+    Assign (var 0) (number (pos 7))
+    ∷ For (variable 0) integer (number (pos 2)) (number (pos 1)) false false (write (chars (codes "x") ∷ []))
+    ∷ write (int 0 ∷ [])
+    ∷ [])) [] 0
+
 -- up to the greatest Integer, behind which the variable isn't stepped
 abbrev pub to_the_end : Seen
 to_the_end = shown (integer ∷ []) (For (variable 0) integer (number (pos 32766)) (number (pos 32767)) false false (write (int 0 ∷ []))) [] 9
@@ -128,6 +136,7 @@ pub record StatementExamples : Type 0 where
   pub counted : counting 3 ≡ ends (Ended 0) (codes "123") []
   pub counting : counting 2 ≡ ends Going (codes "12") []
   pub after_loop : after_loop ≡ ends (Undefined 1) (codes "21") []
+  pub no_turn : no_turn ≡ ends (Ended 0) (codes "7") []
   pub counted_checked : counting_checked (pos 2) (pos 3) ≡ ends (Ended 0) (codes "23") []
   pub bound_outside : counting_checked (pos 2) (pos 4) ≡ ends (Ended 201) [] (error_line (codes "201"))
   pub bound_of_no_turn : counting_checked (pos 4) (pos 3) ≡ ends (Ended 0) [] []

@@ -135,7 +135,7 @@ abbrev pub step : Bool → ℤ
 step false = pos 1
 step true = negsuc 0
 
--- after a `for` its variable is unset
+-- behind the last turn of a `for` its variable is unset
 abbrev pub counted : Program → Activation → Variable → Does Flow
 counted program f variable = do
   at ← counter program f variable
@@ -157,9 +157,9 @@ turn program again f variable last down body go = spending (go >>= λ flow. then
 -- ---- Dispose with a destructor
 
 -- error 204 for nil
-abbrev pub block_of : Value → Store → Found ℕ
-block_of Nil store = Err (Error 204)
-block_of v store = followed store v
+abbrev pub unless_nil : Value → Found (Unit {0})
+unless_nil Nil = Err (Error 204)
+unless_nil v = Ok tt
 
 abbrev pub destructor_of : Program → Activation → Reached → Destructor → Does Key
 destructor_of program f at (destructor.Routine routine) = known (routine_key f.unit routine)
@@ -173,14 +173,21 @@ freed program again f with args serial at = do
   changed (λ store. disposed store serial bytes)
   give Next
 
+-- the block to which a pointer leads is freed so
+abbrev pub unmade_at : Program → Runs → Activation → Expression → Destructor → List Operand → Value → Does Flow
+unmade_at program again f pointer with args v = do
+  serial ← looked (λ store. followed store v)
+  sort ← sort_of f pointer
+  to ← found (target sort)
+  freed program again f with args serial (record { spot = whole serial; sort = to })
+
+-- the pointer is followed behind the arguments
 abbrev pub unmade : Program → Runs → Activation → Expression → Destructor → Arguments → Does Flow
 unmade program again f pointer with args = do
   v ← value program again f pointer
-  serial ← looked (block_of v)
-  sort ← sort_of f pointer
-  to ← found (target sort)
+  found (unless_nil v)
   xs ← operands program again f args
-  freed program again f with xs serial (record { spot = whole serial; sort = to })
+  unmade_at program again f pointer with xs v
 
 -- ---- the meaning of each form
 
@@ -220,7 +227,7 @@ abbrev mutual
   statement program again f (For variable ty from to down checked body) = do
     first ← number program again f from
     last ← number program again f to
-    chosen (is_past down first last) (counted program f variable) do
+    chosen (is_past down first last) (give Next) do
       low ← tested checked (definition (sort_in f.unit ty)) first
       high ← tested checked (definition (sort_in f.unit ty)) last
       at ← counter program f variable

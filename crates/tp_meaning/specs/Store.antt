@@ -89,6 +89,18 @@ text_in (Leaf cell) = Err IllTyped
 abbrev pub text_at : Store → Spot → Found (List ℕ)
 text_at store spot = tree_at store spot >>= text_in
 
+-- the length of a string's cells, for which the bytes behind it need not be set
+abbrev pub length_within : ℕ → Tree → Found ℕ
+length_within count cells = if nat_le count (part_count cells) then Ok count else Err (Act 3)
+
+abbrev pub length_in : Tree → Found ℕ
+length_in (Fork head tail) = byte_in head >>= λ count. length_within count tail
+length_in Tip = Err IllTyped
+length_in (Leaf cell) = Err IllTyped
+
+abbrev pub length_at : Store → Spot → Found ℕ
+length_at store spot = tree_at store spot >>= length_in
+
 abbrev pub class_of : Value → Found (Option Key)
 class_of (Class class) = Ok class
 class_of v = Err IllTyped

@@ -1,5 +1,5 @@
 -- Expressions and statements do the same in activations that are alike, in two programs whose units are seen alike.
-use Rattle.std.proofs.Common.{◌≡◌, ℕ, ℤ, ◌+ℤ◌, Bool, if◌then◌else◌, List, [], ◌∷◌, map, Option, Some, None, Ok, Err, zero, nat_lt, ◌++◌, refl, ap, ◌∙◌}
+use Rattle.std.proofs.Common.{◌≡◌, ◌==◌, ℕ, ℤ, ◌+ℤ◌, Bool, if◌then◌else◌, List, [], ◌∷◌, map, Option, Some, None, Ok, Err, zero, nat_lt, ◌++◌, refl, ap, ◌∙◌}
 use Rattle.std.specs.Prelude.{pos}
 use Rattle.std.specs.List.{list_any}
 use Rattle.std.specs.Option.{option_map}
@@ -11,6 +11,7 @@ use Rattle.tp_check_decl.specs.typed_tree.declared.statements.Destructor.{Destru
 use Rattle.tp_check_decl.specs.typed_tree.declared.statements.Destructor.TheVariants as destructor
 use Rattle.tp_check_decl.specs.typed_tree.declared.units.Program.{Program}
 use Rattle.tp_check_decl.specs.typed_tree.Expressions.{Expression, Const, RoutineValue, Load, Unary, Binary, Convert, Range, SetOf, Call, CallVirtual, CallThrough, Std, Make, Place, Var, Deref, Index, FieldOf, Receiver, NoReceiver, Own, Elements as Listed, NoElements, One, Span, Arguments, NoArguments, ByValue, ByPlace, type_of}
+use Rattle.tp_check_decl.specs.typed_tree.Standard as routine
 use Rattle.tp_check_decl.specs.typed_tree.Statements.{Written, Taken, Statement, Assign, CopyAll, Run, If, While, Repeat, Block as Listing, Case, For, With, WriteItems, ReadItems, Halt, Exit, Unmake, Statements, NoStatements, Then, Arms, NoArms, Branch}
 use Rattle.tp_meaning.specs.common_values.Sets.{with_range}
 use Rattle.tp_meaning.specs.common_values.Blocks.{block_sum}
@@ -23,12 +24,12 @@ use Rattle.tp_meaning.specs.Shapes.{parts_at, class_place}
 use Rattle.tp_meaning.specs.Store.{Store, next_serial, followed, number_of, replaced, disposed}
 use Rattle.tp_meaning.specs.Programs.{routine_key, Sort, definition, sort_in, class_key, is_overlay}
 use Rattle.tp_meaning.specs.Outcomes.{Does, ◌>>=◌, ◌>>◌, give, found, known, spending, looked, changed, printed}
-use Rattle.tp_meaning.specs.Operators.{unary, binary, decided, converted, ranged, is_true, element_of}
-use Rattle.tp_meaning.specs.Activations.{Reached, Activation, whole, loaded, held_routine, class_at, assigned, copied, number_in}
+use Rattle.tp_meaning.specs.Operators.{unary, binary, decided, converted, ranged, is_true, element_of, spanned}
+use Rattle.tp_meaning.specs.Activations.{Reached, Activation, whole, loaded, length_held, held_routine, class_at, assigned, copied, number_in}
 use Rattle.tp_meaning.specs.Calls.{Flow, Next, Task, Do, Turns, Runs, method_of, dispatched_by, dispatched_in, is_file, installed_if, overlay_called}
 use Rattle.tp_meaning.specs.Standard.{Operand, Given, Named, handed, Standard, SizeOf, New, standard, Effect, Gives, Changes, Makes, Asks, effect_of, target, made, within_heap, made_for, with_new_block, instance_size, size_freed, size_by, size_of_variable, place_given, new_of, number_assigned, field_text, text_of}
-use Rattle.tp_meaning.specs.Expressions.{sort_of, storage, field_at, element_in, Instance, class_for, instance_at, called, called_by_class, called_through, block_made, effect_done, standard_done, unless, value, place, receiver, elements, operands}
-use Rattle.tp_meaning.specs.Statements.{then_next, chosen, number, condition, covers, tested, width_of, written, line_written, taken_as, read, line_read, counter, is_past, step, counted, turned, turn, block_of, destructor_of, freed, unmade, halted, with_held, statement, statements, branches, task}
+use Rattle.tp_meaning.specs.Expressions.{sort_of, storage, field_at, element_in, Instance, class_for, instance_at, called, called_by_class, called_through, block_made, effect_done, standard_done, unless, value, measured, place, receiver, elements, operands}
+use Rattle.tp_meaning.specs.Statements.{then_next, chosen, number, condition, covers, tested, width_of, written, line_written, taken_as, read, line_read, counter, is_past, step, counted, turned, turn, unless_nil, destructor_of, freed, unmade_at, unmade, halted, with_held, statement, statements, branches, task}
 use Rattle.address_independence.proofs.congruence.Units.{unit_as, heap_alike, file_alike, class_alike, size_alike}
 use Rattle.address_independence.proofs.congruence.Activations.{IsAlike, RunAlike, self_alike, variable_alike, entered_alike}
 
@@ -179,10 +180,10 @@ module _ (p q : Program) (units : map view_unit p.units ≡ map view_unit q.unit
         at ← place_alike f g a through i
         xs ← operands_alike f g a args i
         called_through_alike f g a at xs i
-      value_alike f g a (Std ty number args) = λ i. do
+      value_alike f g a (Std ty number args) = measured_alike f g a number args (λ i. do
         xs ← operands_alike f g a args i
         one ← known (standard number)
-        standard_alike (option_map (sort_in f.unit) ty) (option_map (sort_in g.unit) ty) (λ j. option_map (sort_in (unit_as (a.unit j) f.unit.routines)) ty) xs one i
+        standard_alike (option_map (sort_in f.unit) ty) (option_map (sort_in g.unit) ty) (λ j. option_map (sort_in (unit_as (a.unit j) f.unit.routines)) ty) xs one i)
       value_alike f g a (Make ty routine args) = λ i. do
         sort ← found (target (sort_alike f g a ty i))
         serial ← block_made_alike sort i
@@ -191,6 +192,10 @@ module _ (p q : Program) (units : map view_unit p.units ≡ map view_unit q.unit
         class ← known (class_key sort)
         called_alike f g a key (record { own = Some (whole serial); class = Some class }) xs i
         give (Block serial)
+
+      measured_alike : (f g : Activation) → IsAlike f g → (number : ℕ) (args : Arguments) {other other' : Does Value} → other ≡ other' → measured p again f number args other ≡ measured q again' g number args other'
+      measured_alike f g a number (ByValue (Load ty from) NoArguments) same = λ i. if number == routine.length then (place_alike f g a from i >>= λ at. looked (length_held at)) else same i
+      measured_alike f g a number args same = same
 
       place_alike : (f g : Activation) → IsAlike f g → (e : Place) → place p again f e ≡ place q again' g e
       place_alike f g a (Var variable) = λ i. looked (variable_alike p q units start f g a variable i)
@@ -219,10 +224,9 @@ module _ (p q : Program) (units : map view_unit p.units ≡ map view_unit q.unit
         elements_alike f g a rest (with_range set n n) i
       elements_alike f g a (Span low high rest) set = λ i. do
         v ← value_alike f g a low i
-        first ← found (element_of v)
         w ← value_alike f g a high i
-        last ← found (element_of w)
-        elements_alike f g a rest (with_range set first last) i
+        more ← found (spanned set v w)
+        elements_alike f g a rest more i
 
       operands_alike : (f g : Activation) → IsAlike f g → (args : Arguments) → operands p again f args ≡ operands q again' g args
       operands_alike f g a NoArguments = refl
@@ -295,14 +299,19 @@ module _ (p q : Program) (units : map view_unit p.units ≡ map view_unit q.unit
         changed (λ store. disposed store serial bytes)
         give Next
 
+      unmade_at_alike : (pointer : Expression) (with : Destructor) (args : List Operand) (v : Value) → unmade_at p again f pointer with args v ≡ unmade_at q again' g pointer with args v
+      unmade_at_alike pointer with args v i = do
+        serial ← looked (λ store. followed store v)
+        sort ← sort_of_alike f g a pointer i
+        to ← found (target sort)
+        freed_by_alike with args serial (record { spot = whole serial; sort = to }) i
+
       unmade_alike : (pointer : Expression) (with : Destructor) (args : Arguments) → unmade p again f pointer with args ≡ unmade q again' g pointer with args
       unmade_alike pointer with args i = do
         v ← value_alike f g a pointer i
-        serial ← looked (block_of v)
-        sort ← sort_of_alike f g a pointer i
-        to ← found (target sort)
+        found (unless_nil v)
         xs ← operands_alike f g a args i
-        freed_by_alike with xs serial (record { spot = whole serial; sort = to }) i
+        unmade_at_alike pointer with xs v i
 
     -- ---- statements
 
@@ -335,7 +344,7 @@ module _ (p q : Program) (units : map view_unit p.units ≡ map view_unit q.unit
       statement_alike f g a (For variable ty from to down checked body) = λ i. do
         first ← number_alike f g a from i
         last ← number_alike f g a to i
-        chosen (is_past down first last) (counted_alike f g a variable i) do
+        chosen (is_past down first last) (give Next) do
           low ← tested checked (definition (sort_alike f g a ty i)) first
           high ← tested checked (definition (sort_alike f g a ty i)) last
           at ← counter_alike f g a variable i

@@ -6,7 +6,7 @@ use Rattle.type_layout.specs.declared.definitions.TypeId.{TypeId}
 use Rattle.type_layout.specs.declared.definitions.RoutineId.{RoutineId}
 use Rattle.typed_tree.specs.declared.expressions.BinaryOp.{BinaryOp}
 use Rattle.typed_tree.specs.declared.statements.Destructor.{Destructor}
-use Rattle.typed_tree.specs.Expressions.{view_boxed, Expression, Elements as Listed, Arguments, view_expr, view_place, view_elements, view_args}
+use Rattle.typed_tree.specs.Expressions.{view_boxed, Expression, Place, Elements as Listed, Arguments, view_expr, view_place, view_elements, view_args}
 use Rattle.typed_tree.specs.Statements.{Written, Taken, Statement, Arms, While, Repeat, view_stmt, view_stmts, view_arms, view_written, view_taken}
 use Rattle.typed_tree.specs.type_fits.Fits.{stored_as}
 use Rattle.common_values.specs.Sets.{with_range}
@@ -14,12 +14,12 @@ use Rattle.tp_meaning.specs.Trees.{Value, Ordinal, Block}
 use Rattle.tp_meaning.specs.Store.{number_of}
 use Rattle.tp_meaning.specs.Programs.{Sort, definition, sort_in, routine_key, class_key}
 use Rattle.tp_meaning.specs.Outcomes.{State, Outcome, Done, Does, and_then, ◌>>=◌, ◌>>◌, give, stuck, found, known, spending, looked, changed, printed}
-use Rattle.tp_meaning.specs.Operators.{is_true, unary, binary, decided, converted, ranged, element_of}
-use Rattle.tp_meaning.specs.Activations.{Reached, Activation, loaded, assigned, copied, whole}
-use Rattle.tp_meaning.specs.Calls.{Flow, Next, Do}
-use Rattle.tp_meaning.specs.Standard.{Operand, Given, Named, field_text, text_of, target}
-use Rattle.tp_meaning.specs.Expressions.{Instance, value, place, elements, operands, called, called_by_class, called_through, unless, storage, field_at, instance_at, sort_of}
-use Rattle.tp_meaning.specs.Statements.{statement, statements, branches, number, condition, chosen, then_next, tested, counter, counted, turn, turned, is_past, width_of, written, line_written, taken_as, read, line_read, halted, block_of, freed, with_held}
+use Rattle.tp_meaning.specs.Operators.{is_true, unary, binary, decided, converted, ranged, element_of, spanned}
+use Rattle.tp_meaning.specs.Activations.{Reached, Activation, loaded, length_held, assigned, copied}
+use Rattle.tp_meaning.specs.Calls.{Flow, Next, Do, Runs}
+use Rattle.tp_meaning.specs.Standard.{Operand, Given, Named, field_text, text_of}
+use Rattle.tp_meaning.specs.Expressions.{Instance, value, place, elements, operands, called, called_by_class, called_through, unless, storage, field_at, instance_at}
+use Rattle.tp_meaning.specs.Statements.{statement, statements, branches, number, condition, chosen, then_next, tested, counter, turn, turned, is_past, width_of, written, line_written, taken_as, read, line_read, halted, unless_nil, unmade_at, with_held}
 use Rattle.tp_meaning.specs.Meaning.{run}
 use Rattle.interpreter_store.specs.cell_store.Views.{view_value}
 use Rattle.interpreter_store.specs.typed_cells.Sorts.{view_sort, view_reached}
@@ -75,15 +75,20 @@ operated p f ty op v right early =
 abbrev pub element_added : Program → Activation → Listed → List ℕ → Value → Does Value
 element_added p f more set v = found (element_of v) >>= λ n. elements p (run p) f more (with_range set n n)
 
-abbrev pub span_added : Program → Activation → ℕ → Listed → List ℕ → Value → Does Value
-span_added p f first more set v = found (element_of v) >>= λ last. elements p (run p) f more (with_range set first last)
+abbrev pub span_added : Program → Activation → Value → Listed → List ℕ → Value → Does Value
+span_added p f first more set last = found (spanned set first last) >>= λ all. elements p (run p) f more all
 
 abbrev pub span_begun : Program → Activation → Expression → Listed → List ℕ → Value → Does Value
-span_begun p f last more set v = found (element_of v) >>= λ first. value p (run p) f last >>= λ w. span_added p f first more set w
+span_begun p f last more set first = value p (run p) f last >>= λ v. span_added p f first more set v
 
 -- the arguments that are left, behind one
 abbrev pub arguments_behind : Program → Activation → Operand → Arguments → Does (List Operand)
 arguments_behind p f one args = operands p (run p) f args >>= λ xs. give (one ∷ xs)
+
+-- the length of a variable, where that is what is asked for, and something else otherwise
+abbrev pub measured_at : Program → Runs → Activation → Option Place → Does Value → Does Value
+measured_at p again f None other = other
+measured_at p again f (Some from) other = place p again f from >>= λ at. looked (length_held at)
 
 -- ---- parts of statements
 
@@ -113,7 +118,7 @@ repeat_followed p f body test flow =
 -- the turns of a `for` between two values
 abbrev pub counting_from : Program → Counting → Activation → ℤ → ℤ → Does Flow
 counting_from p c f first last =
-    chosen (is_past c.down first last) (counted p f c.variable) do
+    chosen (is_past c.down first last) (give Next) do
       low ← tested c.checked (definition (sort_in f.unit c.ty)) first
       high ← tested c.checked (definition (sort_in f.unit c.ty)) last
       at ← counter p f c.variable
@@ -157,14 +162,12 @@ item_read p f checked ty at rest line = (taken_as checked at (definition (sort_i
 abbrev pub halted_by : Value → Does Flow
 halted_by v = found (number_of v) >>= halted
 
--- the block to which a value leads is disposed of by a destructor with arguments
+-- the block to which a value leads is disposed of by a destructor, whose arguments come first
 abbrev pub disposed_with : Program → Activation → Expression → Destructor → Arguments → Value → Does Flow
 disposed_with p f pointer destructor args v = do
-  serial ← looked (block_of v)
-  sort ← sort_of f pointer
-  to ← found (target sort)
+  found (unless_nil v)
   xs ← operands p (run p) f args
-  freed p (run p) f destructor xs serial (record { spot = whole serial; sort = to })
+  unmade_at p (run p) f pointer destructor xs v
 
 -- the activation behind the body of a `with`
 abbrev pub released : Activation → Activation
@@ -193,8 +196,8 @@ on_operands p rest (callable.OfClass at slot checked) xs f = with_value rest f (
 on_operands p rest (callable.Held at) xs f = with_value rest f (called_through p (run p) f (view_reached at) xs)
 on_operands p rest (callable.Standard ty number) xs f = with_value rest f (performed p f ty number xs)
 on_operands p rest (callable.Constructor routine serial sort) xs f = with_value rest f (constructed p f routine serial (view_sort sort) xs)
-on_operands p rest (callable.Destructor at destructor) xs f =
-    with_flow rest f (freed p (run p) f destructor xs (view_reached at).spot.object (view_reached at))
+on_operands p rest (callable.Destructor pointer block destructor) xs f =
+    with_flow rest f (unmade_at p (run p) f (view_expr pointer.now.value) destructor xs (view_value block))
 
 -- the arguments that are left, and then the call
 abbrev pub on_arguments : Program → Rest → Callable → List Operand → Activation → Does (List Operand) → Does Value
@@ -210,7 +213,7 @@ resumed_value p rest (on_value.Convert ty) v f = with_value rest f (found (conve
 resumed_value p rest (on_value.Range low high) v f = with_value rest f (found (ranged low high v))
 resumed_value p rest (on_value.Element more set) v f = with_value rest f (element_added p f (view_elements more.now) set.items v)
 resumed_value p rest (on_value.First last more set) v f = with_value rest f (span_begun p f (view_expr last.now) (view_elements more.now) set.items v)
-resumed_value p rest (on_value.Last first more set) v f = with_value rest f (span_added p f first (view_elements more.now) set.items v)
+resumed_value p rest (on_value.Last first more set) v f = with_value rest f (span_added p f (view_value first) (view_elements more.now) set.items v)
 resumed_value p rest (on_value.Deref pointer) v f = with_place rest f (followed_to f (view_expr pointer.now.value) v)
 resumed_value p rest (on_value.Index at checked) v f = with_place rest f (indexed (view_reached at) checked v)
 resumed_value p rest (on_value.Argument sort more front call) v f =
@@ -235,6 +238,7 @@ resumed_value p rest (on_value.Unmake pointer destructor args) v f =
 
 abbrev pub resumed_place : Program → Rest → OnPlace → Reached → Activation → Does Value
 resumed_place p rest on_place.Load at f = with_value rest f (looked (loaded at))
+resumed_place p rest on_place.Length at f = with_value rest f (looked (length_held at))
 resumed_place p rest (on_place.Indexed index checked) at f =
     with_place rest f (value p (run p) f (view_expr index.now.value) >>= λ v. indexed at checked v)
 resumed_place p rest (on_place.Field number) at f = with_place rest f (field_at at number)

@@ -1,9 +1,10 @@
 //! What is called once its arguments are known.
 
 use crate::Instance;
+use interpreter_store::cell_store::Value;
 use interpreter_store::typed_cells::{Reached, Sort};
 use type_layout::{RoutineId, TypeId};
-use typed_tree::Destructor;
+use typed_tree::{Destructor, Expr};
 
 /// What is called.
 #[derive(Drop)]
@@ -33,9 +34,10 @@ pub enum Callable<'a> {
         serial: usize,
         sort: Sort<'a>,
     },
-    /// The destructor of a block, which is then freed.
+    /// The destructor of the block to which a pointer leads, which is then freed.
     Destructor {
-        at: Reached<'a>,
+        pointer: &'a Box<Expr>,
+        block: Value,
         destructor: Destructor,
     },
 }

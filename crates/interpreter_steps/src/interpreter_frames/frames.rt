@@ -57,7 +57,7 @@ pub enum OnValue<'a> {
         set: Vec<u8>,
     },
     Last {
-        first: u8,
+        first: Value,
         rest: &'a [SetElement],
         set: Vec<u8>,
     },
@@ -134,6 +134,8 @@ pub enum OnValue<'a> {
 #[derive(Drop)]
 pub enum OnPlace<'a> {
     Load,
+    /// The variable of which Length is asked for.
+    Length,
     Indexed {
         index: &'a Box<Expr>,
         checked: bool,

@@ -3,7 +3,7 @@
 ghost use Rattle.std.specs.Prelude.{◌≡◌, ◌≤◌, ◌∷◌, ◌++◌, pos, map, length, take, IfOk, OnOk};
 ghost use Rattle.std.specs.Option.{option_map, option_copied};
 ghost use Rattle.tp_meaning.specs.Trees.{Ordinal, Tree as PureTree, Fork, part_at, part_count, holding};
-ghost use Rattle.tp_meaning.specs.Store.{value_in, byte_in, bytes_in, text_of_length, text_in, cut_over, text_over};
+ghost use Rattle.tp_meaning.specs.Store.{value_in, byte_in, bytes_in, text_of_length, text_in, length_within, length_in, cut_over, text_over};
 ghost use Rattle.interpreter_store.specs.cell_store.Views.{view_value, view_tree, view_parts};
 ghost use Rattle.interpreter_store.specs.cell_store.Finding.{Finds, Gets};
 ghost use Rattle.interpreter_store.specs.cell_store.Parts.{byte_cell, exchanged};
@@ -129,6 +129,16 @@ impl Tree {
         }
     }
 
+    /// The length of a string's cells. One that passes the string's size is an undefined act.
+    pub fn length(&self) -> Result<u8, Stop>
+        ensures { Gets (λ count. count) result (length_in (view_tree self.now)) }
+    {
+        match self {
+            Tree::Leaf(_) => Err(Stop::Trapped(Trap::IllTyped)),
+            Tree::Parts(parts) => length_of(parts.as_slice()),
+        }
+    }
+
     /// The cells of a string once a text is assigned, which is cut to the string's size. The cells behind the text stay.
     pub fn with_text(&self, alloc: Global, text: &[u8]) -> Result<Tree, Stop>
         ensures { Gets view_tree result (text_over text.now (view_tree self.now)) }
@@ -201,6 +211,29 @@ fn text_of_length(alloc: Global, count: u8, cells: &[Tree]) -> Result<Vec<u8>, S
     let count = usize::from(count);
     if count <= cells.len() {
         bytes_of(alloc, count, cells)
+    } else {
+        Err(Stop::Trapped(Trap::Act(3)))
+    }
+}
+
+fn length_of(parts: &[Tree]) -> Result<u8, Stop>
+    ensures { Gets (λ count. count) result (length_in (view_parts parts.now)) }
+{
+    match parts {
+        [] => Err(Stop::Trapped(Trap::IllTyped)),
+        [head, cells @ ..] => {
+            let count = head.byte()?;
+            length_within(count, cells)
+        }
+    }
+}
+
+#[tactic(auto, using(crate::proofs::cell_store::Rows::count_of_parts))]
+fn length_within(count: u8, cells: &[Tree]) -> Result<u8, Stop>
+    ensures { Gets (λ count. count) result (length_within count (view_parts cells.now)) }
+{
+    if usize::from(count) <= cells.len() {
+        Ok(count)
     } else {
         Err(Stop::Trapped(Trap::Act(3)))
     }

@@ -2,7 +2,7 @@
 
 ghost use Rattle.std.specs.Prelude.{◌≡◌, ◌+◌, ◌≤◌, ◌∷◌, [], map, length, slice_get, OnOk, OnErr};
 ghost use Rattle.std.specs.Option.{option_map, option_copied, option_flatten};
-ghost use Rattle.tp_meaning.specs.Store.{next_serial, object_at, with_new, without, tree_at, value_at, text_at, followed, replaced, disposed};
+ghost use Rattle.tp_meaning.specs.Store.{next_serial, object_at, with_new, without, tree_at, value_at, text_at, length_at, followed, replaced, disposed};
 ghost use Rattle.tp_meaning.specs.Activations.{variable_object};
 ghost use Rattle.interpreter_store.specs.cell_store.Views.{view_spot, view_value, view_tree, view_object, view_slot, view_store};
 ghost use Rattle.interpreter_store.specs.cell_store.Finding.{Finds, Gets};
@@ -78,6 +78,13 @@ impl Store {
         ensures { Gets (λ text. text.items) result (text_at (view_store self.now) (view_spot spot.now)) }
     {
         self.tree_at(spot)?.text(alloc)
+    }
+
+    /// The length of a string's cells.
+    pub fn length_at(&self, spot: &Spot) -> Result<u8, Stop>
+        ensures { Gets (λ count. count) result (length_at (view_store self.now) (view_spot spot.now)) }
+    {
+        self.tree_at(spot)?.length()
     }
 
     /// The serial number of the block to which a pointer leads; nil leads nowhere, and so does a pointer to a block that is

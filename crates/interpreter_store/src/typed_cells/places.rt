@@ -4,7 +4,7 @@ ghost use Rattle.std.specs.Prelude.{◌≡◌, IfOk};
 ghost use Rattle.std.specs.Option.{option_map, option_copied};
 ghost use Rattle.tp_meaning.specs.Trees.{At};
 ghost use Rattle.tp_meaning.specs.Store.{value_at};
-ghost use Rattle.tp_meaning.specs.Activations.{inside, loaded_as, loaded, held_routine, number_in, assigned, copied, class_spot, class_at, with_class};
+ghost use Rattle.tp_meaning.specs.Activations.{inside, loaded_as, loaded, length_as, length_held, held_routine, number_in, assigned, copied, class_spot, class_at, with_class};
 ghost use Rattle.interpreter_store.specs.cell_store.Views.{view_key, view_spot, view_value, view_store};
 ghost use Rattle.interpreter_store.specs.cell_store.Finding.{Finds, Gets};
 ghost use Rattle.interpreter_store.specs.typed_cells.Sorts.{view_reached};
@@ -52,6 +52,16 @@ pub fn loaded_as(
     }
 }
 
+// The length of what a string variable holds.
+fn length_as(one: Option<&TypeDef>, spot: &Spot, store: &Store) -> Result<u8, Stop>
+    ensures { Gets (λ count. count) result (length_as (option_copied one.entry) (view_spot spot.now) (view_store store.now)) }
+{
+    match one {
+        Some(TypeDef::Str { .. }) => store.length_at(spot),
+        _ => Err(Stop::Trapped(Trap::IllTyped)),
+    }
+}
+
 // Where the class of an instance lies. An object type in a table of its own, which no program has, is answered as out of memory.
 fn class_spot(alloc: Global, at: &Reached) -> Result<Spot, Stop>
     ensures { Gets view_spot result (class_spot (view_reached at.now)) }
@@ -91,6 +101,14 @@ impl Reached<'_> {
         ensures { Gets view_value result (loaded (view_reached self.now) (view_store store.now)) }
     {
         loaded_as(alloc, self.sort.definition(), &self.spot, store)
+    }
+
+    /// The length of what a string variable holds, of which the bytes need not be set.
+    pub fn length(&self, store: &Store) -> Result<Value, Stop>
+        ensures { Gets view_value result (length_held (view_reached self.now) (view_store store.now)) }
+    {
+        let count = length_as(self.sort.definition(), &self.spot, store)?;
+        Ok(Value::Ordinal(i32::from(count)))
     }
 
     /// The routine that a procedural variable holds.

@@ -4,12 +4,13 @@ ghost use Rattle.std.specs.Prelude.{◌≡◌, ℕ, Some};
 ghost use Rattle.type_layout.specs.declared.definitions.TypeDef.TheVariants as type;
 ghost use Rattle.tp_meaning.specs.Trees.{Ordinal};
 ghost use Rattle.std.specs.Option.{option_copied};
-ghost use Rattle.tp_meaning.specs.Operators.{converted, is_between, within, ranged, element_of};
+ghost use Rattle.tp_meaning.specs.Operators.{converted, is_between, within, ranged, element_of, spanned};
 ghost use Rattle.interpreter_store.specs.cell_store.Views.{view_value};
 ghost use Rattle.interpreter_store.specs.cell_store.Finding.{Finds, Gets};
 
 use crate::cell_store::{Stop, Trap, Value};
 use crate::value_operators::numbers::kept_as;
+use common_values::sets::with_range;
 use std::alloc::Global;
 use type_layout::{Bytes, TypeDef, storage_of};
 
@@ -89,4 +90,18 @@ pub fn element_of(value: &Value) -> Result<u8, Trap>
     ensures { Finds (λ element. element) result (element_of (view_value value.now)) }
 {
     element_number(value.number()?)
+}
+
+/// The set with the elements from one number to another. A range that is empty adds nothing, whatever its bounds are.
+pub fn spanned(alloc: Global, set: Vec<u8>, low: &Value, high: &Value) -> Result<Vec<u8>, Stop>
+    ensures { Gets (λ more. more.items) result (spanned set.items (view_value low.now) (view_value high.now)) }
+{
+    let first = low.number()?;
+    let last = high.number()?;
+    if last < first {
+        return Ok(set);
+    }
+    let m = element_of(low)?;
+    let n = element_of(high)?;
+    Ok(with_range(alloc, set.as_slice(), m, n)?)
 }

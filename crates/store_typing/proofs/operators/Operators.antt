@@ -1,7 +1,7 @@
 -- Operators on values of their types.
 use Rattle.std.proofs.Common.{◌≡◌, ℕ, zero, suc, ◌+◌, ◌<◌, ◌≤◌, Bool, true, false, List, [], ◌∷◌, ◌++◌, length, take, Some, None, refl, sym, ap, subst, ◌∙◌, arith}
 use Rattle.std.proofs.Common.{⊎_elim}
-use Rattle.std.specs.Prelude.{◌⊎◌, ℤ, neg_ℤ, ◌-ℤ◌, pos, negsuc, ◌==◌, not, nat_lt, Option, Ok, Err, if◌then◌else◌}
+use Rattle.std.specs.Prelude.{◌⊎◌, ℤ, neg_ℤ, ◌-ℤ◌, pos, negsuc, ◌==◌, not, nat_lt, int_lt, Option, Ok, Err, if◌then◌else◌}
 use Rattle.std.specs.declared.cmp.Ordering.{Ordering}
 use Rattle.std.specs.Ordering.{int_eq, int_cmp}
 use Rattle.std.proofs.lemmas.List.Elements.{All-nil, All-cons, All-append, All-take}
@@ -19,7 +19,7 @@ use Rattle.tp_meaning.specs.typed_tree.declared.expressions.BinaryOp.{BinaryOp}
 use Rattle.tp_meaning.specs.typed_tree.declared.expressions.BinaryOp.TheVariants.{Add, Subtract, Multiply, Divide, Modulo, ShiftLeft, ShiftRight, And, Or, Xor, Equal, NotEqual, Less, LessOrEqual, Greater, GreaterOrEqual, In}
 use Rattle.tp_meaning.specs.common_values.Ordinals.{width_of, quotient, remainder, shift_count}
 use Rattle.tp_meaning.specs.common_values.Strings.{longest, joined}
-use Rattle.tp_meaning.specs.common_values.Sets.{is_member, union, difference, intersection}
+use Rattle.tp_meaning.specs.common_values.Sets.{is_member, union, difference, intersection, with_range}
 use Rattle.tp_meaning.specs.typed_tree.type_fits.Fits.{stored_as, family_of, IsSome, IsInteger, IsBoolean, IsChar, AreStoredAlike, IsWide, IsString, IsSet, IsPointer}
 use Rattle.tp_meaning.specs.typed_tree.type_fits.Operators.{IsArithmetic, FitsUnary, AreNumbers, AreSets, AreStrings, AreTruths, IsShift, AreOrdered, AreSetsBoth, ArePointers, FitsBinary, MayBeEarly, IsConversion}
 use Rattle.tp_meaning.specs.Trees.{Key, Value, Ordinal, Text, Elements, Nil, Block}
@@ -27,7 +27,7 @@ use Rattle.tp_meaning.specs.Found.{Found, Act, Error, ◌>>=◌}
 use Rattle.tp_meaning.specs.Shapes.{stored_among}
 use Rattle.tp_meaning.specs.Store.{Object, Store, object_at, if_there}
 use Rattle.tp_meaning.specs.Programs.{Sort, definition}
-use Rattle.tp_meaning.specs.Operators.{truth, is_true, is_boolean, unary_number, unary, arithmetic, logic, computed_as, computed, relation, related_or, on_ordinals, on_texts, on_sets, same_pointer, equality, binary, decided, converted, is_between, within, ranged, element_of}
+use Rattle.tp_meaning.specs.Operators.{truth, is_true, is_boolean, unary_number, unary, arithmetic, logic, computed_as, computed, relation, related_or, on_ordinals, on_texts, on_sets, same_pointer, equality, binary, decided, converted, is_between, within, ranged, element_of, spanned}
 use Rattle.store_typing.specs.types.Forms.{Number, Members, Link}
 use Rattle.store_typing.specs.stores.Worlds.{World, IsHeld}
 use Rattle.store_typing.specs.stores.Places.{IsText, IsValueBy, IsValueOf}
@@ -446,6 +446,23 @@ module _ (w : World) where
       let n = number_value of h.0 v h.1 is in
       subst (λ (x : Value). Finds (λ (n : ℕ). Unit {0}) (element_of x)) (sym n.is) (element_number n.z)
 
+  spanned_numbers : (set : List ℕ) (first last : ℤ) → Finds (λ (more : List ℕ). Unit {0}) (spanned set (Ordinal first) (Ordinal last))
+  spanned_numbers set first last = tested (int_lt last first) where
+    tested : (t : Bool) → Finds (λ (more : List ℕ). Unit {0}) (if t then Ok set else (element_of (Ordinal first) >>= λ m. element_of (Ordinal last) >>= λ n. Ok (with_range set m n)))
+    tested true = tt
+    tested false =
+        finds_bind (λ (m : ℕ). Unit {0}) (λ (more : List ℕ). Unit {0}) (element_of (Ordinal first)) (λ m. element_of (Ordinal last) >>= λ n. Ok (with_range set m n)) (element_number first) (λ m h.
+        finds_bind (λ (n : ℕ). Unit {0}) (λ (more : List ℕ). Unit {0}) (element_of (Ordinal last)) (λ n. Ok (with_range set m n)) (element_number last) (λ n h'. tt))
+
+  spanned_finds : (of to : Sort) (set : List ℕ) (v x : Value) → IsSome (family_of (definition of)) → IsSome (family_of (definition to)) → IsValueOf w of v → IsValueOf w to x → Finds (λ (more : List ℕ). Unit {0}) (spanned set v x)
+  spanned_finds of to set v x s t is is' =
+      let h = ordinal_of_family (definition of) s in
+      let k = ordinal_of_family (definition to) t in
+      let m = number_value of h.0 v h.1 is in
+      let n = number_value to k.0 x k.1 is' in
+      subst (λ (y : Value). Finds (λ (more : List ℕ). Unit {0}) (spanned set y x)) (sym m.is)
+      (subst (λ (y : Value). Finds (λ (more : List ℕ). Unit {0}) (spanned set (Ordinal m.z) y)) (sym n.is) (spanned_numbers set m.z n.z))
+
   pub operator_laws : OperatorLaws w
   operator_laws = record {
     unary = unary_finds;
@@ -454,4 +471,5 @@ module _ (w : World) where
     converted = converted_finds;
     ranged = ranged_finds;
     element = element_finds;
+    spanned = spanned_finds;
   }

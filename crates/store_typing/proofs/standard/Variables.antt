@@ -1,6 +1,7 @@
 -- Numbers and texts in variables.
 use Rattle.std.proofs.Common.{◌≡◌, ℕ, suc, ◌+◌, ◌<◌, List, Some, None, refl, sym, ap, subst, ◌∙◌, arith}
-use Rattle.std.specs.Prelude.{◌⊎◌, ℤ, All, Option}
+use Rattle.std.specs.Prelude.{◌⊎◌, ℤ, pos, All, Option, Ok}
+use Rattle.std.proofs.lemmas.Int.{ints}
 use Rattle.tp_meaning.specs.type_layout.declared.definitions.Host.{Host}
 use Rattle.tp_meaning.specs.type_layout.declared.definitions.Host.TheVariants as host
 use Rattle.tp_meaning.specs.type_layout.declared.definitions.TypeDef.{TypeDef}
@@ -13,7 +14,7 @@ use Rattle.tp_meaning.specs.Found.{Found, ◌>>=◌, known}
 use Rattle.tp_meaning.specs.Shapes.{kept_as}
 use Rattle.tp_meaning.specs.Store.{Store, value_at, number_of, text_at, assigned_over}
 use Rattle.tp_meaning.specs.Programs.{Sort, definition}
-use Rattle.tp_meaning.specs.Activations.{Reached, number_in, assigned}
+use Rattle.tp_meaning.specs.Activations.{Reached, number_in, length_as, length_held, assigned}
 use Rattle.tp_meaning.specs.Standard.{number_assigned}
 use Rattle.store_typing.specs.types.Declared.{AreAlike}
 use Rattle.store_typing.specs.types.Agreement.{IsKnown, AreConsistent}
@@ -26,9 +27,9 @@ use Rattle.store_typing.specs.stores.Stores.{IsTypedStore, Finds}
 use Rattle.store_typing.proofs.stores.Paths.{finds_bind, finds_more}
 use Rattle.store_typing.proofs.stores.Grown.{grows_itself}
 use Rattle.store_typing.proofs.stores.Seen.{seen_form, ordinal_form}
-use Rattle.store_typing.proofs.stores.Steps.{as_ordinal, same_form, cell_found, text_found, put_over, assigns}
+use Rattle.store_typing.proofs.stores.Steps.{as_ordinal, same_form, cell_found, text_found, length_found, put_over, assigns}
 use Rattle.store_typing.proofs.stores.Texts.{text_has}
-use Rattle.store_typing.proofs.operators.Ranges.{kept_held}
+use Rattle.store_typing.proofs.operators.Ranges.{is_held, kept_held}
 use Rattle.store_typing.proofs.operators.Operators.{number_at}
 use Rattle.store_typing.specs.standard.Laws.{IsTypedLater}
 
@@ -125,6 +126,22 @@ module _ (w : World) (agreed : AreConsistent w.program) where
       by (Shared ko ks same) =
           let str = string_alike at.sort.table seen.table ko.one ks.one (agreed.alike at.sort seen ko.one ks.one ko ks ko.is ks.is same) (subst IsString ks.is s) in
           text_found w agreed store typed at.spot at.sort str.0 ko is.place (ko.is ∙ ap (λ (d : TypeDef). Some d) str.1)
+      by (Letter e ks stored) = string_stored (definition seen) host.Char s stored
+      by (Whole e ks stored) = string_stored (definition seen) host.Integer s stored
+
+    -- the length of a string variable
+    pub length_held_found : (at : Reached) (seen : Sort) → IsAt w at seen → IsString (definition seen) → Finds (IsHeld w (Number host.Integer)) (length_held at store)
+    length_held_found at seen is s = by is.same where
+      given : (n : ℕ) → n < 256 → IsHeld w (Number host.Integer) (Ordinal (pos n))
+      given n h = is_held host.Integer (pos n) (omega (arith, ints)) (omega (arith, ints, h))
+
+      by : IsSeenAs w.program at.sort seen → Finds (IsHeld w (Number host.Integer)) (length_held at store)
+      by (Shared ko ks same) =
+          let str = string_alike at.sort.table seen.table ko.one ks.one (agreed.alike at.sort seen ko.one ks.one ko ks ko.is ks.is same) (subst IsString ks.is s) in
+          let e : definition at.sort ≡ Some (type.Str str.0) = ko.is ∙ ap (λ (d : TypeDef). Some d) str.1 in
+          subst (λ (o : Option TypeDef). Finds (IsHeld w (Number host.Integer)) (length_as o at.spot store >>= λ count. Ok (Ordinal (pos count)))) (sym e)
+          (finds_bind (λ (n : ℕ). n < 256) (IsHeld w (Number host.Integer)) (length_as (Some (type.Str str.0)) at.spot store) (λ count. Ok (Ordinal (pos count)))
+          (length_found w agreed store typed at.spot at.sort str.0 ko is.place e) given)
       by (Letter e ks stored) = string_stored (definition seen) host.Char s stored
       by (Whole e ks stored) = string_stored (definition seen) host.Integer s stored
 

@@ -16,7 +16,7 @@ use Rattle.tp_meaning.specs.Trees.{Key, Spot, Value, Ordinal, Text, Elements, Ni
 use Rattle.tp_meaning.specs.Found.{Found, ◌>>=◌}
 use Rattle.tp_meaning.specs.Shapes.{Part, FieldPart, ClassPart, parts_at, new_tree}
 use Rattle.tp_meaning.specs.Programs.{Sort, definition, class_key}
-use Rattle.tp_meaning.specs.Store.{Store, tree_at, value_in, value_at, text_in, text_at, number_of, pointer_of, routine_of, bytes_of, set_over, text_over, assigned_over, fields_over, copied_over, replaced}
+use Rattle.tp_meaning.specs.Store.{Store, tree_at, value_in, value_at, text_in, text_at, length_in, length_at, number_of, pointer_of, routine_of, bytes_of, set_over, text_over, assigned_over, fields_over, copied_over, replaced}
 use Rattle.tp_meaning.specs.Activations.{Reached, loaded_as, loaded, assigned, copied, passed}
 use Rattle.store_typing.specs.types.Declared.{declared, declared_header, AreAlike}
 use Rattle.store_typing.specs.types.Agreement.{IsKnown, IsShort, AreConsistent, IsOfLine}
@@ -32,7 +32,7 @@ use Rattle.store_typing.proofs.stores.Paths.{finds_bind, finds_more, cell_read}
 use Rattle.store_typing.proofs.stores.NewTrees.{new_has}
 use Rattle.store_typing.proofs.stores.Kept.{form_found, replaced_keeps}
 use Rattle.store_typing.proofs.stores.Seen.{place_seen, value_shared}
-use Rattle.store_typing.proofs.stores.Texts.{text_read, text_has}
+use Rattle.store_typing.proofs.stores.Texts.{text_read, length_read, text_has}
 
 not_structured : ⊥ ⊎ ⊥ ⊎ ⊥ → ⊥
 not_structured is = grind arith
@@ -227,6 +227,14 @@ module _ (w : World) (agreed : AreConsistent w.program) (store : Store) (typed :
       let form : place.form ≡ repeated (suc max) letter = same_form w agreed sort place.form never place.covers ∙ whole w.program agreed sort (type.Str max) ks e ∙ ap (λ n. repeated n letter) size in
       finds_bind (HasForm w place.form) IsText (tree_at store spot) text_in (form_found w store typed spot place.form place.lies)
       (λ tree has. text_read w max tree (subst (λ (f : Form). HasForm w f tree) form has))
+
+  pub length_found : (spot : Spot) (sort : Sort) (max : ℕ) → IsKnown w.program sort → IsPlaceOf w spot sort → definition sort ≡ Some (type.Str max) → Finds (λ n. n < 256) (length_at store spot)
+  length_found spot sort max ks place e =
+      let size : max + 1 ≡ suc max = omega arith in
+      let never : IsObject (definition sort) → ⊥ = λ o. subst IsObject e o in
+      let form : place.form ≡ repeated (suc max) letter = same_form w agreed sort place.form never place.covers ∙ whole w.program agreed sort (type.Str max) ks e ∙ ap (λ n. repeated n letter) size in
+      finds_bind (HasForm w place.form) (λ n. n < 256) (tree_at store spot) length_in (form_found w store typed spot place.form place.lies)
+      (λ tree has. length_read w max tree (subst (λ (f : Form). HasForm w f tree) form has))
 
   load_by : (spot : Spot) (sort : Sort) (one : TypeDef) → IsKnown w.program sort → IsPlaceOf w spot sort → definition sort ≡ Some one → Finds (IsValueBy w sort (Some one)) (loaded_as (Some one) spot store)
   load_by spot sort (type.Ordinal host low high) ks place e = cell_found spot sort (Number (storage_of host low high)) place (λ o. subst IsObject e o) (whole w.program agreed sort (type.Ordinal host low high) ks e)

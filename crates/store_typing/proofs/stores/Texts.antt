@@ -7,7 +7,7 @@ use Rattle.tp_meaning.specs.type_layout.declared.definitions.Host.TheVariants as
 use Rattle.tp_meaning.specs.type_layout.Storage.{holds}
 use Rattle.tp_meaning.specs.Trees.{Value, Ordinal, Text, Elements, Nil, Block, Code, Class, At, Void, Tree, Leaf, Tip, Fork, part_count}
 use Rattle.tp_meaning.specs.Found.{Act, ◌>>=◌}
-use Rattle.tp_meaning.specs.Store.{byte_of, byte_in, value_in, bytes_in, text_of_length, text_in, bytes_over, text_over}
+use Rattle.tp_meaning.specs.Store.{byte_of, byte_in, value_in, bytes_in, text_of_length, text_in, length_within, length_in, bytes_over, text_over}
 use Rattle.store_typing.specs.types.Forms.{Number, letter, repeated}
 use Rattle.store_typing.specs.stores.Worlds.{World, IsHeld, HasForm}
 use Rattle.store_typing.specs.stores.Places.{IsText}
@@ -72,6 +72,17 @@ module _ (w : World) where
   text_read size (Fork head tail) has =
       finds_bind IsByte IsText (byte_in head) (λ count. text_of_length count tail) (byte_read head has.0)
       (λ count h. text_of_bytes count size tail h has.1 (nat_le count (part_count tail)) refl)
+
+  length_fits : (count : ℕ) → count < 256 → (fits : Bool) → Finds IsByte (if fits then Ok count else Err (Act 3))
+  length_fits count less true = less
+  length_fits count less false = tt
+
+  -- the length of a string's cells
+  pub length_read : (size : ℕ) (tree : Tree) → HasForm w (repeated (suc size) letter) tree → Finds (λ n. n < 256) (length_in tree)
+  length_read size Tip has = absurd has
+  length_read size (Leaf cell) has = absurd has
+  length_read size (Fork head tail) has =
+      finds_bind IsByte IsByte (byte_in head) (λ count. length_within count tail) (byte_read head has.0) (λ count h. length_fits count h (nat_le count (part_count tail)))
 
   -- ---- a text that is assigned
 

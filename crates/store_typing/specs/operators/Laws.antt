@@ -1,5 +1,5 @@
 -- Operators on values of their types give values of theirs, an error or an undefined act.
-use Rattle.std.specs.Prelude.{◌≡◌, ℤ, Bool, Some}
+use Rattle.std.specs.Prelude.{◌≡◌, ℕ, ℤ, Bool, List, Some}
 use Rattle.tp_meaning.specs.typed_tree.declared.expressions.UnaryOp.{UnaryOp}
 use Rattle.tp_meaning.specs.typed_tree.declared.expressions.BinaryOp.{BinaryOp}
 use Rattle.tp_meaning.specs.typed_tree.type_fits.Fits.{stored_as, family_of, IsSome}
@@ -7,7 +7,7 @@ use Rattle.tp_meaning.specs.typed_tree.type_fits.Operators.{FitsUnary, FitsBinar
 use Rattle.tp_meaning.specs.Trees.{Value}
 use Rattle.tp_meaning.specs.Store.{Store}
 use Rattle.tp_meaning.specs.Programs.{Sort, definition}
-use Rattle.tp_meaning.specs.Operators.{unary, binary, decided, converted, ranged, element_of}
+use Rattle.tp_meaning.specs.Operators.{unary, binary, decided, converted, ranged, element_of, spanned}
 use Rattle.store_typing.specs.stores.Worlds.{World}
 use Rattle.store_typing.specs.stores.Places.{IsValueOf}
 use Rattle.store_typing.specs.stores.Stores.{Finds}
@@ -21,3 +21,4 @@ pub record OperatorLaws (w : World) : Type 0 where
   pub converted : (sort of : Sort) (v : Value) → IsConversion (definition sort) (definition of) → IsValueOf w of v → Finds (IsValueOf w sort) (converted (definition sort) v)
   pub ranged : (sort : Sort) (low high : ℤ) (v : Value) → IsSome (stored_as (definition sort)) → IsValueOf w sort v → Finds (IsValueOf w sort) (ranged low high v)
   pub element : (of : Sort) (v : Value) → IsSome (family_of (definition of)) → IsValueOf w of v → Finds (λ n. Unit {0}) (element_of v)
+  pub spanned : (of to : Sort) (set : List ℕ) (v x : Value) → IsSome (family_of (definition of)) → IsSome (family_of (definition to)) → IsValueOf w of v → IsValueOf w to x → Finds (λ n. Unit {0}) (spanned set v x)

@@ -1,9 +1,10 @@
 -- Expressions and places of a body.
-use Rattle.std.proofs.Common.{◌≡◌, ℕ, List, [], ◌∷◌, ◌++◌, Some, None, refl, sym, ap, subst, ◌∙◌}
+use Rattle.std.proofs.Common.{◌≡◌, ℕ, ◌==◌, Bool, true, false, if◌then◌else◌, List, [], ◌∷◌, ◌++◌, Some, None, refl, sym, ap, subst, ◌∙◌, arith}
 use Rattle.std.proofs.Common.{inl, inr}
 use Rattle.std.specs.Prelude.{Option, option_and_then}
 use Rattle.std.specs.Option.{option_map}
 use Rattle.std.proofs.lemmas.Option.{same_Some}
+use Rattle.std.proofs.lemmas.Bool.Decides.{nat_tests}
 use Rattle.program_typing.specs.type_layout.declared.definitions.TypeId.{TypeId}
 use Rattle.program_typing.specs.type_layout.declared.definitions.RoutineId.{RoutineId}
 use Rattle.program_typing.specs.type_layout.declared.definitions.Param.{Param}
@@ -15,18 +16,19 @@ use Rattle.program_typing.specs.typed_tree.declared.units.Program.{Program}
 use Rattle.program_typing.specs.typed_tree.Expressions.{Expression, Place, Receiver, Elements, Arguments, Const, RoutineValue, Load, Unary, Binary, Convert, Range, SetOf, Call, CallVirtual, CallThrough, Std, Make, Var, Deref, Index, FieldOf, NoReceiver, Own, NoElements, One, Span, NoArguments, ByValue, ByPlace, type_of}
 use Rattle.program_typing.specs.typed_tree.type_fits.Fits.{definition as definition_in, IsSome, family_of, AreOfOneFamily, Joins, JoinBy, Descends}
 use Rattle.program_typing.specs.well_formed.Scopes.{Others, Scope}
-use Rattle.program_typing.specs.typed_tree.type_fits.Standard.{Slot, FitsValue}
+use Rattle.program_typing.specs.typed_tree.type_fits.Standard.{Slot, Text as TextSlot, Outcome as Result, FitsValue, Gives as IsGiven, IsStandard}
 use Rattle.program_typing.specs.typed_tree.type_fits.Standard.{sort_of as sort_in_table}
 use Rattle.program_typing.specs.typed_tree.type_fits.Operators.{FitsUnary, FitsBinary, IsConversion}
+use Rattle.program_typing.specs.typed_tree.Standard as routine
 use Rattle.program_typing.specs.well_formed.Typed.{IsTyped, HasPlace, TakeEach, FillEach, AreTypedElements, IsElement, PointsTo, JoinsSome}
 use Rattle.program_typing.specs.tp_meaning.Trees.{Key, Value, Code}
 use Rattle.program_typing.specs.tp_meaning.Programs.{Sort, definition, sort_in, routine_key}
-use Rattle.program_typing.specs.tp_meaning.Outcomes.{State, Outcome, ◌>>=◌, give, known, found, looked}
+use Rattle.program_typing.specs.tp_meaning.Outcomes.{State, Outcome, Does, ◌>>=◌, give, known, looked}
 use Rattle.program_typing.specs.common_values.Sets.{with_range}
-use Rattle.program_typing.specs.tp_meaning.Operators.{element_of}
-use Rattle.program_typing.specs.tp_meaning.Activations.{Activation, Callee, variable_at}
+use Rattle.program_typing.specs.tp_meaning.Activations.{Activation, Callee, variable_at, length_held}
+use Rattle.program_typing.specs.tp_meaning.Standard.{standard}
 use Rattle.program_typing.specs.tp_meaning.Calls.{Runs}
-use Rattle.program_typing.specs.tp_meaning.Expressions.{constant_value, value, place, receiver, elements, operands, sort_of, no_instance}
+use Rattle.program_typing.specs.tp_meaning.Expressions.{constant_value, standard_done, value, measured, place, receiver, elements, operands, sort_of, no_instance}
 use Rattle.program_typing.specs.store_typing.types.Agreement.{IsKnown}
 use Rattle.program_typing.specs.store_typing.stores.Worlds.{Made, World}
 use Rattle.program_typing.specs.store_typing.stores.Places.{IsValueOf}
@@ -42,12 +44,12 @@ use Rattle.program_typing.proofs.programs.Ends.{ends_done, ends_looked, ends_mor
 use Rattle.type_soundness.proofs.expressions.Types.{have_types, places_have_types}
 use Rattle.type_soundness.proofs.expressions.Sorts.{known_type, HasSort, has_sort, family_some, one_family_some, unary_some, binary_some, conversion_some, value_fits_some}
 use Rattle.type_soundness.proofs.expressions.Chains.{Kept}
-use Rattle.type_soundness.proofs.expressions.Values.{ValueAt, constant_is, code_is, set_done, unary_ends, converted_ends, ranged_ends, binary_ends, element_ends}
+use Rattle.type_soundness.proofs.expressions.Values.{ValueAt, constant_is, code_is, set_done, unary_ends, converted_ends, ranged_ends, binary_ends, element_ends, span_ends}
 use Rattle.type_soundness.proofs.expressions.Places.{PlaceAt, load_ends, followed_ends, field_ends, index_ends}
 use Rattle.type_soundness.proofs.expressions.Operands.{sort_found, value_given, place_named, TakenBy, value_taken, place_taken, IsItself, FilledBy}
 use Rattle.type_soundness.proofs.expressions.Instances.{InstanceOf, own_ends, no_instance_is}
 use Rattle.type_soundness.proofs.expressions.Calls.{active_kept, call_ends, AreOperandsOf, overlay_ends, virtual_ends, through_ends, make_ends}
-use Rattle.type_soundness.proofs.expressions.Standards.{standard_ends, target_known}
+use Rattle.type_soundness.proofs.expressions.Standards.{length_slots, length_ends, standard_ends, target_known}
 
 -- ---- types that the rules ask for
 
@@ -75,6 +77,12 @@ points_to ty (Some (type.RecordOf fields)) h = absurd h
 points_to ty (Some (type.ObjectOf p d fields methods)) h = absurd h
 points_to ty (Some (type.Procedural header)) h = absurd h
 points_to ty None h = absurd h
+
+same_number : (m n : ℕ) → (m == n) ≡ true → m ≡ n
+same_number m n e = grind (arith, nat_tests)
+
+same_head : {A : Type 0} (x y : A) (xs ys : List A) → x ∷ xs ≡ y ∷ ys → x ≡ y
+same_head x y xs ys e = cc
 
 -- an index is an ordinal
 index_ordinal : (types : List TypeDef) (ty : TypeId) (o at : Option TypeDef) → IsElement types ty o at → IsSome (family_of at)
@@ -209,10 +217,28 @@ module _ (program : Program) (well : IsWellTyped program) (again : Runs) (sound 
         (through_ends program well.agreed again sound f number withs made h.1.0 h.1.1 (place program again f through s) (operands program again f args) (place_known made k through h.1.0 h.1.4) h.1.2 k
         (place_ends made through h.1.0 h.1.4 r.0 s k typed) (λ made' t k' typed'. taken_ends made' h.1.1.params args h.1.5 r.1 t k' typed'))
     value_ends made (Std ty number' args) h r s k typed =
-        standard_ends program well.agreed well.classes made f.unit number' h.1.0 h.1.1 ty args (operands program again f args s) h.1.2 h.1.4 (result_known made k (Std ty number' args) ty h refl) (filled_ends made h.1.0 args h.1.3 r s k typed)
+        measured_ends made number' h.1.0 h.1.1 ty args (λ t. (operands program again f args >>= λ xs. known (standard number') >>= λ one. standard_done program (option_map (sort_in f.unit) ty) xs one) t) h.1.2 h.1.4 h.1.3 r s k typed
+        (standard_ends program well.agreed well.classes made f.unit number' h.1.0 h.1.1 ty args (operands program again f args s) h.1.2 h.1.4 (result_known made k (Std ty number' args) ty h refl) (filled_ends made h.1.0 args h.1.3 r s k typed))
     value_ends made (Make ty routine args) h r s k typed =
         make_ends program well.agreed again sound f number withs made ty h.0 routine r s (operands program again f args) (target_known program well.agreed (sort_at ty) h.0 (typed_known made k (Make ty routine args) ty h refl) h.1) h.1 r.calls.instance k typed
         (λ made' t k' typed'. taken_ends made' r.calls.header.params args r.calls.takes.0 r.calls.takes.1 t k' typed')
+
+    -- the length of a variable, or what else a standard routine gives
+    measured_ends : (made : List Made) (n : ℕ) (slots : List Slot) (outcome : Result) (ty : Option TypeId) (args : Arguments) (other : Does Value) → IsStandard n slots outcome → IsGiven f.unit.types.types outcome ty args
+        → (h : FillEach scope slots args) → RefersFilled site scope slots args h → (s : State) → Body made → IsTyped' made s → Ends (world program made) (GivesAs f.unit ty) (other s)
+        → Ends (world program made) (GivesAs f.unit ty) (measured program again f n args other s)
+    measured_ends made n (slot ∷ slots) outcome ty (ByValue (Load t from) NoArguments) other std gives h r s k typed general = by (n == routine.length) refl where
+      by : (test : Bool) → (n == routine.length) ≡ test → Ends (world program made) (GivesAs f.unit ty) ((if test then (place program again f from >>= λ at. looked (length_held at)) else other) s)
+      by false e = general
+      by true e =
+          let same = length_slots program well.agreed n (slot ∷ slots) outcome std (same_number n routine.length e) in
+          let text : slot ≡ TextSlot = same_head slot TextSlot slots [] same.0 in
+          length_ends program well.agreed made f.unit (sort_at t) ty (ByValue (Load t from) NoArguments) (place program again f from s)
+          (subst (λ (x : Slot). FitsValue x (definition (sort_at t))) text h.1)
+          (subst (λ (x : Result). IsGiven f.unit.types.types x ty (ByValue (Load t from) NoArguments)) same.1 gives)
+          (place_ends made from t h.0.1 r.0 s k typed)
+    measured_ends made n [] outcome ty (ByValue one rest) other std gives h r s k typed general = absurd h
+    measured_ends made n slots outcome ty args other std gives h r s k typed general = general
 
     -- a place is one of its type
     pub place_ends : (made : List Made) (at : Place) (ty : TypeId) (h : HasPlace scope at ty) → RefersPlace site scope at ty h → (s : State) → Body made → IsTyped' made s
@@ -247,12 +273,10 @@ module _ (program : Program) (well : IsWellTyped program) (again : Runs) (sound 
     elements_ends made ty base e (Span low high rest) h r set s k typed =
         let a = member_sort made k base low h.1 in
         let b = member_sort made k base high h.3 in
-        element_ends program active (ValueAt (sort_at ty)) made (sort_at a.0.ty) (value program again f low s)
-        (λ first. value program again f high >>= λ w. found (element_of w) >>= λ last. elements program again f rest (with_range set first last)) a.1 k
-        (as_sort made low a.0.ty (value program again f low s) a.0.is (value_ends made low h.0 r.0 s k typed)) (λ made' first t k' typed'.
-        element_ends program active (ValueAt (sort_at ty)) made' (sort_at b.0.ty) (value program again f high t) (λ last. elements program again f rest (with_range set first last)) b.1 k'
-        (as_sort made' high b.0.ty (value program again f high t) b.0.is (value_ends made' high h.2 r.1 t k' typed')) (λ made'' last u k'' typed''.
-        elements_ends made'' ty base e rest h.4 r.2 (with_range set first last) u k'' typed''))
+        span_ends program active (ValueAt (sort_at ty)) made (sort_at a.0.ty) (sort_at b.0.ty) set (value program again f low s) (value program again f high) (λ more. elements program again f rest more) a.1 b.1 k
+        (as_sort made low a.0.ty (value program again f low s) a.0.is (value_ends made low h.0 r.0 s k typed))
+        (λ made' t k' typed'. as_sort made' high b.0.ty (value program again f high t) b.0.is (value_ends made' high h.2 r.1 t k' typed'))
+        (λ made' more t k' typed'. elements_ends made' ty base e rest h.4 r.2 more t k' typed')
 
     -- arguments are as the parameters take them
     pub taken_ends : (made : List Made) (params : List Param) (args : Arguments) (h : TakeEach scope params args) → RefersTaken site scope params args h → (s : State) → Body made → IsTyped' made s

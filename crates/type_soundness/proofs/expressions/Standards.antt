@@ -1,5 +1,5 @@
 -- Calls of standard routines, once the arguments are known.
-use Rattle.std.proofs.Common.{◌≡◌, ℕ, Bool, true, false, List, ◌∷◌, ◌++◌, Some, None, refl, sym, subst, arith, IsTrue}
+use Rattle.std.proofs.Common.{◌≡◌, ℕ, Bool, true, false, List, [], ◌∷◌, ◌++◌, Some, None, refl, sym, subst, arith, IsTrue}
 use Rattle.std.specs.Prelude.{ℤ, ◌≤ℤ◌, int_le, ◌&&◌, Option, option_and_then}
 use Rattle.std.specs.Option.{option_map}
 use Rattle.std.proofs.lemmas.Option.{same_Some}
@@ -14,23 +14,28 @@ use Rattle.program_typing.specs.typed_tree.declared.expressions.Value.TheVariant
 use Rattle.program_typing.specs.typed_tree.declared.units.Unit.{Unit as TypedUnit}
 use Rattle.program_typing.specs.typed_tree.declared.units.Program.{Program}
 use Rattle.program_typing.specs.typed_tree.Expressions.{Expression, Const, Arguments, NoArguments, ByValue, ByPlace, type_of}
-use Rattle.program_typing.specs.typed_tree.type_fits.Fits.{stored_as, held_as, IsPointer, AreStoredAlike}
+use Rattle.program_typing.specs.typed_tree.type_fits.Fits.{stored_as, held_as, IsString, IsPointer, AreStoredAlike}
 use Rattle.program_typing.specs.typed_tree.type_fits.Fits.{definition as definition_in}
-use Rattle.program_typing.specs.typed_tree.type_fits.Standard.{sort_of, Slot, Outcome as Result, Nothing, Wide, Holding, Alike, Truth, Letter, Byte, Small, Size, Line, Link, HoldsAll, HoldsValue, HoldsFirst, IsLikeFirst, Gives as IsGiven, IsStandard, abs, sqr, odd, ord, chr, succ, pred, inc, inc_by, dec, dec_by, hi, lo, swap, size, up_case, length_of, copy, delete, insert, concat, position, text, text_in, number, end_of_file, end_of_line, new, new_block, dispose}
+use Rattle.program_typing.specs.typed_tree.type_fits.Standard.{sort_of, Slot, Text as TextSlot, Outcome as Result, Nothing, Wide, Holding, Alike, Truth, Letter, Byte, Small, Size, Line, Link, HoldsAll, HoldsValue, HoldsFirst, IsLikeFirst, Gives as IsGiven, IsStandard, abs, sqr, odd, ord, chr, succ, pred, inc, inc_by, dec, dec_by, hi, lo, swap, size, up_case, length_of, copy, delete, insert, concat, position, text, text_in, number, end_of_file, end_of_line, new, new_block, dispose}
+use Rattle.program_typing.specs.typed_tree.Standard as routine
 use Rattle.program_typing.specs.tp_meaning.Trees.{Value, Ordinal, Block, Void}
 use Rattle.program_typing.specs.tp_meaning.Programs.{Sort, definition, beside, sort_in, class_key}
-use Rattle.program_typing.specs.tp_meaning.Outcomes.{State, Outcome, and_then, ◌>>=◌, give, known, found, changed}
+use Rattle.program_typing.specs.tp_meaning.Outcomes.{State, Outcome, and_then, ◌>>=◌, give, known, found, looked, changed}
+use Rattle.program_typing.specs.tp_meaning.Activations.{Reached, length_held}
 use Rattle.program_typing.specs.tp_meaning.Standard.{Operand, Given, Standard, Abs, Sqr, Odd, Ord, Chr, Succ, Pred, Inc, Dec, Hi, Lo, Swap, SizeOf, UpCase, Length, Copy, Delete, Insert, Concat, Pos, Str, Val, Eof, Eoln, New, Dispose, standard, Effect, Gives, Changes, Makes, Asks, effect_of, target_of}
 use Rattle.program_typing.specs.tp_meaning.Expressions.{block_made, effect_done, standard_done}
 use Rattle.program_typing.specs.store_typing.types.Agreement.{IsKnown, AreConsistent}
 use Rattle.program_typing.proofs.store_typing_proofs.types.Agreed.{lawful, known_within}
 use Rattle.program_typing.specs.store_typing.types.Forms.{Number}
-use Rattle.program_typing.specs.store_typing.stores.Worlds.{Made, World, LeadsTo}
-use Rattle.program_typing.specs.store_typing.stores.Places.{IsValueBy, IsValueOf}
+use Rattle.program_typing.specs.store_typing.stores.Worlds.{Made, World, IsHeld, LeadsTo}
+use Rattle.program_typing.specs.store_typing.stores.Places.{IsAt, IsValueBy, IsValueOf}
+use Rattle.program_typing.proofs.store_typing_proofs.stores.Paths.{finds_more}
+use Rattle.program_typing.proofs.store_typing_proofs.stores.Steps.{as_ordinal}
 use Rattle.program_typing.proofs.store_typing_proofs.operators.Operators.{number_value}
 use Rattle.program_typing.proofs.store_typing_proofs.operators.Ranges.{is_held}
 use Rattle.program_typing.specs.store_typing.standard.Operands.{HoldsNumber, IsLikeNumber, GivesResult, IsResult}
 use Rattle.program_typing.specs.store_typing.standard.Laws.{HasClasses, IsSoundEffect, IsSoundCall}
+use Rattle.program_typing.proofs.store_typing_proofs.standard.Variables.{length_held_found}
 use Rattle.program_typing.proofs.store_typing_proofs.standard.Calls.{standard_laws}
 use Rattle.program_typing.specs.programs.Outcomes.{IsTypedState, world, after, Ends}
 use Rattle.program_typing.specs.programs.Calls.{GivesAs}
@@ -211,6 +216,52 @@ module _ (program : Program) (agreed : AreConsistent program) where
   maker w _ _ _ None xs new_block gives one is p e same = absurd gives
   maker w _ _ _ (Some r) xs new_block gives one is p e same = subst (λ (sort : Sort). IsPointer (definition sort)) (same_Some r p same) gives
   maker w _ _ _ r xs dispose gives one is p e same = not_maker r xs one p e Dispose is (λ x. cc)
+
+  -- ---- the length of a variable
+
+  -- the routine with the number of Length takes a text and gives its length
+  pub length_slots : (n : ℕ) (slots : List Slot) (outcome : Result) → IsStandard n slots outcome → n ≡ routine.length → (slots ≡ TextSlot ∷ []) × (outcome ≡ Small)
+  length_slots _ _ _ abs e = absurd (omega (arith, e))
+  length_slots _ _ _ sqr e = absurd (omega (arith, e))
+  length_slots _ _ _ odd e = absurd (omega (arith, e))
+  length_slots _ _ _ ord e = absurd (omega (arith, e))
+  length_slots _ _ _ chr e = absurd (omega (arith, e))
+  length_slots _ _ _ succ e = absurd (omega (arith, e))
+  length_slots _ _ _ pred e = absurd (omega (arith, e))
+  length_slots _ _ _ inc e = absurd (omega (arith, e))
+  length_slots _ _ _ inc_by e = absurd (omega (arith, e))
+  length_slots _ _ _ dec e = absurd (omega (arith, e))
+  length_slots _ _ _ dec_by e = absurd (omega (arith, e))
+  length_slots _ _ _ hi e = absurd (omega (arith, e))
+  length_slots _ _ _ lo e = absurd (omega (arith, e))
+  length_slots _ _ _ swap e = absurd (omega (arith, e))
+  length_slots _ _ _ size e = absurd (omega (arith, e))
+  length_slots _ _ _ up_case e = absurd (omega (arith, e))
+  length_slots _ _ _ length_of e = (refl, refl)
+  length_slots _ _ _ copy e = absurd (omega (arith, e))
+  length_slots _ _ _ delete e = absurd (omega (arith, e))
+  length_slots _ _ _ insert e = absurd (omega (arith, e))
+  length_slots _ _ _ (concat more all) e = absurd (omega (arith, e))
+  length_slots _ _ _ position e = absurd (omega (arith, e))
+  length_slots _ _ _ text e = absurd (omega (arith, e))
+  length_slots _ _ _ text_in e = absurd (omega (arith, e))
+  length_slots _ _ _ number e = absurd (omega (arith, e))
+  length_slots _ _ _ end_of_file e = absurd (omega (arith, e))
+  length_slots _ _ _ end_of_line e = absurd (omega (arith, e))
+  length_slots _ _ _ new e = absurd (omega (arith, e))
+  length_slots _ _ _ new_block e = absurd (omega (arith, e))
+  length_slots _ _ _ dispose e = absurd (omega (arith, e))
+
+  pub length_ends : (made : List Made) (unit : TypedUnit) (seen : Sort) (ty : Option TypeId) (args : Arguments) (o : Outcome Reached) → IsString (definition seen) → IsGiven unit.types.types Small ty args
+      → Ends (world program made) (λ w at. IsAt w at seen) o → Ends (world program made) (GivesAs unit ty) (and_then o (λ at. looked (length_held at)))
+  length_ends made unit seen None args o string gives h = absurd gives
+  length_ends made unit seen (Some ty) args o string gives h =
+      let sort : Sort = sort_in unit ty in
+      ends_bind (λ w at. IsAt w at seen) (world program made) (GivesAs unit (Some ty)) o (λ at. looked (length_held at)) h (λ more at s typed is.
+      let w : World = after (world program made) more in
+      ends_looked (GivesAs unit (Some ty)) w (length_held at) s typed
+      (finds_more (IsHeld w (Number host.Integer)) (IsValueOf w sort) (length_held at s.store) (λ v held. as_ordinal w sort host.Integer v (definition sort) gives held)
+      (length_held_found w agreed s.store typed.store at seen is string)))
 
   -- ---- a call
 

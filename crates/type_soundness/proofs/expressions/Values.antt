@@ -1,5 +1,5 @@
 -- What operators, conversions and tests make of values, one behind another.
-use Rattle.std.proofs.Common.{◌≡◌, ℕ, ◌<◌, Bool, List, Some, None, refl, sym, subst, arith}
+use Rattle.std.proofs.Common.{◌≡◌, ℕ, ◌<◌, Bool, List, ◌++◌, Some, None, refl, sym, subst, arith}
 use Rattle.std.specs.Prelude.{ℤ, Option, slice_get}
 use Rattle.program_typing.specs.type_layout.declared.definitions.TypeId.{TypeId}
 use Rattle.program_typing.specs.type_layout.declared.definitions.Header.{Header}
@@ -16,7 +16,7 @@ use Rattle.program_typing.specs.typed_tree.type_fits.Operators.{FitsUnary, FitsB
 use Rattle.program_typing.specs.tp_meaning.Trees.{Key, Value, Elements, Code}
 use Rattle.program_typing.specs.tp_meaning.Programs.{Sort, definition}
 use Rattle.program_typing.specs.tp_meaning.Outcomes.{State, Outcome, Done, Does, and_then, ◌>>=◌, found, looked}
-use Rattle.program_typing.specs.tp_meaning.Operators.{unary, binary, decided, converted, ranged, element_of}
+use Rattle.program_typing.specs.tp_meaning.Operators.{unary, binary, decided, converted, ranged, element_of, spanned}
 use Rattle.program_typing.specs.tp_meaning.Expressions.{constant_value, unless}
 use Rattle.program_typing.specs.store_typing.types.Declared.{declared_header}
 use Rattle.program_typing.specs.store_typing.types.Agreement.{IsKnown, AreConsistent}
@@ -27,7 +27,7 @@ use Rattle.program_typing.specs.store_typing.operators.Laws.{OperatorLaws}
 use Rattle.program_typing.proofs.store_typing_proofs.operators.Operators.{operator_laws}
 use Rattle.program_typing.specs.programs.Outcomes.{IsTypedState, world, after, Ends}
 use Rattle.program_typing.proofs.programs.Ends.{ends_bind, ends_done, ends_found, ends_looked}
-use Rattle.type_soundness.proofs.expressions.Chains.{Kept, chain}
+use Rattle.type_soundness.proofs.expressions.Chains.{Kept, both, chain}
 
 -- a value of a type
 abbrev pub ValueAt : Sort → World → Value → Type 0
@@ -113,3 +113,23 @@ module _ (program : Program) (kept : Kept) where
       let laws : OperatorLaws (world program made') = operator_laws (world program made') in
       chain program kept (λ u n. Unit {0}) Q made' (found (element_of v) s) go k' (ends_found (λ u n. Unit {0}) (world program made') (element_of v) s typed (laws.element of v fits is)) (λ made'' n t k'' typed' u.
       next made'' n t k'' typed'))
+
+  -- a value goes on to be one of its type as objects are made
+  abbrev value_kept : Sort → Value → Kept
+  value_kept sort v = record {
+    holds = λ made. IsValueOf (world program made) sort v;
+    keep = λ made more h. value_grows (world program made) (world program (made ++ more)) (grows_by (world program made) more) sort v h;
+  }
+
+  -- the elements of a span, and then what is done with the set
+  pub span_ends : {B : Type 0} (Q : World → B → Type 0) (made : List Made) (of to : Sort) (set : List ℕ) (o : Outcome Value) (last : Does Value) (go : List ℕ → Does B) → IsSome (family_of (definition of)) → IsSome (family_of (definition to))
+      → kept.holds made → Ends (world program made) (ValueAt of) o
+      → ((made' : List Made) (t : State) → kept.holds made' → IsTypedState (world program made') t → Ends (world program made') (ValueAt to) (last t))
+      → ((made' : List Made) (more : List ℕ) (t : State) → kept.holds made' → IsTypedState (world program made') t → Ends (world program made') Q (go more t))
+      → Ends (world program made) Q (and_then o (λ v. last >>= λ x. found (spanned set v x) >>= go))
+  span_ends Q made of to set o last go fits fits' k h next rest =
+      chain program kept (ValueAt of) Q made o (λ v. last >>= λ x. found (spanned set v x) >>= go) k h (λ made1 v s k1 typed1 is.
+      chain program (both kept (value_kept of v)) (ValueAt to) Q made1 (last s) (λ x. found (spanned set v x) >>= go) (k1, is) (next made1 s k1 typed1) (λ made2 x t k2 typed2 is'.
+      let laws : OperatorLaws (world program made2) = operator_laws (world program made2) in
+      chain program kept (λ u n. Unit {0}) Q made2 (found (spanned set v x) t) go k2.0 (ends_found (λ u n. Unit {0}) (world program made2) (spanned set v x) t typed2 (laws.spanned of to set v x fits fits' k2.1 is')) (λ made3 more u k3 typed3 y.
+      rest made3 more u k3 typed3)))

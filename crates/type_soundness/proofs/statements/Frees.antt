@@ -1,5 +1,5 @@
 -- Dispose with a destructor.
-use Rattle.std.proofs.Common.{◌≡◌, ℕ, ◌≤◌, true, List, map, Some, None, refl, sym, subst}
+use Rattle.std.proofs.Common.{◌≡◌, ℕ, ◌≤◌, true, List, ◌++◌, map, Some, None, refl, sym, subst}
 use Rattle.std.specs.Prelude.{Option, is_some, Ok, Err}
 use Rattle.program_typing.specs.type_layout.declared.definitions.TypeId.{TypeId}
 use Rattle.program_typing.specs.type_layout.declared.definitions.RoutineId.{RoutineId}
@@ -14,19 +14,20 @@ use Rattle.program_typing.specs.well_formed.Scopes.{Scope}
 use Rattle.program_typing.specs.tp_meaning.Trees.{Key, Value, Ordinal, Text, Elements, Nil, Block, Code, Class, At, Void}
 use Rattle.program_typing.specs.tp_meaning.Found.{Act, Error, IllTyped, Found}
 use Rattle.program_typing.specs.tp_meaning.Shapes.{parts_at, class_place}
-use Rattle.program_typing.specs.tp_meaning.Store.{Store, Object, object_at, if_there, disposed}
+use Rattle.program_typing.specs.tp_meaning.Store.{Store, Object, object_at, if_there, followed, disposed}
 use Rattle.program_typing.specs.tp_meaning.Programs.{Sort, definition, sort_in, class_key, routine_key}
 use Rattle.program_typing.specs.tp_meaning.Outcomes.{State, Outcome, Done, Does, and_then, ◌>>=◌, ◌>>◌, give, known, found, looked, changed, spending}
 use Rattle.program_typing.specs.tp_meaning.Activations.{Reached, Activation, whole}
 use Rattle.program_typing.specs.tp_meaning.Calls.{Flow, Next, Runs, entered, method_of}
 use Rattle.program_typing.specs.tp_meaning.Standard.{Operand, handed, target_of, target, size_freed}
-use Rattle.program_typing.specs.tp_meaning.Statements.{block_of, destructor_of, freed}
+use Rattle.program_typing.specs.tp_meaning.Statements.{unless_nil, destructor_of, freed}
 use Rattle.program_typing.specs.store_typing.types.Agreement.{IsKnown, AreConsistent}
 use Rattle.program_typing.specs.store_typing.types.Forms.{Link}
 use Rattle.program_typing.specs.store_typing.stores.Worlds.{Made, World, LeadsTo, IsHeld}
 use Rattle.program_typing.specs.store_typing.stores.Places.{Shared, IsAt, IsValueBy}
 use Rattle.program_typing.specs.store_typing.stores.Stores.{Finds}
 use Rattle.program_typing.proofs.store_typing_proofs.stores.Seen.{target_place}
+use Rattle.program_typing.proofs.store_typing_proofs.stores.Grown.{grows_by, value_grows}
 use Rattle.program_typing.proofs.store_typing_proofs.stores.Kept.{disposed_keeps}
 use Rattle.program_typing.specs.store_typing.standard.Laws.{HasClasses}
 use Rattle.program_typing.proofs.store_typing_proofs.standard.Sizes.{freed_size}
@@ -35,12 +36,12 @@ use Rattle.program_typing.specs.programs.Outcomes.{IsTypedState, world, after, E
 use Rattle.program_typing.specs.programs.References.{Site, IsOwned, CallsNumber}
 use Rattle.program_typing.specs.programs.Statements.{TakesAll, RefersDestructor}
 use Rattle.program_typing.specs.programs.Calls.{GivesAs, HasSoundCalls}
-use Rattle.program_typing.proofs.programs.Ends.{ends_bind, ends_more, ends_looked, ends_spending}
+use Rattle.program_typing.proofs.programs.Ends.{ends_bind, ends_more, ends_found, ends_looked, ends_spending}
 use Rattle.type_soundness.proofs.expressions.Chains.{Kept, both, chain}
 use Rattle.type_soundness.proofs.expressions.Values.{ValueAt}
 use Rattle.type_soundness.proofs.expressions.Operands.{TakenBy}
 use Rattle.type_soundness.proofs.expressions.Instances.{instance_is}
-use Rattle.type_soundness.proofs.expressions.Calls.{active_kept, place_kept, leads_kept}
+use Rattle.type_soundness.proofs.expressions.Calls.{active_kept, place_kept}
 use Rattle.type_soundness.proofs.statements.Flows.{Ended, changed_next}
 
 -- ---- what the pointer leads to
@@ -49,16 +50,20 @@ there : (w : World) (to : Option Key) (serial : ℕ) (o : Option Object) → Lea
 there w to serial None is = tt
 there w to serial (Some object) is = is
 
-block_by : (w : World) (to : Option Key) (store : Store) (v : Value) → IsHeld w (Link to) v → Finds (λ n. LeadsTo w n to) (block_of v store)
-block_by w to store Nil is = tt
-block_by w to store (Block serial) is = there w to serial (object_at store serial) is
-block_by w to store (Ordinal z) is = absurd is
-block_by w to store (Text bytes) is = absurd is
-block_by w to store (Elements set) is = absurd is
-block_by w to store (Code routine) is = absurd is
-block_by w to store (Class class) is = absurd is
-block_by w to store (At spot) is = absurd is
-block_by w to store Void is = absurd is
+followed_by : (w : World) (to : Option Key) (store : Store) (v : Value) → IsHeld w (Link to) v → Finds (λ n. LeadsTo w n to) (followed store v)
+followed_by w to store Nil is = tt
+followed_by w to store (Block serial) is = there w to serial (object_at store serial) is
+followed_by w to store (Ordinal z) is = absurd is
+followed_by w to store (Text bytes) is = absurd is
+followed_by w to store (Elements set) is = absurd is
+followed_by w to store (Code routine) is = absurd is
+followed_by w to store (Class class) is = absurd is
+followed_by w to store (At spot) is = absurd is
+followed_by w to store Void is = absurd is
+
+nil_or_not : (v : Value) → Finds (λ x. Unit {0}) (unless_nil v)
+nil_or_not Nil = tt
+nil_or_not v = tt
 
 some_place : (o : Option ℕ) → is_some o ≡ true → (n : ℕ) × (o ≡ Some n)
 some_place None e = absurd cc
@@ -135,23 +140,44 @@ module _ (program : Program) (agreed : AreConsistent program) (closed : HasClass
 
   -- ---- the whole
 
-  abbrev Freeing : Destructor → Does (List Operand) → ℕ → Sort → Does Flow
-  Freeing with go serial to = go >>= λ xs. freed program again f with xs serial (record { spot = whole serial; sort = to })
+  -- what the pointer leads to is freed, once the arguments are known
+  abbrev Freeing : Destructor → Does Sort → Value → List Operand → Does Flow
+  Freeing with find v xs =
+      looked (λ store. followed store v) >>= λ serial. find >>= λ sort. found (target sort) >>= λ to. freed program again f with xs serial (record { spot = whole serial; sort = to })
+
+  freeing_ends : (made : List Made) (pointer class : TypeId) (with : Destructor) (args : Arguments) (r : RefersDestructor site s class with args) (find : Does Sort) (v : Value) (xs : List Operand) (t : State)
+      → definition (sort_in f.unit pointer) ≡ Some (type.PointerTo class) → IsKnown program (sort_in f.unit class) → is_some (class_place (parts_at f.unit.types.types class)) ≡ true
+      → ((t : State) → find t ≡ Done (sort_in f.unit pointer) t) → Body made → ValueAt (sort_in f.unit pointer) (world program made) v → TakenBy f.unit (params_of class with args r) (world program made) xs → IsTypedState (world program made) t
+      → Ends (world program made) Ended (Freeing with find v xs t)
+  freeing_ends made pointer class with args r find v xs t e ks part finds k is taken typed =
+      by (followed t.store v) (followed_by (world program made) (class_key (sort_in f.unit class)) t.store v (subst (λ (d : Option TypeDef). IsValueBy (world program made) (sort_in f.unit pointer) d v) e is)) where
+        by : (x : Found ℕ) → Finds (λ n. LeadsTo (world program made) n (class_key (sort_in f.unit class))) x
+            → Ends (world program made) Ended (and_then (found x t) (λ serial. find >>= λ sort. found (target sort) >>= λ to. freed program again f with xs serial (record { spot = whole serial; sort = to })))
+        by (Ok serial) leads =
+            subst (λ (x : Outcome Sort). Ends (world program made) Ended (and_then x (λ sort. found (target sort) >>= λ to. freed program again f with xs serial (record { spot = whole serial; sort = to })))) (sym (finds t))
+            (subst (λ (d : Option TypeDef). Ends (world program made) Ended ((found (target_of (sort_in f.unit pointer) d) >>= λ to. freed program again f with xs serial (record { spot = whole serial; sort = to })) t)) (sym e)
+            (freed_ends made class with args r xs serial t ks part k leads taken typed))
+        by (Err (Act n)) h = tt
+        by (Err (Error n)) h = tt
+        by (Err IllTyped) h = h
+
+  -- the pointer goes on to be one as objects are made
+  abbrev value_kept : Sort → Value → Kept
+  value_kept sort v = record {
+    holds = λ made. ValueAt sort (world program made) v;
+    keep = λ made more h. value_grows (world program made) (world program (made ++ more)) (grows_by (world program made) more) sort v h;
+  }
 
   pub unmade_ends : (made : List Made) (pointer class : TypeId) (with : Destructor) (args : Arguments) (r : RefersDestructor site s class with args) (o : Outcome Value) (find : Does Sort) (go : Does (List Operand))
       → definition (sort_in f.unit pointer) ≡ Some (type.PointerTo class) → IsKnown program (sort_in f.unit class) → is_some (class_place (parts_at f.unit.types.types class)) ≡ true
       → ((t : State) → find t ≡ Done (sort_in f.unit pointer) t) → Body made → Ends (world program made) (ValueAt (sort_in f.unit pointer)) o
       → ((made' : List Made) (t : State) → Body made' → IsTypedState (world program made') t → Ends (world program made') (TakenBy f.unit (params_of class with args r)) (go t))
-      → Ends (world program made) Ended (and_then o (λ v. looked (block_of v) >>= λ serial. find >>= λ sort. found (target sort) >>= λ to. Freeing with go serial to))
+      → Ends (world program made) Ended (and_then o (λ v. found (unless_nil v) >> (go >>= Freeing with find v)))
   unmade_ends made pointer class with args r o find go e ks part finds k h next =
       let sort : Sort = sort_in f.unit pointer in
-      let key : Option Key = class_key (sort_in f.unit class) in
-      chain program active (ValueAt sort) Ended made o (λ v. looked (block_of v) >>= λ serial. find >>= λ sort. found (target sort) >>= λ to. Freeing with go serial to) k h (λ made1 v t k1 typed1 is.
-      let held : IsHeld (world program made1) (Link key) v = subst (λ (d : Option TypeDef). IsValueBy (world program made1) sort d v) e is in
-      chain program active (λ w n. LeadsTo w n key) Ended made1 (looked (block_of v) t) (λ serial. find >>= λ sort. found (target sort) >>= λ to. Freeing with go serial to) k1
-      (ends_looked (λ w n. LeadsTo w n key) (world program made1) (block_of v) t typed1 (block_by (world program made1) key t.store v held)) (λ made2 serial u k2 typed2 leads.
-      subst (λ (x : Outcome Sort). Ends (world program made2) Ended (and_then x (λ sort. found (target sort) >>= λ to. Freeing with go serial to))) (sym (finds u))
-      (subst (λ (d : Option TypeDef). Ends (world program made2) Ended ((found (target_of sort d) >>= λ to. Freeing with go serial to) u)) (sym e)
-      (chain program (both active (leads_kept program serial key)) (TakenBy f.unit (params_of class with args r)) Ended made2 (go u)
-      (λ xs. freed program again f with xs serial (record { spot = whole serial; sort = sort_in f.unit class })) (k2, leads) (next made2 u k2 typed2) (λ made3 xs v3 k3 typed3 taken.
-      freed_ends made3 class with args r xs serial v3 ks part k3.0 k3.1 taken typed3)))))
+      chain program active (ValueAt sort) Ended made o (λ v. found (unless_nil v) >> (go >>= Freeing with find v)) k h (λ made1 v t k1 typed1 is.
+      let held : Kept = both active (value_kept sort v) in
+      chain program held (λ w x. Unit {0}) Ended made1 (found (unless_nil v) t) (λ x. go >>= Freeing with find v) (k1, is)
+      (ends_found (λ w x. Unit {0}) (world program made1) (unless_nil v) t typed1 (nil_or_not v)) (λ made2 x u k2 typed2 y.
+      chain program held (TakenBy f.unit (params_of class with args r)) Ended made2 (go u) (Freeing with find v) k2 (next made2 u k2.0 typed2) (λ made3 xs v3 k3 typed3 taken.
+      freeing_ends made3 pointer class with args r find v xs v3 e ks part finds k3.0 k3.1 taken typed3)))

@@ -27,7 +27,7 @@ use Rattle.program_typing.specs.tp_meaning.Activations.{Reached, Activation, ass
 use Rattle.program_typing.specs.tp_meaning.Calls.{Flow, Next, Left, Do, Turns, Runs}
 use Rattle.program_typing.specs.tp_meaning.Standard.{text_of, field_text}
 use Rattle.program_typing.specs.tp_meaning.Expressions.{value, place, operands, sort_of}
-use Rattle.program_typing.specs.tp_meaning.Statements.{then_next, chosen, number, condition, covers, tested, width_of, written, line_written, taken_as, read, line_read, counter, is_past, counted, turn, halted, with_held, statement, statements, branches, task}
+use Rattle.program_typing.specs.tp_meaning.Statements.{then_next, chosen, number, condition, covers, tested, width_of, written, line_written, taken_as, read, line_read, counter, is_past, turn, halted, with_held, statement, statements, branches, task}
 use Rattle.program_typing.specs.store_typing.types.Agreement.{IsKnown}
 use Rattle.program_typing.specs.store_typing.stores.Worlds.{Made, World}
 use Rattle.program_typing.specs.store_typing.stores.Places.{IsPlaceOf, IsAt}
@@ -54,7 +54,7 @@ use Rattle.type_soundness.proofs.expressions.Expressions.{joined, place_known, t
 use Rattle.type_soundness.proofs.statements.Flows.{Ended, next_ends, chosen_ends, give_ends, changed_next, printed_ends, taking_ends, Holds, stored_family, number_held, truth_ends, tested_ends}
 use Rattle.type_soundness.proofs.statements.Inputs.{line_bytes}
 use Rattle.type_soundness.proofs.statements.Writes.{text_found, item_read}
-use Rattle.type_soundness.proofs.statements.Loops.{counter_ends, counted_ends, turn_ends}
+use Rattle.type_soundness.proofs.statements.Loops.{counter_ends, turn_ends}
 use Rattle.type_soundness.proofs.statements.Frees.{params_of, unmade_ends}
 
 object_some : (o : Option TypeDef) → IsObject o → IsSome o
@@ -237,12 +237,12 @@ module _ (program : Program) (well : IsWellTyped program) (again : Runs) (calls 
         let bounds : Option TypeDef = definition (sort_at ty) in
         let turns : ℤ → ℤ → Does Flow = λ low high. counter program f variable >>= λ at. changed (assigned at (Ordinal low)) >> turn program again f variable high down body (statement program again f body) in
         let looping : ℤ → ℤ → Does Flow = λ first last. tested checked bounds first >>= λ low. tested checked bounds last >>= λ high. turns low high in
-        chain program active (λ w z. Holds a.host z) Ended made (number program again f from s) (λ first. number program again f to >>= λ last. chosen (is_past down first last) (counted program f variable) (looping first last)) k
+        chain program active (λ w z. Holds a.host z) Ended made (number program again f from s) (λ first. number program again f to >>= λ last. chosen (is_past down first last) (give Next) (looping first last)) k
         (number_ends made from bounded.first r.1 a s k typed) (λ made1 first s1 k1 typed1 first_held.
-        chain program active Ended Ended made1 (number program again f to s1) (λ last. chosen (is_past down first last) (counted program f variable) (looping first last)) k1
+        chain program active Ended Ended made1 (number program again f to s1) (λ last. chosen (is_past down first last) (give Next) (looping first last)) k1
         (ends_more (λ w z. Holds b.host z) (world program made1) Ended (number program again f to s1) (λ more z x. tt) (number_ends made1 to bounded.last r.2 b s1 k1 typed1)) (λ made2 last s2 k2 typed2 x.
-        chosen_ends (world program made2) (is_past down first last) (counted program f variable) (looping first last) s2
-        (counted_ends program well.agreed again sound f number' withs variable ty is a.host stored made2 s2 k2 typed2)
+        chosen_ends (world program made2) (is_past down first last) (give Next) (looping first last) s2
+        (ends_done Ended (world program made2) Next s2 typed2 tt)
         (chain program active (λ w z. Holds a.host z) Ended made2 (tested checked bounds first s2) (λ low. tested checked bounds last >>= λ high. turns low high) k2 (tested_ends (world program made2) (Holds a.host) checked bounds first s2 typed2 first_held) (λ made3 low s3 k3 typed3 low_held.
         chain program active Ended Ended made3 (tested checked bounds last s3) (λ high. turns low high) k3 (tested_ends (world program made3) (λ z. Unit {0}) checked bounds last s3 typed3 tt) (λ made4 high s4 k4 typed4 x.
         begin_ends variable ty down body is a.host stored is_body made4 low high s4 low_held k4 typed4 runs)))))

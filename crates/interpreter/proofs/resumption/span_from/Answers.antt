@@ -7,11 +7,6 @@ use Rattle.interpreter_steps.proofs.interpreter_frames.Moves.{moves1, moves2, mo
 use Rattle.interpreter.proofs.Binds.{two_binds, three_binds, four_binds}
 use Rattle.interpreter.proofs.resumption.span_from.Goals as goal
 
-pub returns-in_err-first : goal.returns-in_err-first
-returns-in_err-first c =
-    let q = err_from_is_err_and c.from_residual.result c.from_residual.ensures.1 in
-    rw (q.1, q.2) (λ p s. ends_two c.in_err-first.field-0.0 s _ _ _ (c.in_err-first.ensures s))
-
 pub returns : goal.returns
 returns c =
-    λ p s. moves_found p _ _ s _ _ _ _ (c.in_ok-first.ensures s) (rw two_binds (c.evaluate.ensures p s))
+    λ p s. rw two_binds (c.evaluate.ensures p s)

@@ -87,7 +87,7 @@ returns-in-Std c =
     let p = program_of c.args.self.now.steps in
     let s = view_run c.args.run.now in
     let e = ap view_expr c.in-Std.is ∙ view_std c.in-Std.ty c.in-Std.number c.in-Std.args in
-    rw e (rw two_binds (rw (c.as_slice-in-Std.ensures.value, c.new-in-Std.ensures.items) at c.argue.ensures))
+    rw e (rw c.as_slice-in-Std.ensures.value at c.perform.ensures)
 
 pub returns-in-Make : goal.returns-in-Make
 returns-in-Make c =

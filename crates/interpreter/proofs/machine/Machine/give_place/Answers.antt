@@ -11,6 +11,13 @@ returns-in-Load c =
     let w = c.args.work.now in
     rw c.in-Load.is (c.gave_value.ensures p w s _ c.load.ensures)
 
+pub returns-in-Length : goal.returns-in-Length
+returns-in-Length c =
+    let p = program_of c.args.self.now.steps in
+    let s = view_run c.args.run.now in
+    let w = c.args.work.now in
+    rw c.in-Length.is (c.gave_value-in-Length.ensures p w s _ c.measure.ensures)
+
 pub returns-in-Indexed : goal.returns-in-Indexed
 returns-in-Indexed c =
     let p = program_of c.args.self.now.steps in

@@ -61,7 +61,7 @@ returns-in-Last c =
     let p = program_of c.args.self.now.steps in
     let s = view_run c.args.run.now in
     let w = c.args.work.now in
-    rw c.in-Last.is (rw c.as_slice-in-Last.ensures.value at (c.add_span.ensures p s))
+    rw c.in-Last.is (c.add_span.ensures p s)
 
 pub returns-in-Deref : goal.returns-in-Deref
 returns-in-Deref c =

@@ -1,0 +1,1 @@
+var s: string; begin Write('q'); Write(Length(s)) end.

@@ -1,0 +1,17 @@
+type
+  P = ^T;
+  T = object
+    constructor Init;
+    destructor Done(N: Integer); virtual;
+  end;
+constructor T.Init; begin end;
+destructor T.Done(N: Integer); begin Write('d', N) end;
+function F: Integer; begin Write('f'); F := 1 end;
+var a, b: P;
+begin
+  New(a, Init);
+  b := a;
+  Dispose(a, Done(F));
+  Write('.');
+  Dispose(b, Done(F))
+end.
