@@ -33,6 +33,13 @@ use Rattle.type_soundness.proofs.expressions.Chains.{Kept, both, chain}
 abbrev pub ValueAt : Sort → World → Value → Type 0
 ValueAt sort w v = IsValueOf w sort v
 
+-- a value goes on to be one of its type as objects are made
+abbrev pub value_kept : Program → Sort → Value → Kept
+value_kept program sort v = record {
+  holds = λ made. IsValueOf (world program made) sort v;
+  keep = λ made more h. value_grows (world program made) (world program (made ++ more)) (grows_by (world program made) more) sort v h;
+}
+
 -- ---- constants
 
 module _ (w : World) (agreed : AreConsistent w.program) (sort : Sort) where
@@ -114,13 +121,6 @@ module _ (program : Program) (kept : Kept) where
       chain program kept (λ u n. Unit {0}) Q made' (found (element_of v) s) go k' (ends_found (λ u n. Unit {0}) (world program made') (element_of v) s typed (laws.element of v fits is)) (λ made'' n t k'' typed' u.
       next made'' n t k'' typed'))
 
-  -- a value goes on to be one of its type as objects are made
-  abbrev value_kept : Sort → Value → Kept
-  value_kept sort v = record {
-    holds = λ made. IsValueOf (world program made) sort v;
-    keep = λ made more h. value_grows (world program made) (world program (made ++ more)) (grows_by (world program made) more) sort v h;
-  }
-
   -- the elements of a span, and then what is done with the set
   pub span_ends : {B : Type 0} (Q : World → B → Type 0) (made : List Made) (of to : Sort) (set : List ℕ) (o : Outcome Value) (last : Does Value) (go : List ℕ → Does B) → IsSome (family_of (definition of)) → IsSome (family_of (definition to))
       → kept.holds made → Ends (world program made) (ValueAt of) o
@@ -129,7 +129,7 @@ module _ (program : Program) (kept : Kept) where
       → Ends (world program made) Q (and_then o (λ v. last >>= λ x. found (spanned set v x) >>= go))
   span_ends Q made of to set o last go fits fits' k h next rest =
       chain program kept (ValueAt of) Q made o (λ v. last >>= λ x. found (spanned set v x) >>= go) k h (λ made1 v s k1 typed1 is.
-      chain program (both kept (value_kept of v)) (ValueAt to) Q made1 (last s) (λ x. found (spanned set v x) >>= go) (k1, is) (next made1 s k1 typed1) (λ made2 x t k2 typed2 is'.
+      chain program (both kept (value_kept program of v)) (ValueAt to) Q made1 (last s) (λ x. found (spanned set v x) >>= go) (k1, is) (next made1 s k1 typed1) (λ made2 x t k2 typed2 is'.
       let laws : OperatorLaws (world program made2) = operator_laws (world program made2) in
       chain program kept (λ u n. Unit {0}) Q made2 (found (spanned set v x) t) go k2.0 (ends_found (λ u n. Unit {0}) (world program made2) (spanned set v x) t typed2 (laws.spanned of to set v x fits fits' k2.1 is')) (λ made3 more u k3 typed3 y.
       rest made3 more u k3 typed3)))

@@ -27,7 +27,6 @@ use Rattle.program_typing.specs.store_typing.stores.Worlds.{Made, World, LeadsTo
 use Rattle.program_typing.specs.store_typing.stores.Places.{Shared, IsAt, IsValueBy}
 use Rattle.program_typing.specs.store_typing.stores.Stores.{Finds}
 use Rattle.program_typing.proofs.store_typing_proofs.stores.Seen.{target_place}
-use Rattle.program_typing.proofs.store_typing_proofs.stores.Grown.{grows_by, value_grows}
 use Rattle.program_typing.proofs.store_typing_proofs.stores.Kept.{disposed_keeps}
 use Rattle.program_typing.specs.store_typing.standard.Laws.{HasClasses}
 use Rattle.program_typing.proofs.store_typing_proofs.standard.Sizes.{freed_size}
@@ -38,7 +37,7 @@ use Rattle.program_typing.specs.programs.Statements.{TakesAll, RefersDestructor}
 use Rattle.program_typing.specs.programs.Calls.{GivesAs, HasSoundCalls}
 use Rattle.program_typing.proofs.programs.Ends.{ends_bind, ends_more, ends_found, ends_looked, ends_spending}
 use Rattle.type_soundness.proofs.expressions.Chains.{Kept, both, chain}
-use Rattle.type_soundness.proofs.expressions.Values.{ValueAt}
+use Rattle.type_soundness.proofs.expressions.Values.{ValueAt, value_kept}
 use Rattle.type_soundness.proofs.expressions.Operands.{TakenBy}
 use Rattle.type_soundness.proofs.expressions.Instances.{instance_is}
 use Rattle.type_soundness.proofs.expressions.Calls.{active_kept, place_kept}
@@ -161,13 +160,6 @@ module _ (program : Program) (agreed : AreConsistent program) (closed : HasClass
         by (Err (Error n)) h = tt
         by (Err IllTyped) h = h
 
-  -- the pointer goes on to be one as objects are made
-  abbrev value_kept : Sort → Value → Kept
-  value_kept sort v = record {
-    holds = λ made. ValueAt sort (world program made) v;
-    keep = λ made more h. value_grows (world program made) (world program (made ++ more)) (grows_by (world program made) more) sort v h;
-  }
-
   pub unmade_ends : (made : List Made) (pointer class : TypeId) (with : Destructor) (args : Arguments) (r : RefersDestructor site s class with args) (o : Outcome Value) (find : Does Sort) (go : Does (List Operand))
       → definition (sort_in f.unit pointer) ≡ Some (type.PointerTo class) → IsKnown program (sort_in f.unit class) → is_some (class_place (parts_at f.unit.types.types class)) ≡ true
       → ((t : State) → find t ≡ Done (sort_in f.unit pointer) t) → Body made → Ends (world program made) (ValueAt (sort_in f.unit pointer)) o
@@ -176,7 +168,7 @@ module _ (program : Program) (agreed : AreConsistent program) (closed : HasClass
   unmade_ends made pointer class with args r o find go e ks part finds k h next =
       let sort : Sort = sort_in f.unit pointer in
       chain program active (ValueAt sort) Ended made o (λ v. found (unless_nil v) >> (go >>= Freeing with find v)) k h (λ made1 v t k1 typed1 is.
-      let held : Kept = both active (value_kept sort v) in
+      let held : Kept = both active (value_kept program sort v) in
       chain program held (λ w x. Unit {0}) Ended made1 (found (unless_nil v) t) (λ x. go >>= Freeing with find v) (k1, is)
       (ends_found (λ w x. Unit {0}) (world program made1) (unless_nil v) t typed1 (nil_or_not v)) (λ made2 x u k2 typed2 y.
       chain program held (TakenBy f.unit (params_of class with args r)) Ended made2 (go u) (Freeing with find v) k2 (next made2 u k2.0 typed2) (λ made3 xs v3 k3 typed3 taken.
