@@ -1,5 +1,5 @@
 -- Dispose with a destructor.
-use Rattle.std.proofs.Common.{◌≡◌, ℕ, ◌≤◌, true, List, ◌++◌, map, Some, None, refl, sym, subst}
+use Rattle.std.proofs.Common.{◌≡◌, ℕ, ◌≤◌, true, List, map, Some, None, refl, sym, subst}
 use Rattle.std.specs.Prelude.{Option, is_some, Ok, Err}
 use Rattle.program_typing.specs.type_layout.declared.definitions.TypeId.{TypeId}
 use Rattle.program_typing.specs.type_layout.declared.definitions.RoutineId.{RoutineId}
