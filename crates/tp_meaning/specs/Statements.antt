@@ -1,5 +1,5 @@
 -- What statements mean.
-use Rattle.std.specs.Prelude.{ℕ, Bool, true, false, if◌then◌else◌, ℤ, pos, negsuc, ◌+ℤ◌, int_lt, List, [], ◌∷◌, ◌++◌, map, Option, Some, None, Err}
+use Rattle.std.specs.Prelude.{ℕ, Bool, true, false, if◌then◌else◌, ℤ, pos, negsuc, ◌+ℤ◌, int_lt, List, [], ◌∷◌, ◌++◌, map, Option, Some, None, Ok, Err}
 use Rattle.std.specs.List.{list_any}
 use Rattle.std.specs.Ordering.{int_eq}
 use Rattle.common_values.specs.behaviour.Seen.{Ended}
@@ -20,7 +20,7 @@ use Rattle.common_values.specs.Written.{line_end}
 use Rattle.common_values.specs.Input.{char_read, string_read, number_read, after_line}
 use Rattle.tp_meaning.specs.Trees.{Key, Value, Ordinal, Text, Nil, unset}
 use Rattle.tp_meaning.specs.Found.{Found, Error}
-use Rattle.tp_meaning.specs.Store.{Store, followed, number_of, replaced, disposed}
+use Rattle.tp_meaning.specs.Store.{followed, number_of, replaced, disposed}
 use Rattle.tp_meaning.specs.Programs.{definition, sort_in, routine_key}
 use Rattle.tp_meaning.specs.Outcomes.{Over, Does, ◌>>=◌, ◌>>◌, give, raised, stuck, found, known, spending, looked, changed, printed, taking}
 use Rattle.tp_meaning.specs.Operators.{is_true, within, is_between}
