@@ -8,13 +8,13 @@ use Rattle.typed_tree.specs.Statements.{Statement, view_stmt, view_written}
 use Rattle.tp_meaning.specs.Trees.{Key, Spot, Value}
 use Rattle.tp_meaning.specs.Programs.{Sort}
 use Rattle.tp_meaning.specs.Outcomes.{Does, and_then, found}
-use Rattle.tp_meaning.specs.Activations.{Activation, Reached, Callee}
+use Rattle.tp_meaning.specs.Activations.{Activation, Callee}
 use Rattle.tp_meaning.specs.Calls.{Flow, entered}
 use Rattle.tp_meaning.specs.Standard.{Operand, handed}
 use Rattle.tp_meaning.specs.Expressions.{Instance, operands, called}
 use Rattle.tp_meaning.specs.Meaning.{run}
 use Rattle.interpreter_store.specs.cell_store.Views.{view_key, view_spot, view_value}
-use Rattle.interpreter_store.specs.typed_cells.Sorts.{view_sort, view_reached}
+use Rattle.interpreter_store.specs.typed_cells.Sorts.{view_sort}
 use Rattle.interpreter_effects.specs.activations.Views.{view_activation, view_callee}
 use Rattle.interpreter_effects.specs.standard_effects.Operands.{view_operand}
 use Rattle.interpreter_steps.specs.Running.{view_run, view_flow, view_instance, program_of}
