@@ -18,7 +18,7 @@ use interpreter_steps::interpreter_frames::{Callable, Next, OnValue, Work, gave_
 use interpreter_steps::{Instance, Over, Run, all_handed, held_routine, named, new_instance};
 use interpreter_store::cell_store::Value;
 use interpreter_store::typed_cells::{Reached, Sort};
-use type_layout::{RoutineId, TypeId};
+use type_layout::RoutineId;
 use typed_tree::{Destructor, Expr};
 
 impl<'a> Machine<'a> {

@@ -23,7 +23,6 @@ use interpreter_steps::interpreter_frames::{
 use interpreter_steps::{Instance, Over, Run, constant_value, routine_value};
 use interpreter_store::cell_store::Value;
 use interpreter_store::value_operators::decided;
-use std::alloc::Global;
 use type_layout::{Bytes, RoutineId, TypeId};
 use typed_tree::standard::LENGTH;
 use typed_tree::{Arg, BinaryOp, Expr, PlaceExpr, SetElement};
