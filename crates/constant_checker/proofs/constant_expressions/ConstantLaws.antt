@@ -1,5 +1,5 @@
 -- Constants are judged lawfully.
-use Rattle.std.proofs.Common.{◌≡◌, ℕ, ℤ, pos, ◌+ℤ◌, ◌-ℤ◌, ◌≤ℤ◌, int_le, Bool, true, false, List, [], ◌∷◌, ◌++◌, Option, Some, None, Decides, refl, arith}
+use Rattle.std.proofs.Common.{◌≡◌, ℕ, ℤ, pos, ◌+ℤ◌, ◌-ℤ◌, ◌≤ℤ◌, int_le, Bool, true, false, cond, List, [], ◌∷◌, ◌++◌, Option, Some, None, Decides, refl, arith}
 use Rattle.std.proofs.lemmas.Int.{ints}
 use Rattle.std.proofs.lemmas.Bool.Decides.{Decides-and}
 use Rattle.type_layout.specs.declared.definitions.TypeId.{TypeId}
@@ -23,7 +23,7 @@ use Rattle.typing_rules.specs.declared.faults.Rule.TheVariants as rules
 use Rattle.typing_rules.specs.declared.sorts.SetBase.{SetBase}
 use Rattle.typing_rules.specs.declared.sorts.Sort.{Sort}
 use Rattle.typing_rules.specs.Faults.{broken}
-use Rattle.typing_rules.specs.Judgements.{Judgement, refuses, makes, rule, part, parts}
+use Rattle.typing_rules.specs.Judgements.{Judgement, refuses, makes, rule, either, part, parts}
 use Rattle.typing_rules.specs.Selectors.{asking, selected}
 use Rattle.typing_rules.specs.Sorts.{sort_of_type, sort_of_constant}
 use Rattle.typing_rules.specs.Operators.{sign_value}
@@ -65,18 +65,20 @@ module _ (types : List TypeDef) (place : Place) where
       lawful_either (is_text s) (makes (values.text (joined (bytes_of a.value) (bytes_of b.value)))) (numbered place s (computed one (taken s (number_of a.value)) (taken s (number_of b.value))))
       (lawful_makes _) (lawful_numbered s (computed one (taken s (number_of a.value)) (taken s (number_of b.value))))
 
+  abbrev truth_of : BinaryOp → Sort → Constant → Constant → Constant
+  truth_of one s a b = values.truth (cond (values.related (operation_of one) one s a.value b.value) (pos 1) (pos 0))
+
   lawful_allowed : (one : BinaryOp) (s t : Sort) (a b : Constant)
-      → Lawful (asking (rule (broken place (rule_of (operation_of one) s t)) (allows (operation_of one) s t) (Asks (operation_of one) s t) tt) (combined_values place one s (base_in s) a b))
+      → Lawful (either (compares (operation_of one)) (makes (truth_of one s a b)) (combined_values place one s (base_in s) a b))
   lawful_allowed one s t a b =
-      lawful_part (rule (broken place (rule_of (operation_of one) s t)) (allows (operation_of one) s t) (Asks (operation_of one) s t) tt) (λ u. combined_values place one s (base_in s) a b)
-      (lawful_rule (broken place (rule_of (operation_of one) s t)) (allows (operation_of one) s t) (Asks (operation_of one) s t) tt (tells_allowed (operation_of one) s t))
-      (λ u. lawful_values one s (base_in s) a b)
+      lawful_either (compares (operation_of one)) (makes (truth_of one s a b)) (combined_values place one s (base_in s) a b) (lawful_makes _) (lawful_values one s (base_in s) a b)
 
   lawful_by : (one : BinaryOp) (s t : Sort) (a b : Constant) → Lawful (combined_by place one s t a b)
   lawful_by one s t a b =
-      lawful_either (compares (operation_of one)) (refuses (broken place rules.Constant))
-      (asking (rule (broken place (rule_of (operation_of one) s t)) (allows (operation_of one) s t) (Asks (operation_of one) s t) tt) (combined_values place one s (base_in s) a b))
-      (lawful_refuses _) (lawful_allowed one s t a b)
+      lawful_part (rule (broken place (rule_of (operation_of one) s t)) (allows (operation_of one) s t) (Asks (operation_of one) s t) tt)
+      (λ u. either (compares (operation_of one)) (makes (truth_of one s a b)) (combined_values place one s (base_in s) a b))
+      (lawful_rule (broken place (rule_of (operation_of one) s t)) (allows (operation_of one) s t) (Asks (operation_of one) s t) tt (tells_allowed (operation_of one) s t))
+      (λ u. lawful_allowed one s t a b)
 
   lawful_combined : (one : BinaryOp) (a b : Constant) → Lawful (values.combined types place one a b)
   unfolding values.combined

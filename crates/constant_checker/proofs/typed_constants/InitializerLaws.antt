@@ -31,7 +31,7 @@ use Rattle.constant_checker.specs.typed_constants.Trees.{Initial, Initials, Name
 use Rattle.syntax_tree.specs.expression_tree.Places.{first_place}
 use Rattle.constant_checker.specs.stored_values.Stored.{ordinal_bytes, string_bytes}
 use Rattle.constant_checker.specs.typed_constants.Written.{written_as}
-use Rattle.constant_checker.specs.typed_constants.Initializers.{is_plain, byte_bounds, FitsOrdinal, fits_ordinal, FitsString, fits_string, FitsSet, fits_set, set_fitted, fitted_by, fitted, due_type, element_of, counted_by, counted, fields_in, is_next, behind_next, due_for, placed, ended, grouped_by, grouped, judged, items_judged, fields_judged, first_value}
+use Rattle.constant_checker.specs.typed_constants.Initializers.{is_plain, byte_bounds, FitsOrdinal, fits_ordinal, FitsString, fits_string, FitsSet, fits_set, has_every_char, FitsChars, fits_chars, set_fitted, fitted_by, fitted, due_type, element_of, counted_by, counted, fields_in, is_next, behind_next, due_for, placed, ended, grouped_by, grouped, judged, items_judged, fields_judged, first_value}
 
 -- ---- what tests tell
 
@@ -53,6 +53,10 @@ tells_string max w = Decides-and _ _ (tells_text w.sort) (tells_limit (length (b
 
 tells_set : (s : Sort) (low high : ℕ) (w : Written) → Decides (fits_set s low high w) (FitsSet s low high w)
 tells_set s low high w = Decides-and _ _ (tells_sets s w.sort) (itself _)
+
+tells_chars : (types : List TypeDef) (index element : TypeId) (w : Written) → Decides (fits_chars types index element w) (FitsChars types index element w)
+tells_chars types index element w =
+    Decides-and _ _ (tells_text w.sort) (Decides-and _ _ (itself (has_every_char (definition types element))) (Decides-eqb (length (bytes_of w.value)) (count_between (bounds_at types index).0 (bounds_at types index).1)))
 
 -- ---- expressions
 
@@ -77,7 +81,8 @@ module _ (types : List TypeDef) (place : Place) where
   lawful_fitted_by ty (Some (type.SetOf base)) before w =
       lawful_set_fitted (sort_of_type types ty) (byte_bounds (bounds_at types base).0 (bounds_at types base).1) before w
   lawful_fitted_by ty None before w = lawful_refuses _
-  lawful_fitted_by ty (Some (type.ArrayOf index element)) before w = lawful_refuses _
+  lawful_fitted_by ty (Some (type.ArrayOf index element)) before w =
+      lawful_rule (broken place rules.FirstValue) (fits_chars types index element w) (FitsChars types index element w) (before ++ bytes_of w.value) (tells_chars types index element w)
   lawful_fitted_by ty (Some (type.RecordOf fields)) before w = lawful_refuses _
   lawful_fitted_by ty (Some (type.PointerTo target)) before w = lawful_refuses _
   lawful_fitted_by ty (Some (type.ObjectOf parent dynamic fields methods)) before w = lawful_refuses _

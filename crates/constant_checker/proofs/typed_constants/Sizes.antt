@@ -9,8 +9,9 @@ use Rattle.type_layout.specs.declared.definitions.TypeDef.{TypeDef}
 use Rattle.type_layout.specs.declared.definitions.TypeDef.TheVariants as type
 use Rattle.type_layout.specs.declared.layout.Layout.{Layout}
 use Rattle.type_layout.specs.declared.texts.Place.{Place}
-use Rattle.type_layout.specs.Storage.{storage_of}
-use Rattle.type_layout.specs.Layouts.{IsMeasured, layouts_of, layout_by, size_in, fields_size, size_of}
+use Rattle.type_layout.specs.declared.definitions.Host.TheVariants as host
+use Rattle.type_layout.specs.Storage.{storage_of, count_between}
+use Rattle.type_layout.specs.Layouts.{bounds_at, IsMeasured, layouts_of, layout_by, size_in, fields_size, size_of}
 use Rattle.typed_tree.specs.type_fits.Fits.{definition}
 use Rattle.scopes.specs.Environment.{Environment}
 use Rattle.common_values.specs.Sets.{set_bytes}
@@ -22,7 +23,7 @@ use Rattle.constant_checker.specs.typed_constants.Trees.{Initial, Initials, Name
 use Rattle.syntax_tree.specs.expression_tree.Places.{first_place}
 use Rattle.constant_checker.specs.stored_values.Stored.{ordinal_bytes, string_bytes}
 use Rattle.constant_checker.proofs.stored_values.Sizes.{whole as stored}
-use Rattle.constant_checker.specs.typed_constants.Initializers.{set_fitted, fitted_by, fitted, due_type, element_of, counted_by, counted, fields_in, is_next, behind_first, behind_next, first_type, due_for, placed, ended, grouped_by, grouped, is_plain, judged, items_judged, fields_judged}
+use Rattle.constant_checker.specs.typed_constants.Initializers.{has_every_char, set_fitted, fitted_by, fitted, due_type, element_of, counted_by, counted, fields_in, is_next, behind_first, behind_next, first_type, due_for, placed, ended, grouped_by, grouped, is_plain, judged, items_judged, fields_judged}
 use Rattle.constant_checker.specs.typed_constants.Laws.{AreWhole}
 
 -- ---- single values
@@ -51,6 +52,25 @@ module _ (types : List TypeDef) (m : IsMeasured types) where
   size_is : (ty : TypeId) (one : TypeDef) → definition types ty ≡ Some one → size_of types ty ≡ (layout_by types (layouts_of types) one).size
   size_is ty one e = ap (λ (l : Layout). l.size) (m.layouts ty one e)
 
+  -- a Char takes a byte
+  char_size : (element : TypeId) (one : Option TypeDef) → definition types element ≡ one → has_every_char one ≡ true → size_of types element ≡ 1
+  char_size element (Some (type.Ordinal host.Char low high)) e h = size_is element (type.Ordinal host.Char low high) e
+  char_size element (Some (type.Ordinal host.ShortInt low high)) e h = absurd (cc h)
+  char_size element (Some (type.Ordinal host.Byte low high)) e h = absurd (cc h)
+  char_size element (Some (type.Ordinal host.Integer low high)) e h = absurd (cc h)
+  char_size element (Some (type.Ordinal host.Word low high)) e h = absurd (cc h)
+  char_size element (Some (type.Ordinal host.LongInt low high)) e h = absurd (cc h)
+  char_size element (Some (type.Ordinal host.Boolean low high)) e h = absurd (cc h)
+  char_size element (Some (type.Ordinal host.Enumeration low high)) e h = absurd (cc h)
+  char_size element (Some (type.Str max)) e h = absurd (cc h)
+  char_size element (Some (type.SetOf base)) e h = absurd (cc h)
+  char_size element (Some (type.ArrayOf index inner)) e h = absurd (cc h)
+  char_size element (Some (type.RecordOf fields)) e h = absurd (cc h)
+  char_size element (Some (type.PointerTo target)) e h = absurd (cc h)
+  char_size element (Some (type.ObjectOf parent dynamic fields methods)) e h = absurd (cc h)
+  char_size element (Some (type.Procedural header)) e h = absurd (cc h)
+  char_size element None e h = absurd (cc h)
+
   fitted_size : (place : Place) (ty : TypeId) (one : Option TypeDef) → definition types ty ≡ one → (before : List ℕ) (w : Written) (bytes : List ℕ)
       → (fitted_by types place ty one before w).holds bytes → length bytes ≡ length before + size_of types ty
   fitted_size place ty (Some (type.Ordinal own low high)) e before w bytes h =
@@ -62,7 +82,13 @@ module _ (types : List TypeDef) (m : IsMeasured types) where
   fitted_size place ty (Some (type.SetOf base)) e before w bytes h =
       set_behind place (sort_of_type types ty) _ _ _ before w bytes h ∙ ap (λ (n : ℕ). length before + n) (sym (size_is ty (type.SetOf base) e))
   fitted_size place ty None e before w bytes h = absurd h
-  fitted_size place ty (Some (type.ArrayOf index element)) e before w bytes h = absurd h
+  fitted_size place ty (Some (type.ArrayOf index element)) e before w bytes h =
+      let count = count_between (bounds_at types index).0 (bounds_at types index).1 in
+      let one = char_size element (definition types element) refl h.asked.1.0 in
+      let once : count * 1 ≡ count = omega arith in
+      let whole : size_of types ty ≡ count * size_of types element = size_is ty (type.ArrayOf index element) e in
+      behind before (bytes_of w.value) bytes (size_of types ty) h.made
+      (h.asked.1.1 ∙ sym (whole ∙ ap (λ (n : ℕ). count * n) one ∙ once))
   fitted_size place ty (Some (type.RecordOf fields)) e before w bytes h = absurd h
   fitted_size place ty (Some (type.PointerTo target)) e before w bytes h = absurd h
   fitted_size place ty (Some (type.ObjectOf parent dynamic fields methods)) e before w bytes h = absurd h

@@ -1,6 +1,8 @@
 -- Operators on constants. Integers are computed on 32 bits and wrap there.
-use Rattle.std.specs.Prelude.{ℕ, ℤ, pos, ◌+ℤ◌, ◌-ℤ◌, ◌*ℤ◌, ◌≤ℤ◌, int_le, unsigned_abs, Bool, true, false, ◌&&◌, cond, List, [], ◌∷◌, Option, Some, None}
-use Rattle.std.specs.Ordering.{int_eq}
+use Rattle.std.specs.Prelude.{ℕ, ℤ, pos, ◌+ℤ◌, ◌-ℤ◌, ◌*ℤ◌, ◌≤ℤ◌, int_le, unsigned_abs, Bool, true, false, not, ◌&&◌, ◌||◌, cond, List, [], ◌∷◌, Option, Some, None}
+use Rattle.std.specs.declared.cmp.Ordering.{Ordering}
+use Rattle.std.specs.declared.cmp.Ordering.TheVariants as ordering
+use Rattle.std.specs.Ordering.{int_eq, int_cmp}
 use Rattle.type_layout.specs.declared.definitions.TypeId.{TypeId}
 use Rattle.type_layout.specs.declared.definitions.TypeDef.{TypeDef}
 use Rattle.type_layout.specs.declared.definitions.Host.TheVariants as host
@@ -14,8 +16,8 @@ use Rattle.typed_tree.specs.declared.expressions.BinaryOp.TheVariants as op
 use Rattle.common_values.specs.declared.ordinals.IntegerType.TheVariants.{LongInt}
 use Rattle.common_values.specs.Ordinals.{kept, quotient, remainder, left_shift, right_shift}
 use Rattle.common_values.specs.Bits.{conjunction, disjunction, exclusive_disjunction, complement}
-use Rattle.common_values.specs.Strings.{joined}
-use Rattle.common_values.specs.Sets.{ordinals_between, union, difference, intersection}
+use Rattle.common_values.specs.Strings.{joined, compared}
+use Rattle.common_values.specs.Sets.{ordinals_between, is_member, union, difference, intersection, is_subset, is_same}
 use Rattle.typing_rules.specs.declared.faults.Rule.TheVariants as rules
 use Rattle.typing_rules.specs.declared.plans.Operation.{Operation}
 use Rattle.typing_rules.specs.declared.plans.Operation.TheVariants as operation
@@ -107,7 +109,7 @@ computed op.Or a b = Some (disjunction LongInt a b)
 computed op.Xor a b = Some (exclusive_disjunction LongInt a b)
 computed _ a b = None
 
--- relations and `in` don't stand in a constant
+-- relations and `in`, which give a truth
 abbrev pub compares : Operation → Bool
 compares operation.Equality = true
 compares operation.Inclusion = true
@@ -131,6 +133,42 @@ elements_combined _ a b = intersection a b
 abbrev pub sets_combined : BinaryOp → SetBase → Constant → Constant → Constant
 sets_combined one base a b = set_constant (set_type base (Some a.ty) (Some b.ty)) (elements_combined one (elements_of a.value) (elements_of b.value))
 
+-- ---- relations
+
+abbrev pub is_equal : Ordering → Bool
+is_equal ordering.Equal = true
+is_equal _ = false
+
+abbrev pub is_less : Ordering → Bool
+is_less ordering.Less = true
+is_less _ = false
+
+-- the relation holds where the operands are ordered so
+abbrev pub relates : BinaryOp → Ordering → Bool
+relates op.Equal o = is_equal o
+relates op.NotEqual o = not (is_equal o)
+relates op.Less o = is_less o
+relates op.LessOrEqual o = is_less o || is_equal o
+relates op.Greater o = not (is_less o || is_equal o)
+relates op.GreaterOrEqual o = not (is_less o)
+relates _ o = false
+
+abbrev pub sets_relate : BinaryOp → List ℕ → List ℕ → Bool
+sets_relate op.Equal a b = is_same a b
+sets_relate op.NotEqual a b = not (is_same a b)
+sets_relate op.LessOrEqual a b = is_subset a b
+sets_relate op.GreaterOrEqual a b = is_subset b a
+sets_relate _ a b = false
+
+-- sets, or texts, or numbers, by what the left one is
+abbrev pub values_relate : BinaryOp → Sort → Option SetBase → Value → Value → Bool
+values_relate one s (Some base) a b = sets_relate one (elements_of a) (elements_of b)
+values_relate one s None a b = cond (is_text s) (relates one (compared (bytes_of a) (bytes_of b))) (relates one (int_cmp (number_of a) (number_of b)))
+
+abbrev pub related : Operation → BinaryOp → Sort → Value → Value → Bool
+related operation.Membership one s a b = is_member (elements_of b) (number_of a)
+related _ one s a b = values_relate one s (base_in s) a b
+
 -- ---- judgements
 
 abbrev pub of_sort : Sort → ℤ → Constant
@@ -148,11 +186,10 @@ combined_values place one s None a b =
 
 abbrev pub combined_by : Place → BinaryOp → Sort → Sort → Constant → Constant → Judgement Constant
 combined_by place one s t a b =
-    either (compares (operation_of one)) (refuses (broken place rules.Constant))
-    (asking (rule (broken place (rule_of (operation_of one) s t)) (allows (operation_of one) s t) (Asks (operation_of one) s t) tt)
-    (combined_values place one s (base_in s) a b))
+    asking (rule (broken place (rule_of (operation_of one) s t)) (allows (operation_of one) s t) (Asks (operation_of one) s t) tt)
+    (either (compares (operation_of one)) (makes (truth (cond (related (operation_of one) one s a.value b.value) (pos 1) (pos 0)))) (combined_values place one s (base_in s) a b))
 
--- An operator at a place: its rule on types holds, it is none that compares, and no divisor is 0.
+-- An operator at a place: its rule on types holds, and no divisor is 0.
 unfoldable pub combined : List TypeDef → Place → BinaryOp → Constant → Constant → Judgement Constant
 combined types place one a b = combined_by place one (sort_of_constant types a.ty a.value) (sort_of_constant types b.ty b.value) a b
 

@@ -1,8 +1,10 @@
 -- When a first value fits its type, which bytes the variable then begins with, and when a fault is in it.
 use Rattle.std.specs.Prelude.{◌≡◌, ℕ, ◌≤◌, ◌==◌, nat_le, ℤ, pos, unsigned_abs, ◌≤ℤ◌, int_le, Bool, true, false, ◌&&◌, cond, List, [], ◌∷◌, ◌++◌, Option, Some, None, length, get_or}
 use Rattle.std.specs.List.{list_all}
+use Rattle.std.specs.Ordering.{int_eq}
 use Rattle.type_layout.specs.declared.definitions.TypeId.{TypeId}
 use Rattle.type_layout.specs.declared.definitions.Field.{Field}
+use Rattle.type_layout.specs.declared.definitions.Host.TheVariants as host
 use Rattle.type_layout.specs.declared.definitions.TypeDef.{TypeDef}
 use Rattle.type_layout.specs.declared.definitions.TypeDef.TheVariants as type
 use Rattle.type_layout.specs.declared.texts.Place.{Place}
@@ -89,6 +91,20 @@ set_fitted place s (Some bounds) before w =
     rule (broken place rules.FirstValue) (fits_set s bounds.0 bounds.1 w) (FitsSet s bounds.0 bounds.1 w)
     (before ++ set_bytes bounds.0 bounds.1 (elements_of w.value))
 
+-- every Char may be an element
+abbrev pub has_every_char : Option TypeDef → Bool
+has_every_char (Some (type.Ordinal host.Char low high)) = int_eq low (pos 0) && int_eq high (pos 255)
+has_every_char _ = false
+
+-- a text of as many bytes as an array of Char has elements
+abbrev pub FitsChars : List TypeDef → TypeId → TypeId → Written → Type 0
+FitsChars types index element w =
+    IsText w.sort × ((has_every_char (definition types element) ≡ true) × (length (bytes_of w.value) ≡ count_between (bounds_at types index).0 (bounds_at types index).1))
+
+abbrev pub fits_chars : List TypeDef → TypeId → TypeId → Written → Bool
+fits_chars types index element w =
+    is_text w.sort && (has_every_char (definition types element) && length (bytes_of w.value) == count_between (bounds_at types index).0 (bounds_at types index).1)
+
 abbrev pub fitted_by : List TypeDef → Place → TypeId → Option TypeDef → List ℕ → Written → Judgement (List ℕ)
 fitted_by types place ty (Some (type.Ordinal host low high)) before w =
     rule (broken place rules.FirstValue) (fits_ordinal (sort_of_type types ty) low high w) (FitsOrdinal (sort_of_type types ty) low high w)
@@ -97,6 +113,8 @@ fitted_by types place ty (Some (type.Str max)) before w =
     rule (broken place rules.FirstValue) (fits_string max w) (FitsString max w) (before ++ string_bytes max (bytes_of w.value))
 fitted_by types place ty (Some (type.SetOf base)) before w =
     set_fitted place (sort_of_type types ty) (byte_bounds (bounds_at types base).0 (bounds_at types base).1) before w
+fitted_by types place ty (Some (type.ArrayOf index element)) before w =
+    rule (broken place rules.FirstValue) (fits_chars types index element w) (FitsChars types index element w) (before ++ bytes_of w.value)
 fitted_by types place ty _ before w = refuses (broken place rules.FirstValue)
 
 -- The bytes of a value at a place, behind those before it. Where nothing is due there are none.

@@ -2,19 +2,20 @@
 
 ghost use Rattle.std.specs.Prelude.{◌≡◌, Ok, Some, IfOk};
 ghost use Rattle.typing_rules.specs.Judgements.{Gives};
-ghost use Rattle.constant_checker.specs.constant_expressions.Values.{itself, text, bytes_of, taken, computed, compares, elements_of, base_in, elements_combined, sets_combined, of_sort, numbered, combined_values, combined, signed, turned, negated};
+ghost use Rattle.constant_checker.specs.constant_expressions.Values.{itself, text, bytes_of, taken, computed, compares, elements_of, base_in, elements_combined, sets_combined, is_equal, is_less, relates, sets_relate, values_relate, related, of_sort, numbered, combined_values, combined, signed, turned, negated};
 ghost use Rattle.typing_rules.specs.Plans.{set_type};
-ghost use Rattle.common_values.specs.Strings.{joined};
+ghost use Rattle.common_values.specs.Strings.{joined, compared as order_of};
 
 use crate::constant_expressions::constants::{
     Constant, bytes_of, elements_of, integer, number_of, set_constant, truth,
 };
 use common_values::bits::{bitwise_and, bitwise_not, bitwise_or, bitwise_xor};
 use common_values::ordinals::{IntegerType, kept, left_shift, quotient, remainder, right_shift};
-use common_values::sets::{difference, intersection, union};
-use common_values::strings::joined;
+use common_values::sets::{difference, intersection, is_member, is_same, is_subset, union};
+use common_values::strings::{compared, joined};
 use scopes::STRING;
 use std::alloc::{AllocError, Global};
+use std::cmp::Ordering;
 use type_layout::{Bytes, Place, TypeId, Types};
 use typed_tree::{BinaryOp, UnaryOp, Value};
 use typing_rules::{
@@ -151,6 +152,97 @@ fn join(alloc: Global, left: &Value, right: &Value) -> Result<Constant, Refusal>
     })
 }
 
+fn is_equal(order: Ordering) -> bool
+    ensures { result ≡ is_equal order }
+{
+    match order {
+        Ordering::Equal => true,
+        Ordering::Less | Ordering::Greater => false,
+    }
+}
+
+fn is_less(order: Ordering) -> bool
+    ensures { result ≡ is_less order }
+{
+    match order {
+        Ordering::Less => true,
+        Ordering::Equal | Ordering::Greater => false,
+    }
+}
+
+// Whether a relation holds where the operands are ordered so.
+fn relates(op: BinaryOp, order: Ordering) -> bool
+    ensures { result ≡ relates op order }
+{
+    match op {
+        BinaryOp::Equal => is_equal(order),
+        BinaryOp::NotEqual => !is_equal(order),
+        BinaryOp::Less => is_less(order),
+        BinaryOp::LessOrEqual => is_less(order) || is_equal(order),
+        BinaryOp::Greater => !(is_less(order) || is_equal(order)),
+        BinaryOp::GreaterOrEqual => !is_less(order),
+        _ => false,
+    }
+}
+
+fn sets_relate(op: BinaryOp, left: &[u8], right: &[u8]) -> bool
+    ensures { result ≡ sets_relate op left.now right.now }
+{
+    match op {
+        BinaryOp::Equal => is_same(left, right),
+        BinaryOp::NotEqual => !is_same(left, right),
+        BinaryOp::LessOrEqual => is_subset(left, right),
+        BinaryOp::GreaterOrEqual => is_subset(right, left),
+        _ => false,
+    }
+}
+
+fn texts_relate(
+    alloc: Global,
+    op: BinaryOp,
+    left: &Value,
+    right: &Value,
+) -> Result<bool, AllocError>
+    ensures { IfOk result (λ holds. holds ≡ relates op (order_of (bytes_of left.now) (bytes_of right.now))) }
+{
+    let left = bytes_of(alloc, left)?;
+    let right = bytes_of(alloc, right)?;
+    Ok(relates(op, compared(left.as_slice(), right.as_slice())))
+}
+
+// Whether a relation of two values holds: of sets, of texts or of numbers, by what the left one is.
+fn values_relate(
+    alloc: Global,
+    op: BinaryOp,
+    sort: Sort,
+    left: &Value,
+    right: &Value,
+) -> Result<bool, AllocError>
+    ensures { IfOk result (λ holds. holds ≡ values_relate op sort (base_in sort) left.now right.now) }
+{
+    match base_in(sort) {
+        Some(_) => Ok(sets_relate(op, elements_of(left), elements_of(right))),
+        None if is_text(sort) => texts_relate(alloc, op, left, right),
+        None => Ok(relates(op, number_of(left).cmp(&number_of(right)))),
+    }
+}
+
+fn related(
+    alloc: Global,
+    operation: Operation,
+    op: BinaryOp,
+    sort: Sort,
+    left: &Value,
+    right: &Value,
+) -> Result<bool, AllocError>
+    ensures { IfOk result (λ holds. holds ≡ related operation op sort left.now right.now) }
+{
+    match operation {
+        Operation::Membership => Ok(is_member(elements_of(right), number_of(left))),
+        _ => values_relate(alloc, op, sort, left, right),
+    }
+}
+
 fn combined_values(
     alloc: Global,
     place: Place,
@@ -187,12 +279,13 @@ pub(crate) fn combined(
     let first = sort_of_constant(types, left.ty, &left.value);
     let second = sort_of_constant(types, right.ty, &right.value);
     let operation = operation_of(op);
-    if compares(operation) {
-        return Err(Refusal::Because(broken(place, Rule::Constant)));
-    }
     if !allows(operation, first, second) {
         let rule = rule_of(operation, first, second);
         return Err(Refusal::Because(broken(place, rule)));
+    }
+    if compares(operation) {
+        let holds = related(alloc, operation, op, first, &left.value, &right.value)?;
+        return Ok(truth(if holds { 1 } else { 0 }));
     }
     combined_values(alloc, place, op, first, &left, &right)
 }

@@ -9,7 +9,7 @@ ghost use Rattle.typing_rules.specs.declared.faults.Refusal.TheVariants.{Because
 ghost use Rattle.typing_rules.specs.declared.faults.Rule.TheVariants.{FirstValue};
 ghost use Rattle.typing_rules.specs.Faults.{broken};
 ghost use Rattle.typing_rules.specs.Judgements.{Gives};
-ghost use Rattle.constant_checker.specs.typed_constants.Initializers.{fitted_by, set_fitted, fitted, counted, counted_by};
+ghost use Rattle.constant_checker.specs.typed_constants.Initializers.{has_every_char, fitted_by, set_fitted, fitted, counted, counted_by};
 
 use crate::constant_expressions::{bytes_of, elements_of, number_of};
 use crate::stored_values::{with_ordinal, with_set, with_string};
@@ -102,6 +102,43 @@ fn set_fitted(
     }
 }
 
+fn has_every_char(one: Option<&TypeDef>) -> bool
+    ensures { result ≡ has_every_char (option_copied one.entry) }
+{
+    match one {
+        Some(TypeDef::Ordinal { host, low, high }) => {
+            *host == Host::Char && *low == 0 && *high == 255
+        }
+        _ => false,
+    }
+}
+
+fn chars_fitted(
+    alloc: Global,
+    types: &Types,
+    place: Place,
+    ty: TypeId,
+    index: TypeId,
+    element: TypeId,
+    before: Bytes,
+    written: &Written,
+) -> Result<Bytes, Refusal>
+    ensures { Gives (λ bytes. bytes) result (fitted_by types.now.types place ty (Some (type.ArrayOf index element)) before written.now).run }
+{
+    let text = bytes_of(alloc, &written.value)?;
+    let (low, high) = bounds_at(types, index);
+    if is_text(written.sort)
+        && has_every_char(definition(types, element))
+        && text.len() as u64 == count_between(low, high)
+    {
+        let mut bytes = before;
+        bytes.extend_from_slice(text.as_slice())?;
+        Ok(bytes)
+    } else {
+        Err(unfit(place))
+    }
+}
+
 fn fitted_by(
     alloc: Global,
     types: &Types,
@@ -132,9 +169,11 @@ fn fitted_by(
                 written,
             )
         }
+        Some(TypeDef::ArrayOf { index, element }) => {
+            chars_fitted(alloc, types, place, ty, *index, *element, before, written)
+        }
         Some(
-            TypeDef::ArrayOf { .. }
-            | TypeDef::RecordOf { .. }
+            TypeDef::RecordOf { .. }
             | TypeDef::PointerTo { .. }
             | TypeDef::ObjectOf { .. }
             | TypeDef::Procedural { .. },

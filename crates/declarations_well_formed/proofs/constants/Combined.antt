@@ -28,7 +28,7 @@ use Rattle.bodies_well_formed.specs.typing_rules.declared.sorts.SetBase.{SetBase
 use Rattle.bodies_well_formed.specs.typing_rules.declared.sorts.Sort.{Sort}
 use Rattle.bodies_well_formed.specs.typing_rules.declared.sorts.Sort.TheVariants as sort
 use Rattle.bodies_well_formed.specs.typing_rules.Faults.{broken}
-use Rattle.bodies_well_formed.specs.typing_rules.Judgements.{Judgement, refuses, rule, either}
+use Rattle.bodies_well_formed.specs.typing_rules.Judgements.{Judgement, makes, rule, either}
 use Rattle.bodies_well_formed.specs.typing_rules.Selectors.{asking}
 use Rattle.bodies_well_formed.specs.typing_rules.Sorts.{sort_of_type, sort_of_constant}
 use Rattle.bodies_well_formed.specs.typing_rules.Operators.{sign_value}
@@ -53,6 +53,10 @@ IsBit n = (n ≡ pos 0) ⊎ (n ≡ pos 1)
 
 abbrev bit : Bool → ℤ
 bit b = cond b (pos 0) (pos 1)
+
+truth_bit : (b : Bool) → IsBit (cond b (pos 1) (pos 0))
+truth_bit true = inr refl
+truth_bit false = inl refl
 
 both_bit : (p q : Bool) → IsBit (conjunction LongInt (bit p) (bit q))
 both_bit true true = inl refl
@@ -253,9 +257,9 @@ module _ (types : List TypeDef) (sound : IsSound types) (place : Place) where
     combined_good one e =
         let s = sort_of_constant types a.ty a.value in
         let t = sort_of_constant types b.ty b.value in
-        either_way (compares (operation_of one)) (refuses (broken place rules.Constant))
-        (asking (rule (broken place (rule_of (operation_of one) s t)) (allows (operation_of one) s t) (Asks (operation_of one) s t) tt) (combined_values place one s (base_in s) a b)) c
-        (IsGood types c) (λ none. absurd none) (λ held. by_base one s t refl refl (base_in s) refl held.holds.asked held.made) e
+        let holds = values.related (operation_of one) one s a.value b.value in
+        either_way (compares (operation_of one)) (makes (values.truth (cond holds (pos 1) (pos 0)))) (combined_values place one s (base_in s) a b) c
+        (IsGood types c) (λ same. truth_case (cond holds (pos 1) (pos 0)) c (truth_bit holds) same) (λ held. by_base one s t refl refl (base_in s) refl e.holds.asked held) e.made
 
   -- ---- one operand
 

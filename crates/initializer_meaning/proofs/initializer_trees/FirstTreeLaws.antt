@@ -7,6 +7,7 @@ use Rattle.std.proofs.lemmas.Int.{ints}
 use Rattle.std.proofs.lemmas.Bool.{and_parts, and_from, eqb-true, leb-true, le-leb}
 use Rattle.type_layout.specs.declared.definitions.TypeId.{TypeId}
 use Rattle.type_layout.specs.declared.definitions.Field.{Field}
+use Rattle.type_layout.specs.declared.definitions.Host.TheVariants as host
 use Rattle.type_layout.specs.declared.definitions.TypeDef.{TypeDef}
 use Rattle.type_layout.specs.declared.definitions.TypeDef.TheVariants as type
 use Rattle.type_layout.specs.declared.texts.Place.{Place}
@@ -19,17 +20,17 @@ use Rattle.common_values.specs.Sets.{contains, has_byte, set_bytes}
 use Rattle.typing_rules.specs.declared.sorts.Sort.{Sort}
 use Rattle.typing_rules.specs.Sorts.{sort_of_type}
 use Rattle.tp_meaning.specs.Trees.{Tree, Tip, Fork, Ordinal, Elements, holding, chain}
-use Rattle.tp_meaning.specs.Shapes.{Reader, before as continued, read_many, read_chain, read_set, reader_in, readers_of, first_tree}
+use Rattle.tp_meaning.specs.Shapes.{Reader, before as continued, read_ordinal, read_many, read_chain, read_set, reader_in, readers_of, first_tree}
 use Rattle.constant_checker.specs.stored_values.Stored.{ordinal_bytes, string_bytes}
 use Rattle.initializer_meaning.specs.stored_value_laws.Laws.{byte_cell}
 use Rattle.initializer_meaning.proofs.stored_value_laws.Ordinals.{ordinals}
-use Rattle.initializer_meaning.proofs.stored_value_laws.Strings.{strings}
+use Rattle.initializer_meaning.proofs.stored_value_laws.Strings.{bytes_read as chars, strings}
 use Rattle.initializer_meaning.proofs.stored_value_laws.Sets.{sets}
 use Rattle.constant_checker.specs.constant_expressions.Values.{number_of, bytes_of, elements_of}
 use Rattle.constant_checker.specs.declared.typed_constants.written.Written.{Written}
 use Rattle.syntax_tree.specs.expression_tree.Places.{first_place}
 use Rattle.constant_checker.specs.typed_constants.Trees.{Initial, Initials, Named, value, list, group, no_initials, and_initial, no_named, and_named, count}
-use Rattle.constant_checker.specs.typed_constants.Initializers.{set_fitted, fitted_by, fitted, element_of, counted_by, counted, fields_in, behind_first, due_for, placed, ended, grouped_by, grouped, is_plain, judged, items_judged, fields_judged}
+use Rattle.constant_checker.specs.typed_constants.Initializers.{has_every_char, set_fitted, fitted_by, fitted, element_of, counted_by, counted, fields_in, behind_first, due_for, placed, ended, grouped_by, grouped, is_plain, judged, items_judged, fields_judged}
 use Rattle.initializer_meaning.specs.initializer_trees.FirstTrees.{IsSetCell, IsCell, IsForked, IsTree, AreElements, AreFields}
 use Rattle.initializer_meaning.specs.initializer_trees.Laws.{AreTreesOfInitializers}
 use Rattle.initializer_meaning.proofs.initializer_trees.Readers.{reader_is, defined_over}
@@ -126,6 +127,25 @@ bounds_of low high h =
 -- ---- single values
 
 module _ (types : List TypeDef) (all : AllDefined [] types) where
+  -- what reads a Char
+  char_reader : (element : TypeId) (one : Option TypeDef) → definition types element ≡ one → has_every_char one ≡ true → reader_in (readers_of types) element ≡ read_ordinal host.Char
+  char_reader element (Some (type.Ordinal host.Char low high)) e h = reader_is types element (type.Ordinal host.Char low high) all e
+  char_reader element (Some (type.Ordinal host.ShortInt low high)) e h = absurd (cc h)
+  char_reader element (Some (type.Ordinal host.Byte low high)) e h = absurd (cc h)
+  char_reader element (Some (type.Ordinal host.Integer low high)) e h = absurd (cc h)
+  char_reader element (Some (type.Ordinal host.Word low high)) e h = absurd (cc h)
+  char_reader element (Some (type.Ordinal host.LongInt low high)) e h = absurd (cc h)
+  char_reader element (Some (type.Ordinal host.Boolean low high)) e h = absurd (cc h)
+  char_reader element (Some (type.Ordinal host.Enumeration low high)) e h = absurd (cc h)
+  char_reader element (Some (type.Str max)) e h = absurd (cc h)
+  char_reader element (Some (type.SetOf base)) e h = absurd (cc h)
+  char_reader element (Some (type.ArrayOf index inner)) e h = absurd (cc h)
+  char_reader element (Some (type.RecordOf fields)) e h = absurd (cc h)
+  char_reader element (Some (type.PointerTo target)) e h = absurd (cc h)
+  char_reader element (Some (type.ObjectOf parent dynamic fields methods)) e h = absurd (cc h)
+  char_reader element (Some (type.Procedural header)) e h = absurd (cc h)
+  char_reader element None e h = absurd (cc h)
+
   value_read : (place : Place) (ty : TypeId) (one : Option TypeDef) → definition types ty ≡ one → (front : List ℕ) (w : Written) (bytes : List ℕ)
       → (fitted_by types place ty one front w).holds bytes → IsRead (reader_in (readers_of types) ty) front bytes (IsCell one w.value)
   value_read place ty (Some (type.Ordinal host low high)) e front w bytes h =
@@ -156,7 +176,19 @@ module _ (types : List TypeDef) (all : AllDefined [] types) where
       by_reader (IsSetCell (elements_of w.value)) (reader_in (readers_of types) ty) (read_set low high) front bytes (reader_is types ty (type.SetOf base) all e)
       (set_read place (sort_of_type types ty) low high (int_le (pos 0) low && (int_le low high && int_le high (pos 255))) front w bytes (bounds_of low high) h)
   value_read place ty None e front w bytes h = absurd h
-  value_read place ty (Some (type.ArrayOf index element)) e front w bytes h = absurd h
+  value_read place ty (Some (type.ArrayOf index element)) e front w bytes h =
+      let text = bytes_of w.value in
+      let count = count_between (bounds_at types index).0 (bounds_at types index).1 in
+      record {
+        more = text;
+        made = h.made;
+        tree = chain (map byte_cell text);
+        is = refl;
+        read = λ rest.
+            ap (λ (f : Reader). f (text ++ rest)) (reader_is types ty (type.ArrayOf index element) all e)
+            ∙ ap (λ (f : Reader). read_many count f (text ++ rest)) (char_reader element (definition types element) refl h.asked.1.0)
+            ∙ chars count text rest h.asked.1.1;
+      }
   value_read place ty (Some (type.RecordOf fields)) e front w bytes h = absurd h
   value_read place ty (Some (type.PointerTo target)) e front w bytes h = absurd h
   value_read place ty (Some (type.ObjectOf parent dynamic fields methods)) e front w bytes h = absurd h

@@ -11,7 +11,7 @@ use Rattle.initializer_meaning.specs.stored_value_laws.Laws.{byte_cell}
 first_cell : (byte : ℕ) (bytes : List ℕ) → read_ordinal host.Char (byte ∷ bytes) ≡ (byte_cell byte, bytes)
 first_cell byte bytes = ap (λ (n : ℕ). let x : Tree × List ℕ = (byte_cell n, bytes) in x) (add-zero byte)
 
-bytes_read : (n : ℕ) (bytes rest : List ℕ) → length bytes ≡ n → read_many n (read_ordinal host.Char) (bytes ++ rest) ≡ (chain (map byte_cell bytes), rest)
+pub bytes_read : (n : ℕ) (bytes rest : List ℕ) → length bytes ≡ n → read_many n (read_ordinal host.Char) (bytes ++ rest) ≡ (chain (map byte_cell bytes), rest)
 bytes_read zero [] rest e = refl
 bytes_read zero (byte ∷ bytes) rest e = absurd (omega (arith, e))
 bytes_read (suc n) [] rest e = absurd (omega (arith, e))

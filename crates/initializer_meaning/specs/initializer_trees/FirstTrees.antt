@@ -23,10 +23,12 @@ pub record IsSetCell (elements : List ℕ) (tree : Tree) : Type 0 where
   pub is : tree ≡ holding (Elements set)
   pub same : (e : ℕ) → contains set e ≡ contains elements e
 
--- The cells of a constant where a type is due: an ordinal; a string byte by byte, filled with zeros; a set.
+-- The cells of a constant where a type is due: an ordinal; a string byte by byte, filled with zeros; an array of Char byte by byte;
+-- a set.
 abbrev pub IsCell : Option TypeDef → Value → Tree → Type 0
 IsCell (Some (type.Ordinal host low high)) v tree = tree ≡ holding (Ordinal (number_of v))
 IsCell (Some (type.Str max)) v tree = tree ≡ chain (map byte_cell (string_bytes max (bytes_of v)))
+IsCell (Some (type.ArrayOf index element)) v tree = tree ≡ chain (map byte_cell (bytes_of v))
 IsCell (Some (type.SetOf base)) v tree = IsSetCell (elements_of v) tree
 IsCell _ v tree = ⊥
 

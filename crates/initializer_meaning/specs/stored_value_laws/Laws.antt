@@ -25,4 +25,6 @@ pub record AreReadBack : Type 0 where
   -- a string, byte by byte: its length, its text, zeros
   pub strings : (max : ℕ) (text rest : List ℕ) → length text ≤ max
       → read_many (max + 1) (read_ordinal host.Char) (string_bytes max text ++ rest) ≡ (chain (map byte_cell (string_bytes max text)), rest)
+  -- an array of Char, byte by byte
+  pub chars : (n : ℕ) (text rest : List ℕ) → length text ≡ n → read_many n (read_ordinal host.Char) (text ++ rest) ≡ (chain (map byte_cell text), rest)
   pub sets : (low high : ℕ) (set : List ℕ) → low ≤ high → IsReadBack low high set

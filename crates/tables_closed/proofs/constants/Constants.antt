@@ -152,9 +152,9 @@ module _ (n : ℕ) where
 
     by_below : (place : Place) (one : BinaryOp) (s t : Sort) (a b c : Constant) → IsBelow a → IsBelow b → (combined_by place one s t a b).holds c → IsBelow c
     by_below place one s t a b c h k e =
-        either_way (compares (operation_of one)) (refuses (broken place rules.Constant))
-        (asking (rule (broken place (rule_of (operation_of one) s t)) (allows (operation_of one) s t) (Asks (operation_of one) s t) tt) (combined_values place one s (base_in s) a b))
-        c (IsBelow c) (λ none. absurd none) (λ held. values_below place one s (base_in s) a b c h k held.made) e
+        let holds = values.truth (cond (values.related (operation_of one) one s a.value b.value) (pos 1) (pos 0)) in
+        either_way (compares (operation_of one)) (makes holds) (combined_values place one s (base_in s) a b)
+        c (IsBelow c) (λ same. same_constant c holds same (omega arith)) (λ held. values_below place one s (base_in s) a b c h k held) e.made
 
     combined_below : (types : List TypeDef) (place : Place) (one : BinaryOp) (a b c : Constant) → IsBelow a → IsBelow b → (values.combined types place one a b).holds c → IsBelow c
     unfolding values.combined
