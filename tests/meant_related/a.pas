@@ -4,7 +4,7 @@ const
   S = [1, 3..N];
   T = (4 in S) and not (S <= [1, 3]);
   U = ('ab' + 'c' >= 'abc');
-  Flags: array[Boolean] of Boolean = ((N = 6), (N <> 6));
+  Flags: array[Boolean] of Boolean = (not (N <> 6), not (N = 6));
 begin
   WriteLn(B, T, U, Flags[False], Flags[True])
 end.
