@@ -24,7 +24,7 @@ use Rattle.typing_rules.specs.declared.sorts.SetBase.{SetBase}
 use Rattle.typing_rules.specs.declared.sorts.Sort.{Sort}
 use Rattle.typing_rules.specs.Faults.{broken}
 use Rattle.typing_rules.specs.Judgements.{Judgement, refuses, makes, rule, either, part, parts}
-use Rattle.typing_rules.specs.Selectors.{asking, selected}
+use Rattle.typing_rules.specs.Selectors.{selected}
 use Rattle.typing_rules.specs.Sorts.{sort_of_type, sort_of_constant}
 use Rattle.typing_rules.specs.Operators.{sign_value}
 use Rattle.typing_rules.specs.Plans.{operation_of, Asks, AsksNot, IsInteger, is_integer, is_text, allows, allows_not, rule_of}

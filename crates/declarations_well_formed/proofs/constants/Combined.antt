@@ -27,12 +27,10 @@ use Rattle.bodies_well_formed.specs.typing_rules.declared.plans.Operation.TheVar
 use Rattle.bodies_well_formed.specs.typing_rules.declared.sorts.SetBase.{SetBase}
 use Rattle.bodies_well_formed.specs.typing_rules.declared.sorts.Sort.{Sort}
 use Rattle.bodies_well_formed.specs.typing_rules.declared.sorts.Sort.TheVariants as sort
-use Rattle.bodies_well_formed.specs.typing_rules.Faults.{broken}
-use Rattle.bodies_well_formed.specs.typing_rules.Judgements.{Judgement, makes, rule, either}
-use Rattle.bodies_well_formed.specs.typing_rules.Selectors.{asking}
+use Rattle.bodies_well_formed.specs.typing_rules.Judgements.{Judgement, makes, either}
 use Rattle.bodies_well_formed.specs.typing_rules.Sorts.{sort_of_type, sort_of_constant}
 use Rattle.bodies_well_formed.specs.typing_rules.Operators.{sign_value}
-use Rattle.bodies_well_formed.specs.typing_rules.Plans.{operation_of, Asks, IsInteger, IsBoolean, IsText, AreSets, is_integer, is_text, allows, rule_of}
+use Rattle.bodies_well_formed.specs.typing_rules.Plans.{operation_of, Asks, IsInteger, IsBoolean, IsText, AreSets, is_integer, is_text}
 use Rattle.bodies_well_formed.specs.constant_checker.declared.constant_expressions.constants.Constant.{Constant}
 use Rattle.bodies_well_formed.specs.constant_checker.constant_expressions.Values as values
 use Rattle.bodies_well_formed.specs.constant_checker.constant_expressions.Values.{number_of, bytes_of, taken, computed, compares, base_in, of_sort, numbered, combined_values, combined, signed, turned, negated}

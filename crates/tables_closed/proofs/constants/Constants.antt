@@ -29,12 +29,11 @@ use Rattle.tp_check_decl.specs.typing_rules.declared.sorts.SetBase.TheVariants a
 use Rattle.tp_check_decl.specs.typing_rules.declared.sorts.Sort.{Sort}
 use Rattle.tp_check_decl.specs.typing_rules.declared.sorts.Sort.TheVariants as sort
 use Rattle.tp_check_decl.specs.typing_rules.Faults.{broken}
-use Rattle.tp_check_decl.specs.typing_rules.Judgements.{Judgement, makes, refuses, rule, parts}
-use Rattle.tp_check_decl.specs.typing_rules.Selectors.{asking}
+use Rattle.tp_check_decl.specs.typing_rules.Judgements.{Judgement, makes, refuses, parts}
 use Rattle.tp_check_decl.specs.typing_rules.Sorts.{integer, word, long_int, only, is_within, number_type, sort_of_type, sort_of_constant}
 use Rattle.tp_check_decl.specs.typing_rules.Operators.{sign_value}
 use Rattle.tp_check_decl.specs.typing_rules.Wanted.{constant_type}
-use Rattle.tp_check_decl.specs.typing_rules.Plans.{operation_of, Asks, is_integer, is_text, allows, rule_of, set_type}
+use Rattle.tp_check_decl.specs.typing_rules.Plans.{operation_of, is_integer, is_text, set_type}
 use Rattle.tp_check_decl.specs.call_rules.set_rules.Bases.{is_set_of, set_in, set_over}
 use Rattle.tp_check_decl.specs.call_rules.standard_rules.Sizes.{has_class}
 use Rattle.tp_check_decl.specs.syntax_tree.expression_tree.Trees as tree
