@@ -26,6 +26,7 @@ use Rattle.mz_file.specs.Spelling.{spelling}
 use Rattle.dos_runner.specs.declared.runner.RunEnd.{RunEnd}
 use Rattle.dos_runner.specs.declared.runner.RunEnd.TheVariants as ends
 use Rattle.dos_runner.specs.Outside.{Outside, RunsTo}
+use Rattle.dos_runner.proofs.Composition.{risen_later}
 use Rattle.dos_runner.specs.declared.opened_program.error.OpenError.{OpenError}
 use Rattle.dos_runner.specs.declared.opened_program.error.OpenError.TheVariants as errors
 use Rattle.dos_runner.specs.opened_program.Opening.{IsOpened, IsRefused, HasReason}
@@ -204,9 +205,9 @@ pub rises_of : (end : RunEnd) (limit : ℕ) (start last : State) (o o' : Outside
 rises_of (ends.Ended code) limit start last o o' files files' run = tt
 rises_of (ends.Limit taken) limit start last o o' files files' run = tt
 rises_of (ends.Stopped cs ip why) limit start last o o' files files' run = tt
-rises_of ends.InputFault limit start last o o' files files' run = run.run.rose
-rises_of ends.OutputFault limit start last o o' files files' run = run.run.rose
-rises_of ends.ErrorsFault limit start last o o' files files' run = run.run.rose
+rises_of ends.InputFault limit start last o o' files files' run = risen_later o.input_faults run.mid.input_faults o'.input_faults run.counts.input run.event.rose
+rises_of ends.OutputFault limit start last o o' files files' run = risen_later o.output_faults run.mid.output_faults o'.output_faults run.counts.output run.event.rose
+rises_of ends.ErrorsFault limit start last o o' files files' run = risen_later o.errors_faults run.mid.errors_faults o'.errors_faults run.counts.errors run.event.rose
 rises_of ends.FilesFault limit start last o o' files files' run = absurd run.run.leaves
 
 pub ran_built : (known : Option Folder) (end : RunEnd) (name bytes : List ℕ) (options : RunOptions) (limit : ℕ) (start last : State) (o o' : Outside) → limit ≡ limit_of options

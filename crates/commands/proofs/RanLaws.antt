@@ -22,7 +22,7 @@ use Rattle.dos_runner.specs.declared.runner.RunEnd.TheVariants as ends
 use Rattle.dos_runner.specs.Run.{process_of}
 use Rattle.dos_runner.specs.Outside.{Outside, RunsTo}
 use Rattle.dos_runner.proofs.Composition.{risen_later}
-use Rattle.dos_runner.proofs.Conclusion.{Ends, TakesPrefixes, Concludes, concludes}
+use Rattle.dos_runner.proofs.Conclusion.{Ends, TakesPrefixes, Concludes, concludes, limit_prefixes}
 use Rattle.overlay_manager.specs.Manager.{Manager}
 use Rattle.dos_runner.specs.declared.overlay_runner.runner.Runner.{Runner}
 use Rattle.dos_runner.specs.overlay_runner.Event.{Rises}
@@ -90,31 +90,9 @@ module _ (program : Program) (bytes : List ℕ) (does : DoesSoon program bytes) 
       let all = concluded (ends.Ended code) run in
       record { output = whole_prefix o.output o'.output (written statements) all.1; errors = whole_prefix o.errors o'.errors [] all.2 }
 
-  -- a run that a limit cuts short took no less than one that a fault of the input cuts short there
-  took_some : (taken : ℕ) → RunsTo (ends.Limit taken) limit start last o o' → TakesPrefixes (written statements) [] o o'
-  took_some taken run =
-      let failed : Outside = record o' { input_faults = o.input_faults + 1 } in
-      let cut : RunsTo ends.InputFault limit start last o failed = record {
-        events = run.events;
-        bound = run.bound;
-        exhausted = run.exhausted;
-        run = record {
-          progress = run.run.progress;
-          does = run.run.does;
-          leaves = run.run.leaves.1;
-          reads = tt;
-          wrote = run.run.wrote;
-          told = run.run.told;
-          rose = inl (omega arith);
-        };
-        limited = tt;
-      } in
-      let prefixes = concludes ends.InputFault limit start last (code_of statements) (written statements) [] (known_end program bytes does) o failed cut in
-      record { output = prefixes.output; errors = prefixes.errors }
-
   took : (end : RunEnd) → RunsTo end limit start last o o' → TakesPrefixes (written statements) [] o o'
   took (ends.Ended code) run = took_all code run
-  took (ends.Limit taken) run = took_some taken run
+  took (ends.Limit taken) run = limit_prefixes taken limit start last (code_of statements) (written statements) [] (known_end program bytes does) o o' run
   took (ends.Stopped cs ip why) run = absurd (concluded (ends.Stopped cs ip why) run)
   took ends.InputFault run = concluded ends.InputFault run
   took ends.OutputFault run = concluded ends.OutputFault run

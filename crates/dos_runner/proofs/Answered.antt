@@ -1,5 +1,5 @@
 -- What a service or an event does to the outside, by how it ends.
-use Rattle.std.proofs.Common.{◌≡◌, ℕ, Bool, List, [], refl, sym, Option, None, Some}
+use Rattle.std.proofs.Common.{◌≡◌, ◌<◌, ℕ, Bool, List, [], length, refl, sym, Option, None, Some}
 use Rattle.std.specs.Io.KnownBytes.{append_known}
 use Rattle.tp_outside.specs.Faults.{HasRisen}
 use Rattle.tp_outside.specs.Streams.{TakesPrefix}
@@ -84,8 +84,8 @@ goes_telling Is new m err over o o' same does input output errors = record {
   rose = tt;
 }
 
-pub fails_writing : (Is : Progress → Type 0) (new last : State) (out : List ℕ) (over : Bool) (o o' : Outside) → Is (record { machine = last; gained = []; out = out; err = []; status = Running }) → o'.input ≡ o.input → TakesPrefix o.output o'.output out → o'.errors ≡ o.errors → HasRisen o.output_faults o'.output_faults → Progresses Is (Some ends.OutputFault) new over over o o'
-fails_writing Is new last out over o o' does input output errors rose = record {
+pub fails_writing : (Is : Progress → Type 0) (new last : State) (out : List ℕ) (over : Bool) (o o' : Outside) → Is (record { machine = last; gained = []; out = out; err = []; status = Running }) → o'.input ≡ o.input → 0 < length out → TakesPrefix o.output o'.output out → o'.errors ≡ o.errors → HasRisen o.output_faults o'.output_faults → Progresses Is (Some ends.OutputFault) new over over o o'
+fails_writing Is new last out over o o' does input some output errors rose = record {
   progress = record { machine = last; gained = []; out = out; err = []; status = Running };
   does = does;
   leaves = refl;
@@ -95,8 +95,8 @@ fails_writing Is new last out over o o' does input output errors rose = record {
   rose = rose;
 }
 
-pub fails_telling : (Is : Progress → Type 0) (new last : State) (err : List ℕ) (over : Bool) (o o' : Outside) → Is (record { machine = last; gained = []; out = []; err = err; status = Running }) → o'.input ≡ o.input → o'.output ≡ o.output → TakesPrefix o.errors o'.errors err → HasRisen o.errors_faults o'.errors_faults → Progresses Is (Some ends.ErrorsFault) new over over o o'
-fails_telling Is new last err over o o' does input output errors rose = record {
+pub fails_telling : (Is : Progress → Type 0) (new last : State) (err : List ℕ) (over : Bool) (o o' : Outside) → Is (record { machine = last; gained = []; out = []; err = err; status = Running }) → o'.input ≡ o.input → o'.output ≡ o.output → 0 < length err → TakesPrefix o.errors o'.errors err → HasRisen o.errors_faults o'.errors_faults → Progresses Is (Some ends.ErrorsFault) new over over o o'
+fails_telling Is new last err over o o' does input output some errors rose = record {
   progress = record { machine = last; gained = []; out = []; err = err; status = Running };
   does = does;
   leaves = refl;
@@ -130,6 +130,15 @@ progresses_so P Q end new over over' o o' so part = record {
 }
 
 pub advances_so : (P Q : Progress → Type 0) (end : Option RunEnd) (new : State) (over over' : Bool) (o o' : Outside) → ((progress : Progress) → P progress → Q progress) → Advances P end new over over' o o' → Advances Q end new over over' o o'
-advances_so P Q (Some ends.InputFault) new over over' o o' so part = part
+advances_so P Q (Some ends.InputFault) new over over' o o' so part = record {
+  would = part.would;
+  is = so part.would part.is;
+  lost = part.lost;
+  fewer = part.fewer;
+  gave = part.gave;
+  wrote = part.wrote;
+  told = part.told;
+  rose = part.rose;
+}
 advances_so P Q (Some (ends.Limit taken)) new over over' o o' so part = part
 advances_so P Q end new over over' o o' so part = progresses_so P Q end new over over' o o' so part

@@ -12,7 +12,7 @@ use Rattle.cpu_8086.proofs.RunLaws.{runs_one, runs_compose}
 use Rattle.dos_runner.specs.declared.runner.RunEnd.{RunEnd}
 use Rattle.dos_runner.specs.declared.runner.RunEnd.TheVariants as ends
 use Rattle.dos_runner.specs.Run.{running, process_of, IsInput, Progress, advanced, IsRun, IsEvent}
-use Rattle.dos_runner.specs.Outside.{Outside, Counts, Gave, Reads, Wrote, Told, Rose, Progresses, Advances, RunsTo}
+use Rattle.dos_runner.specs.Outside.{Outside, Counts, Gave, FailsWriting, Wrote, Told, Rose, Progresses, Advances, RunsTo}
 
 pub prepend_known-nil : (known : Option (List ℕ)) → prepend_known [] known ≡ known
 prepend_known-nil None = refl
@@ -50,16 +50,17 @@ prefix_behind xs ys a b c first second =
       taken = took_both xs (take k ys) a b c first second.taken ∙ ap (append_known a) (sym (take-append-add xs ys k));
     }
 
-reads_both : (end : Option RunEnd) (xs ys : List ℕ) (over0 over1 over2 : Bool) (a b c : Option (List ℕ)) → Gave xs over0 over1 a b → Reads end ys over1 over2 b c → Reads end (xs ++ ys) over0 over2 a c
-reads_both (Some ends.InputFault) xs ys over0 over1 over2 a b c first second = tt
-reads_both end xs ys over0 over1 over2 a b c first second = gave_both xs ys over0 over1 over2 a b c first second
+fails_behind : (xs ys : List ℕ) (a b c : Option (List ℕ)) → b ≡ append_known a xs → FailsWriting b c ys → FailsWriting a c (xs ++ ys)
+fails_behind xs ys a b c first second =
+    let some : 0 < length ys = second.some in
+    record { some = omega (arith, length-append xs ys); prefix = prefix_behind xs ys a b c first second.prefix }
 
 wrote_both : (end : Option RunEnd) (xs ys : List ℕ) (a b c : Option (List ℕ)) → b ≡ append_known a xs → Wrote end b c ys → Wrote end a c (xs ++ ys)
-wrote_both (Some ends.OutputFault) xs ys a b c first second = prefix_behind xs ys a b c first second
+wrote_both (Some ends.OutputFault) xs ys a b c first second = fails_behind xs ys a b c first second
 wrote_both end xs ys a b c first second = took_both xs ys a b c first second
 
 told_both : (end : Option RunEnd) (xs ys : List ℕ) (a b c : Option (List ℕ)) → b ≡ append_known a xs → Told end b c ys → Told end a c (xs ++ ys)
-told_both (Some ends.ErrorsFault) xs ys a b c first second = prefix_behind xs ys a b c first second
+told_both (Some ends.ErrorsFault) xs ys a b c first second = fails_behind xs ys a b c first second
 told_both end xs ys a b c first second = took_both xs ys a b c first second
 
 pub risen_later : (a b c : ℕ) → a ≤ b → HasRisen b c → HasRisen a c
@@ -130,31 +131,31 @@ started start o = record {
 
 -- a part of a run and the event behind it, joined to what both do
 pub joined : (Before One Both : Progress → Type 0) (end : Option RunEnd) (now new : State) (over0 over over' : Bool) (o o1 o2 : Outside) → Counts o o1 → Progresses Before None now over0 over o o1
-    → (event : Progresses One end new over over' o1 o2) → Gave event.progress.gained over over' o1.input o2.input
+    → Progresses One end new over over' o1 o2
     → ((p q : Progress) → Before p → p.machine ≡ now → p.status ≡ Running → (over ≡ true → (q.gained ≡ []) × (over' ≡ true)) → One q → Both (behind p q))
     → Progresses Both end new over0 over' o o2
-joined Before One Both end now new over0 over over' o o1 o2 counts before event gave join =
+joined Before One Both end now new over0 over over' o o1 o2 counts before event join =
     let p : Progress = before.progress in
     let q : Progress = event.progress in
     record {
       progress = behind p q;
-      does = join p q before.does before.leaves.0 before.leaves.1 gave.stays_over event.does;
+      does = join p q before.does before.leaves.0 before.leaves.1 event.reads.stays_over event.does;
       leaves = event.leaves;
-      reads = reads_both end p.gained q.gained over0 over over' o.input o1.input o2.input before.reads event.reads;
+      reads = gave_both p.gained q.gained over0 over over' o.input o1.input o2.input before.reads event.reads;
       wrote = wrote_both end p.out q.out o.output o1.output o2.output before.wrote event.wrote;
       told = told_both end p.err q.err o.errors o1.errors o2.errors before.told event.told;
       rose = rose_later end o o1 o2 counts event.rose;
     }
 
 -- the part of the run so far, and the event
-further : (end : Option RunEnd) (events : ℕ) (start now new : State) (over over' : Bool) (o o1 o2 : Outside) → Counts o o1 → Progresses (IsRun events start over) None now false over o o1 → (event : Progresses (IsEvent now over') end new over over' o1 o2) → Gave event.progress.gained over over' o1.input o2.input → Progresses (IsRun (events + 1) start over') end new false over' o o2
-further end events start now new over over' o o1 o2 counts before event gave =
-    joined (IsRun events start over) (IsEvent now over') (IsRun (events + 1) start over') end now new false over over' o o1 o2 counts before event gave
+pub further : (end : Option RunEnd) (events : ℕ) (start now new : State) (over over' : Bool) (o o1 o2 : Outside) → Counts o o1 → Progresses (IsRun events start over) None now false over o o1 → Progresses (IsEvent now over') end new over over' o1 o2 → Progresses (IsRun (events + 1) start over') end new false over' o o2
+further end events start now new over over' o o1 o2 counts before event =
+    joined (IsRun events start over) (IsEvent now over') (IsRun (events + 1) start over') end now new false over over' o o1 o2 counts before event
     (λ p q first stands runs stays second. run_event events start now over over' p q first stands runs stays second)
 
 -- the process goes on
 pub goes_on : (events : ℕ) (start now new : State) (over over' : Bool) (o o1 o2 : Outside) → Counts o o1 → Progresses (IsRun events start over) None now false over o o1 → Advances (IsEvent now over') None new over over' o1 o2 → Progresses (IsRun (events + 1) start over') None new false over' o o2
-goes_on events start now new over over' o o1 o2 counts before event = further None events start now new over over' o o1 o2 counts before event event.reads
+goes_on events start now new over over' o o1 o2 counts before event = further None events start now new over over' o o1 o2 counts before event
 
 -- the event ends the run
 pub ends_by : (end : RunEnd) (events limit : ℕ) (start now new : State) (over over' : Bool) (o o1 o2 : Outside) → events < limit → Counts o o1 → Progresses (IsRun events start over) None now false over o o1 → Advances (IsEvent now over') (Some end) new over over' o1 o2 → RunsTo end limit start new o o2
@@ -163,43 +164,47 @@ ends_by (ends.Ended code) events limit start now new over over' o o1 o2 below co
   bound = omega arith;
   exhausted = over';
   limited = tt;
-  run = further (Some (ends.Ended code)) events start now new over over' o o1 o2 counts before event event.reads;
+  run = further (Some (ends.Ended code)) events start now new over over' o o1 o2 counts before event;
 }
 ends_by (ends.Stopped cs ip why) events limit start now new over over' o o1 o2 below counts before event = record {
   events = events + 1;
   bound = omega arith;
   exhausted = over';
   limited = tt;
-  run = further (Some (ends.Stopped cs ip why)) events start now new over over' o o1 o2 counts before event event.reads;
+  run = further (Some (ends.Stopped cs ip why)) events start now new over over' o o1 o2 counts before event;
 }
 ends_by ends.OutputFault events limit start now new over over' o o1 o2 below counts before event = record {
-  events = events + 1;
-  bound = omega arith;
-  exhausted = over';
-  limited = tt;
-  run = further (Some ends.OutputFault) events start now new over over' o o1 o2 counts before event event.reads;
+  events = events;
+  below = below;
+  exhausted = over;
+  last = now;
+  mid = o1;
+  run = before;
+  counts = counts;
+  over = over';
+  event = event;
 }
 ends_by ends.ErrorsFault events limit start now new over over' o o1 o2 below counts before event = record {
-  events = events + 1;
-  bound = omega arith;
-  exhausted = over';
-  limited = tt;
-  run = further (Some ends.ErrorsFault) events start now new over over' o o1 o2 counts before event event.reads;
+  events = events;
+  below = below;
+  exhausted = over;
+  last = now;
+  mid = o1;
+  run = before;
+  counts = counts;
+  over = over';
+  event = event;
 }
 ends_by (ends.Limit taken) events limit start now new over over' o o1 o2 below counts before event = absurd event
 ends_by ends.FilesFault events limit start now new over over' o o1 o2 below counts before event = absurd event.leaves
 ends_by ends.InputFault events limit start now new over over' o o1 o2 below counts before event = record {
   events = events;
-  bound = omega arith;
+  below = below;
   exhausted = over;
-  limited = tt;
-  run = record {
-    progress = before.progress;
-    does = before.does;
-    leaves = before.leaves.1;
-    reads = tt;
-    wrote = event.wrote ∙ before.wrote;
-    told = event.told ∙ before.told;
-    rose = risen_later o.input_faults o1.input_faults o2.input_faults counts.input event.rose;
-  };
+  last = now;
+  mid = o1;
+  run = before;
+  counts = counts;
+  over = over';
+  event = event;
 }

@@ -1,5 +1,5 @@
 -- What a call that runs a process tells, where the process is known to end.
-use Rattle.std.proofs.Common.{◌≡◌, ◌≢◌, ℕ, zero, suc, ◌+◌, ◌-◌, ◌==◌, ◌/◌, ◌<◌, ◌≤◌, Bool, true, false, List, [], ◌++◌, length, length-append, take, refl, sym, ap, ◌∙◌, subst, arith, append_assoc, append-nil, Option, inl, inr}
+use Rattle.std.proofs.Common.{◌≡◌, ◌≢◌, ℕ, zero, suc, ◌+◌, ◌-◌, ◌==◌, ◌/◌, ◌<◌, ◌≤◌, Bool, true, false, List, [], ◌++◌, length, length-append, take, refl, sym, ap, ◌∙◌, subst, arith, append_assoc, append-nil, Option, Some, inl, inr}
 use Rattle.std.specs.Prelude.{if◌then◌else◌}
 use Rattle.std.proofs.lemmas.Bool.{cases_lt}
 use Rattle.std.proofs.lemmas.List.{take-append-le, take_all}
@@ -17,6 +17,7 @@ use Rattle.dos_runner.specs.declared.runner.RunEnd.{RunEnd}
 use Rattle.dos_runner.specs.declared.runner.RunEnd.TheVariants as ends
 use Rattle.dos_runner.specs.Run.{process_of, IsInput, Progress, advanced, IsRun}
 use Rattle.dos_runner.specs.Outside.{Outside, RunsTo}
+use Rattle.dos_runner.proofs.Composition.{further}
 
 -- The process ends with this code, having written so much.
 pub record Ends (p : Process) (code : ℕ) (out err : List ℕ) : Type 0 where
@@ -231,11 +232,19 @@ concludes (ends.Limit taken) limit start new code out err known o o' called =
     (called.limited.0, (input, longer))
 concludes ends.InputFault limit start new code out err known o o' called =
     fronts called.events start called.exhausted called.run.progress code out err o o' called.run.does (known called.run.progress.gained)
-    (whole_prefix o.output o'.output called.run.progress.out called.run.wrote) (whole_prefix o.errors o'.errors called.run.progress.err called.run.told)
+    (whole_prefix o.output o'.output called.run.progress.out (called.event.wrote ∙ called.run.wrote)) (whole_prefix o.errors o'.errors called.run.progress.err (called.event.told ∙ called.run.told))
 concludes ends.OutputFault limit start new code out err known o o' called =
-    fronts called.events start called.exhausted called.run.progress code out err o o' called.run.does (known called.run.progress.gained)
-    called.run.wrote (whole_prefix o.errors o'.errors called.run.progress.err called.run.told)
+    let whole = further (Some ends.OutputFault) called.events start called.last new called.exhausted called.over o called.mid o' called.counts called.run called.event in
+    fronts (called.events + 1) start called.over whole.progress code out err o o' whole.does (known whole.progress.gained)
+    whole.wrote.prefix (whole_prefix o.errors o'.errors whole.progress.err whole.told)
 concludes ends.ErrorsFault limit start new code out err known o o' called =
-    fronts called.events start called.exhausted called.run.progress code out err o o' called.run.does (known called.run.progress.gained)
-    (whole_prefix o.output o'.output called.run.progress.out called.run.wrote) called.run.told
+    let whole = further (Some ends.ErrorsFault) called.events start called.last new called.exhausted called.over o called.mid o' called.counts called.run called.event in
+    fronts (called.events + 1) start called.over whole.progress code out err o o' whole.does (known whole.progress.gained)
+    (whole_prefix o.output o'.output whole.progress.out whole.wrote) whole.told.prefix
 concludes ends.FilesFault limit start new code out err known o o' called = called.run.leaves
+
+-- up to the limit the sinks took the first of them too
+pub limit_prefixes : (taken limit : ℕ) (start new : State) (code : ℕ) (out err : List ℕ) (known : (input : List ℕ) → Ends (process_of start input) code out err) (o o' : Outside) → RunsTo (ends.Limit taken) limit start new o o' → TakesPrefixes out err o o'
+limit_prefixes taken limit start new code out err known o o' called =
+    fronts called.events start called.exhausted called.run.progress code out err o o' called.run.does (known called.run.progress.gained)
+    (whole_prefix o.output o'.output called.run.progress.out called.run.wrote) (whole_prefix o.errors o'.errors called.run.progress.err called.run.told)

@@ -5,7 +5,7 @@ use Rattle.std.specs.Io.KnownBytes.{prepend_known}
 use Rattle.tp_outside.proofs.Known.{prepend_known-prepend_known}
 use Rattle.cpu_8086.specs.State.{State}
 use Rattle.cpu_8086.specs.Process.{with_bytes}
-use Rattle.dos_runner.specs.Transfer.{ReadPart, ReadBytes}
+use Rattle.dos_runner.specs.Transfer.{ReadPart, ReadLess, ReadBytes}
 use Rattle.dos_runner.proofs.WithBytes.{with_bytes-append}
 
 -- the bytes that came so far, which stand in memory
@@ -33,6 +33,12 @@ read_more segment offset count size place old now new a b c done part fits withi
       stand = step.stand ∙ ap (λ (t : State). record t { memory = with_bytes t.memory segment place ys }) before.stand ∙ ap (λ (x : List ℕ). record old { memory = x }) (sym row);
       given = before.given ∙ ap (prepend_known xs) step.taken ∙ prepend_known-prepend_known c xs ys;
     }
+
+-- the source failed before all came
+pub read_less : (segment offset count : ℕ) (old now : State) (a b c : Option (List ℕ)) (done : ℕ) → done < count → ReadSoFar segment offset count old now a b done → c ≡ b → ReadLess count a c
+read_less segment offset count old now a b c done less read same =
+    let counts : length read.gained ≡ done = read.counts in
+    record { given = read.gained; fewer = omega arith; taken = read.given ∙ ap (prepend_known read.gained) (sym same) }
 
 -- all bytes came
 pub all_read : (segment offset count : ℕ) (old new : State) (over over' : Bool) (a b : Option (List ℕ)) (done : ℕ) → over ≡ false → over' ≡ false → count ≤ done → ReadSoFar segment offset count old new a b done → ReadBytes segment offset count old new over over' a b done

@@ -1,7 +1,9 @@
 -- What the services do to a process.
 use Rattle.std.proofs.Common.{◌≡◌, ◌≢◌, ℕ, ◌+◌, ◌/◌, ◌%◌, ◌<◌, ◌≤◌, Bool, true, false, List, [], ◌++◌, length, take, drop, None, refl, sym, ap, ◌∙◌, arith, append-nil, inl, inr}
 use Rattle.std.proofs.Math.Seq.{take-append_seam}
-use Rattle.std.proofs.lemmas.List.{take_all}
+use Rattle.std.proofs.lemmas.List.{take_all, length-replicate}
+use Rattle.std.specs.Prelude.{replicate}
+use Rattle.tp_outside.specs.Faults.{HasRisen}
 use Rattle.std.proofs.lemmas.Bool.{cases_lt, ne_eqb}
 use Rattle.cpu_8086.specs.declared.process.Why.{Why}
 use Rattle.cpu_8086.specs.declared.process.Why.TheVariants as why
@@ -12,8 +14,8 @@ use Rattle.cpu_8086.specs.Process.{Process, Status, Running, Ended, Stopped, sto
 use Rattle.cpu_8086.specs.Step.{Steps}
 use Rattle.cpu_8086.specs.Run.{Goes}
 use Rattle.dos_runner.specs.Run.{running, IsInput, Progress, advanced, IsEvent, IsFinish, IsService}
-use Rattle.dos_runner.specs.Outside.{Outside, Progresses}
-use Rattle.dos_runner.specs.Transfer.{ReadBytes}
+use Rattle.dos_runner.specs.Outside.{Outside, Progresses, FailsReading}
+use Rattle.dos_runner.specs.Transfer.{ReadLess, ReadBytes}
 use Rattle.dos_runner.proofs.Answered.{goes_reading}
 
 -- the process with these fields
@@ -82,6 +84,24 @@ read_goes_on before t mid new segment offset count done over over' o o' function
     ∙ ap (λ n. f (row t.registers.ds t.registers.dx) n) (sym counts) in
     goes_reading (IsService before t 33 over') new (given t gained) gained over over' o o' same
     (reads_input before t over' gained function handle within (λ h. read.short (fewer h))) read.gave output errors
+
+-- a read in which the source failed: with bytes enough it would take as many as it asks for
+pub read_fails : (before t : State) (count : ℕ) (over : Bool) (o o' : Outside) → t.registers.ax / 256 ≡ 63 → t.registers.bx ≡ 0 → count ≡ t.registers.cx → ReadLess count o.input o'.input → o'.output ≡ o.output → o'.errors ≡ o.errors
+    → HasRisen o.input_faults o'.input_faults → FailsReading (IsService before t 33 over) o o'
+read_fails before t count over o o' function handle cx less output errors rose =
+    let zeros : List ℕ = replicate t.registers.cx 0 in
+    let long : length zeros ≡ t.registers.cx = length-replicate t.registers.cx 0 in
+    let fewer : length less.given < count = less.fewer in
+    record {
+      would = record { machine = given t zeros; gained = zeros; out = []; err = []; status = Running };
+      is = reads_input before t over zeros function handle (omega (arith, long)) (λ h. absurd (omega (arith, long, h)));
+      lost = less.given;
+      fewer = omega (arith, long, cx, fewer);
+      gave = less.taken;
+      wrote = output;
+      told = errors;
+      rose = rose;
+    }
 
 pub reads_nowhere : (before t : State) (over : Bool) → t.registers.ax / 256 ≡ 63 → t.registers.bx ≢ 0 → IsService before t 33 over (record { machine = answered t 6 true; gained = []; out = []; err = []; status = Running })
 reads_nowhere before t over function handle input taken out err is_input =

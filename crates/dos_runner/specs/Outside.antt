@@ -1,5 +1,5 @@
 -- What a run, an event or a service does to the outside.
-use Rattle.std.specs.Prelude.{◌≡◌, ◌≤◌, ℕ, Bool, false, true, List, [], Option, None, Some}
+use Rattle.std.specs.Prelude.{◌≡◌, ◌<◌, ◌≤◌, ℕ, Bool, false, true, List, [], length, Option, None, Some}
 use Rattle.std.specs.Io.KnownBytes.{append_known, prepend_known, IsAtEnd}
 use Rattle.tp_outside.specs.Faults.{HasRisen}
 use Rattle.tp_outside.specs.Streams.{TakesPrefix}
@@ -7,7 +7,7 @@ use Rattle.cpu_8086.specs.State.{State}
 use Rattle.cpu_8086.specs.Process.{Status, Running, Ended, Stopped}
 use Rattle.dos_runner.specs.declared.runner.RunEnd.{RunEnd}
 use Rattle.dos_runner.specs.declared.runner.RunEnd.TheVariants as ends
-use Rattle.dos_runner.specs.Run.{Progress, IsRun}
+use Rattle.dos_runner.specs.Run.{Progress, IsRun, IsEvent}
 
 -- The bytes that the source has left and that the sinks have taken, where they are told, and the counts of faults.
 pub record Outside : Type 0 where
@@ -32,30 +32,30 @@ pub record Gave (gained : List ℕ) (over over' : Bool) (old new : Option (List 
   pub at_end : (over ≡ true → IsAtEnd old) → over' ≡ true → IsAtEnd new
 
 -- How a part of a run ended it, or None where the process goes on: the machine and the status that are left. No part of a run
--- ends in a fault of files: what reads files says so itself.
+-- ends in a fault of the source or of files: what reads them says so itself.
 abbrev pub Leaves : Option RunEnd → State → State → Status → Type 0
 Leaves None new last status = (last ≡ new) × (status ≡ Running)
 Leaves (Some (ends.Limit taken)) new last status = (last ≡ new) × (status ≡ Running)
 Leaves (Some (ends.Ended code)) new last status = status ≡ Ended code
 Leaves (Some (ends.Stopped cs ip why)) new last status = status ≡ Stopped cs ip why
-Leaves (Some ends.InputFault) new last status = status ≡ Running
+Leaves (Some ends.InputFault) new last status = ⊥
 Leaves (Some ends.OutputFault) new last status = status ≡ Running
 Leaves (Some ends.ErrorsFault) new last status = status ≡ Running
 Leaves (Some ends.FilesFault) new last status = ⊥
 
--- What the source gave. After its fault nothing is known.
-abbrev pub Reads : Option RunEnd → List ℕ → Bool → Bool → Option (List ℕ) → Option (List ℕ) → Type 0
-Reads (Some ends.InputFault) gained over over' old new = Unit {0}
-Reads end gained over over' old new = Gave gained over over' old new
+-- A sink failed as bytes were written, of which there are some: it took the first of them, or none.
+pub record FailsWriting (old new : Option (List ℕ)) (bytes : List ℕ) : Type 0 where
+  pub some : 0 < length bytes
+  pub prefix : TakesPrefix old new bytes
 
 -- What the output took of the bytes that were written: all, but for its fault.
 abbrev pub Wrote : Option RunEnd → Option (List ℕ) → Option (List ℕ) → List ℕ → Type 0
-Wrote (Some ends.OutputFault) old new out = TakesPrefix old new out
+Wrote (Some ends.OutputFault) old new out = FailsWriting old new out
 Wrote end old new out = new ≡ append_known old out
 
 -- The same of the errors.
 abbrev pub Told : Option RunEnd → Option (List ℕ) → Option (List ℕ) → List ℕ → Type 0
-Told (Some ends.ErrorsFault) old new err = TakesPrefix old new err
+Told (Some ends.ErrorsFault) old new err = FailsWriting old new err
 Told end old new err = new ≡ append_known old err
 
 -- A fault was counted by what it names.
@@ -70,20 +70,26 @@ pub record Progresses (Is : Progress → Type 0) (end : Option RunEnd) (new : St
   pub progress : Progress
   pub does : Is progress
   pub leaves : Leaves end new progress.machine progress.status
-  pub reads : Reads end progress.gained over over' o.input o'.input
+  pub reads : Gave progress.gained over over' o.input o'.input
   pub wrote : Wrote end o.output o'.output progress.out
   pub told : Told end o.errors o'.errors progress.err
   pub rose : Rose end o o'
 
--- The source failed in an event, which then did nothing else.
-pub record FailsReading (o o' : Outside) : Type 0 where
+-- The source failed in an event that takes bytes from the input where there are any. The bytes that this took before the fault are lost, fewer
+-- than it would take, and it did nothing else.
+pub record FailsReading (Is : Progress → Type 0) (o o' : Outside) : Type 0 where
+  pub would : Progress
+  pub is : Is would
+  pub lost : List ℕ
+  pub fewer : length lost < length would.gained
+  pub gave : o.input ≡ prepend_known lost o'.input
   pub wrote : o'.output ≡ o.output
   pub told : o'.errors ≡ o.errors
   pub rose : HasRisen o.input_faults o'.input_faults
 
 -- What an event or a service does. It knows no limit.
 abbrev pub Advances : (Progress → Type 0) → Option RunEnd → State → Bool → Bool → Outside → Outside → Type 0
-Advances Is (Some ends.InputFault) new over over' o o' = FailsReading o o'
+Advances Is (Some ends.InputFault) new over over' o o' = FailsReading Is o o'
 Advances Is (Some (ends.Limit taken)) new over over' o o' = ⊥
 Advances Is end new over over' o o' = Progresses Is end new over over' o o'
 
@@ -92,12 +98,29 @@ abbrev pub Limited : RunEnd → ℕ → ℕ → Type 0
 Limited (ends.Limit taken) events limit = (taken ≡ limit) × (events ≡ limit)
 Limited end events limit = Unit {0}
 
--- A call that runs a process on the machine from old on ended so: what the run of at most so many events did, for
--- each input that the source may have had. After an input fault that is the run before the event that asked for
--- bytes. After a fault of the output or of the errors it is the run with the event whose bytes were not taken whole.
-pub record RunsTo (result : RunEnd) (limit : ℕ) (old new : State) (o o' : Outside) : Type 0 where
+-- The run comes to this end: what at most so many events did, for each input that the source may have had.
+pub record RunsThrough (result : RunEnd) (limit : ℕ) (old new : State) (o o' : Outside) : Type 0 where
   pub events : ℕ
   pub bound : events ≤ limit
   pub exhausted : Bool
   pub run : Progresses (IsRun events old exhausted) (Some result) new false exhausted o o'
   pub limited : Limited result events limit
+
+-- The run goes on up to an event in which the source or a sink failed. Behind that nothing was read, written or run.
+pub record FailsAfter (result : RunEnd) (limit : ℕ) (old new : State) (o o' : Outside) : Type 0 where
+  pub events : ℕ
+  pub below : events < limit
+  pub exhausted : Bool
+  pub last : State
+  pub mid : Outside
+  pub run : Progresses (IsRun events old exhausted) None last false exhausted o mid
+  pub counts : Counts o mid
+  pub over : Bool
+  pub event : Advances (IsEvent last over) (Some result) new exhausted over mid o'
+
+-- A call that runs a process on the machine from old on, for at most so many events, ended so.
+abbrev pub RunsTo : RunEnd → ℕ → State → State → Outside → Outside → Type 0
+RunsTo ends.InputFault limit old new o o' = FailsAfter ends.InputFault limit old new o o'
+RunsTo ends.OutputFault limit old new o o' = FailsAfter ends.OutputFault limit old new o o'
+RunsTo ends.ErrorsFault limit old new o o' = FailsAfter ends.ErrorsFault limit old new o o'
+RunsTo result limit old new o o' = RunsThrough result limit old new o o'

@@ -15,6 +15,12 @@ pub record ReadPart (segment offset size : ℕ) (old new : State) (before after 
   pub taken : before ≡ prepend_known given after
   pub ended : count ≡ 0 → 0 < size → IsAtEnd after
 
+-- The source failed before it had given so many bytes. Those that it gave are lost.
+pub record ReadLess (size : ℕ) (before after : Option (List ℕ)) : Type 0 where
+  pub given : List ℕ
+  pub fewer : length given < size
+  pub taken : before ≡ prepend_known given after
+
 -- The bytes that the source gave stand in memory from an offset on. There are fewer than were asked for only where
 -- the source is over.
 pub record ReadBytes (segment offset size : ℕ) (old new : State) (over over' : Bool) (before after : Option (List ℕ)) (count : ℕ) : Type 0 where

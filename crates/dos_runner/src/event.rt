@@ -1,6 +1,6 @@
 //! One event of a process: an instruction, with the service that it asks for.
 
-ghost use Rattle.std.specs.Prelude.{◌≡◌, ℕ, ◌≤◌, ◌/◌, Bool, false, OnOk, OnErr};
+ghost use Rattle.std.specs.Prelude.{◌≡◌, ℕ, ◌<◌, ◌≤◌, ◌/◌, Bool, false, OnOk, OnErr};
 ghost use Rattle.std.specs.Io.KnownBytes.{append_known};
 ghost use Rattle.tp_outside.specs.Faults.{HasRisen};
 ghost use Rattle.tp_outside.specs.Streams.{TakesPrefix};
@@ -28,6 +28,7 @@ fn write_to<K: Sink>(machine: &mut Machine, sink: &mut K) -> Result<(), Failed>
     ensures written { OnOk result (K.contents sink.new ≡
         append_known (K.contents sink.old) (written_bytes machine.old)) }
     ensures prefix { TakesPrefix (K.contents sink.old) (K.contents sink.new) (written_bytes machine.old) }
+    ensures some { OnErr result (0 < machine.old.registers.cx) }
     ensures counted { K.faults sink.old ≤ K.faults sink.new }
     ensures failed { OnErr result (HasRisen (K.faults sink.old) (K.faults sink.new)) }
 {

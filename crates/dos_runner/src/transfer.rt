@@ -6,7 +6,7 @@ ghost use Rattle.tp_outside.specs.Faults.{HasRisen};
 ghost use Rattle.tp_outside.specs.Streams.{TakesPrefix};
 ghost use Rattle.cpu_8086.specs.Memory.{address, load_byte, store_byte};
 ghost use Rattle.cpu_8086.specs.Process.{bytes_at, with_bytes};
-ghost use Rattle.dos_runner.specs.Transfer.{ReadPart, ReadBytes};
+ghost use Rattle.dos_runner.specs.Transfer.{ReadPart, ReadLess, ReadBytes};
 
 use cpu_8086::Machine;
 use tp_outside::{Failed, Sink, Source, write_all};
@@ -81,6 +81,7 @@ pub fn write_bytes<K: Sink>(
         append_known (K.contents sink.old) (bytes_at machine.now.memory segment offset count)) }
     ensures prefix { TakesPrefix (K.contents sink.old) (K.contents sink.new)
         (bytes_at machine.now.memory segment offset count) }
+    ensures some { OnErr result (0 < count) }
     ensures counted { K.faults sink.old ≤ K.faults sink.new }
     ensures failed { OnErr result (HasRisen (K.faults sink.old) (K.faults sink.new)) }
 {
@@ -143,6 +144,7 @@ pub fn read_bytes<S: Source>(
 ) -> Result<u16, Failed>
     ensures read { IfOk result (λ done. ReadBytes segment offset count machine.old machine.new over.old over.new
         (S.remaining source.old) (S.remaining source.new) done) }
+    ensures less { OnErr result (ReadLess count (S.remaining source.old) (S.remaining source.new)) }
     ensures counted { S.faults source.old ≤ S.faults source.new }
     ensures failed { OnErr result (HasRisen (S.faults source.old) (S.faults source.new)) }
 {

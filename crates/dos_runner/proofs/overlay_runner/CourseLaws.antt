@@ -6,12 +6,12 @@ use Rattle.cpu_8086.specs.Process.{Running}
 use Rattle.dos_runner.specs.declared.runner.RunEnd.{RunEnd}
 use Rattle.dos_runner.specs.declared.runner.RunEnd.TheVariants as ends
 use Rattle.dos_runner.specs.Run.{Progress}
-use Rattle.dos_runner.specs.Outside.{Outside, Counts, Gave, Progresses}
+use Rattle.dos_runner.specs.Outside.{Outside, Counts, Progresses}
 use Rattle.dos_runner.proofs.Composition.{behind, gave_none, took_none, run_behind, joined, risen_later}
 use Rattle.overlay_manager.specs.Manager.{Manager}
 use Rattle.overlay_manager.specs.overlay_run.Managed.{Managed, ManagedGoes, ManagedRuns}
 use Rattle.dos_runner.specs.declared.overlay_runner.course.Course.{Course}
-use Rattle.dos_runner.specs.overlay_runner.Event.{managed, IsManagedEvent, FindsTrap, FailsLoading, FailsManagedReading, ManagedAdvances}
+use Rattle.dos_runner.specs.overlay_runner.Event.{managed, IsManagedEvent, FindsTrap, FailsLoading, ManagedAdvances}
 use Rattle.dos_runner.specs.overlay_runner.Course.{IsManagedRun, ComesTo, FailsAtTrap, Courses, events_in}
 
 -- one event more
@@ -35,11 +35,11 @@ SoFar bytes events traps old now o o' = Progresses (IsManagedRun bytes events ol
 
 -- the part of a run so far, and the event
 further : (bytes : List ℕ) (end : Option RunEnd) (events traps traps' : ℕ) (old now new : Course) (o o1 o2 : Outside) → Counts o o1 → SoFar bytes events traps old now o o1
-    → (event : Progresses (IsManagedEvent bytes now.machine now.ovr traps new.ovr traps' new.over) end new.machine now.over new.over o1 o2) → Gave event.progress.gained now.over new.over o1.input o2.input
+    → Progresses (IsManagedEvent bytes now.machine now.ovr traps new.ovr traps' new.over) end new.machine now.over new.over o1 o2
     → Progresses (IsManagedRun bytes (events + 1) old.machine old.ovr new.ovr traps' new.over) end new.machine old.over new.over o o2
-further bytes end events traps traps' old now new o o1 o2 counts before event gave =
+further bytes end events traps traps' old now new o o1 o2 counts before event =
     joined (IsManagedRun bytes events old.machine old.ovr now.ovr traps now.over) (IsManagedEvent bytes now.machine now.ovr traps new.ovr traps' new.over) (IsManagedRun bytes (events + 1) old.machine old.ovr new.ovr traps' new.over)
-    end now.machine new.machine old.over now.over new.over o o1 o2 counts before event gave
+    end now.machine new.machine old.over now.over new.over o o1 o2 counts before event
     (λ p q first stands runs stays second. run-event bytes events old.machine now.machine old.ovr now.ovr new.ovr traps traps' now.over new.over p q first stands runs stays second)
 
 -- nothing has run yet
@@ -64,7 +64,7 @@ goes-on None now_known events traps traps' old now new o o1 o2 same counts befor
 goes-on (Some held) now_known events traps traps' old now new o o1 o2 same counts before name event =
     let E : Folder → List ℕ → Type 0 = λ held name. Progresses (IsManagedEvent (bytes_of held name) now.machine now.ovr traps new.ovr traps' new.over) None new.machine now.over new.over o1 o2 in
     let one : E held old.ovr.name = subst (E held) name (subst (λ (known : Option Folder). IfSome known (λ held. E held now.ovr.name)) same event) in
-    further (bytes_of held old.ovr.name) None events traps traps' old now new o o1 o2 counts before one one.reads
+    further (bytes_of held old.ovr.name) None events traps traps' old now new o o1 o2 counts before one
 
 -- the names of what a run kept
 pub names-kept : (known now_known : Option Folder) (a b c : List ℕ) → now_known ≡ known → IfSome known (λ held. b ≡ a) → IfSome now_known (λ held. c ≡ b) → IfSome known (λ held. c ≡ a)
@@ -74,29 +74,6 @@ names-kept (Some held) now_known a b c same first second = subst (λ (known : Op
 pub same-name : (known : Option Folder) (a : List ℕ) → IfSome known (λ held. a ≡ a)
 same-name None a = tt
 same-name (Some held) a = refl
-
--- the run before the event that failed
-fails-reading : (bytes : List ℕ) (events traps traps' limit : ℕ) (old now new : Course) (o o1 o2 : Outside) → events < limit → Counts o o1 → SoFar bytes events traps old now o o1
-    → FailsManagedReading now.ovr new.ovr traps traps' o1 o2 → ComesTo bytes ends.InputFault (events + 0) traps' limit old new o o2
-fails-reading bytes events traps traps' limit old now new o o1 o2 below counts before event =
-    let none : events ≡ events + 0 = omega arith in
-    let R : ℕ → ℕ → Manager → Type 0 = λ n k m. IsManagedRun bytes n old.machine old.ovr m k now.over before.progress in
-    let does : R events traps now.ovr = before.does in
-    record {
-      bound = omega arith;
-      limited = tt;
-      over = now.over;
-      run = record {
-        progress = before.progress;
-        does = subst (λ (n : ℕ). R n traps' new.ovr) none (subst (λ (k : ℕ). R events k new.ovr) (sym event.served) (subst (R events traps) (sym event.manager) does));
-        leaves = before.leaves.1;
-        reads = tt;
-        wrote = event.fails.wrote ∙ before.wrote;
-        told = event.fails.told ∙ before.told;
-        rose = risen_later o.input_faults o1.input_faults o2.input_faults counts.input event.fails.rose;
-      };
-      kept = tt;
-    }
 
 fails-loading : (bytes : List ℕ) (events traps traps' limit : ℕ) (old now new : Course) (o o1 o2 : Outside) → events < limit → SoFar bytes events traps old now o o1
     → FailsLoading (FindsTrap now.ovr now.machine) now.ovr new.ovr traps traps' o1 o2 → FailsAtTrap bytes (events + 0) traps' limit old new o o2
@@ -118,34 +95,20 @@ ends-by : (bytes : List ℕ) (end : RunEnd) (events traps traps' limit : ℕ) (o
 ends-by bytes (ends.Ended code) events traps traps' limit old now new o o1 o2 below counts before event = record {
   bound = omega arith;
   limited = tt;
-  over = new.over;
-  run = further bytes (Some (ends.Ended code)) events traps traps' old now new o o1 o2 counts before event event.reads;
-  kept = refl;
+  run = further bytes (Some (ends.Ended code)) events traps traps' old now new o o1 o2 counts before event;
 }
 ends-by bytes (ends.Stopped cs ip why) events traps traps' limit old now new o o1 o2 below counts before event = record {
   bound = omega arith;
   limited = tt;
-  over = new.over;
-  run = further bytes (Some (ends.Stopped cs ip why)) events traps traps' old now new o o1 o2 counts before event event.reads;
-  kept = refl;
+  run = further bytes (Some (ends.Stopped cs ip why)) events traps traps' old now new o o1 o2 counts before event;
 }
-ends-by bytes ends.OutputFault events traps traps' limit old now new o o1 o2 below counts before event = record {
-  bound = omega arith;
-  limited = tt;
-  over = new.over;
-  run = further bytes (Some ends.OutputFault) events traps traps' old now new o o1 o2 counts before event event.reads;
-  kept = refl;
-}
-ends-by bytes ends.ErrorsFault events traps traps' limit old now new o o1 o2 below counts before event = record {
-  bound = omega arith;
-  limited = tt;
-  over = new.over;
-  run = further bytes (Some ends.ErrorsFault) events traps traps' old now new o o1 o2 counts before event event.reads;
-  kept = refl;
-}
+ends-by bytes ends.OutputFault events traps traps' limit old now new o o1 o2 below counts before event =
+    record { ran = events; below = below; counted = refl; last = now; served = traps; mid = o1; run = before; counts = counts; event = event }
+ends-by bytes ends.ErrorsFault events traps traps' limit old now new o o1 o2 below counts before event =
+    record { ran = events; below = below; counted = refl; last = now; served = traps; mid = o1; run = before; counts = counts; event = event }
 ends-by bytes (ends.Limit taken) events traps traps' limit old now new o o1 o2 below counts before event = absurd event
 ends-by bytes ends.InputFault events traps traps' limit old now new o o1 o2 below counts before event =
-    fails-reading bytes events traps traps' limit old now new o o1 o2 below counts before event
+    record { ran = events; below = below; counted = refl; last = now; served = traps; mid = o1; run = before; counts = counts; event = event }
 ends-by bytes ends.FilesFault events traps traps' limit old now new o o1 o2 below counts before event =
     fails-loading bytes events traps traps' limit old now new o o1 o2 below before event
 

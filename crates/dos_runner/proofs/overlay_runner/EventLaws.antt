@@ -101,7 +101,8 @@ with_streams old machine over = record old { machine = machine; over = over }
 
 plain-advances : (P Q : Progress → Type 0) (Found : Type 0) (end : Option RunEnd) (old : Course) (machine : State) (over : Bool) (traps : ℕ) (o o' : Outside) → ((progress : Progress) → P progress → Q progress)
     → Advances P end machine old.over over o o' → ManagedAdvances Q Found end old (with_streams old machine over) traps traps o o'
-plain-advances P Q Found (Some ends.InputFault) old machine over traps o o' so part = record { fails = part; manager = refl; served = refl }
+plain-advances P Q Found (Some ends.InputFault) old machine over traps o o' so part =
+    record { fails = advances_so P Q (Some ends.InputFault) machine old.over over o o' so part; manager = refl; served = refl }
 plain-advances P Q Found (Some ends.FilesFault) old machine over traps o o' so part = absurd part.leaves
 plain-advances P Q Found (Some (ends.Limit taken)) old machine over traps o o' so part = part
 plain-advances P Q Found (Some (ends.Ended code)) old machine over traps o o' so part = advances_so P Q (Some (ends.Ended code)) machine old.over over o o' so part
@@ -128,7 +129,7 @@ managed-so : (P Q : Progress → Type 0) (F G : Type 0) (end : Option RunEnd) (o
 managed-so P Q F G (Some ends.FilesFault) old older new traps traps' o o' so found ovr over part =
     record { found = found part.found; tally = subst (λ (m : Manager). new.ovr.tally ≡ m.tally) ovr part.tally; served = part.served; streams = part.streams }
 managed-so P Q F G (Some ends.InputFault) old older new traps traps' o o' so found ovr over part =
-    record { fails = part.fails; manager = subst (λ (m : Manager). new.ovr ≡ m) ovr part.manager; served = part.served }
+    record { fails = advances_so P Q (Some ends.InputFault) new.machine old.over new.over o o' so part.fails; manager = subst (λ (m : Manager). new.ovr ≡ m) ovr part.manager; served = part.served }
 managed-so P Q F G (Some (ends.Limit taken)) old older new traps traps' o o' so found ovr over part = part
 managed-so P Q F G (Some (ends.Ended code)) old older new traps traps' o o' so found ovr over part =
     subst (λ (b : Bool). Progresses Q (Some (ends.Ended code)) new.machine b new.over o o') over (advances_so P Q (Some (ends.Ended code)) new.machine old.over new.over o o' so part)

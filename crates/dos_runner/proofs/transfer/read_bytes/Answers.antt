@@ -1,5 +1,5 @@
 use Rattle.std.proofs.Common.{◌≤◌, ◌+◌, ◌%◌, refl, arith}
-use Rattle.dos_runner.proofs.Reading.{read_more, all_read}
+use Rattle.dos_runner.proofs.Reading.{read_more, all_read, read_less}
 use Rattle.dos_runner.proofs.transfer.read_bytes.Goals as goal
 
 pub loop-done-preserved : goal.loop-done-preserved
@@ -13,6 +13,12 @@ loop-done-preserved g c =
       over = c.loop-done.invariant.over;
       counted = omega (arith, c.loop-done.invariant.counted, c.read_part.ensures.counted);
     }
+
+pub returns-in_err-part-clause-less : goal.returns-in_err-part-clause-less
+returns-in_err-part-clause-less g c =
+    read_less c.args.segment c.args.offset c.args.count c.args.machine.now c.loop-done.machine
+    (g.S.Source.remaining c.args.source.now) (g.S.Source.remaining c.loop-done.source) (g.S.Source.remaining c.read_part.new.source)
+    c.loop-done.done c.loop-done-test.true c.loop-done.invariant.read c.in_err-part.ensures.not_given
 
 pub returns-clause-read : goal.returns-clause-read
 returns-clause-read g c =

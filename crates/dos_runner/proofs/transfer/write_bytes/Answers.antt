@@ -1,4 +1,4 @@
-use Rattle.std.proofs.Common.{◌≤◌, ◌+◌, ◌%◌, refl, arith}
+use Rattle.std.proofs.Common.{◌<◌, ◌≤◌, ◌+◌, ◌%◌, refl, arith}
 use Rattle.cpu_8086.specs.Process.{bytes_at}
 use Rattle.dos_runner.proofs.BytesAt.{more_written, prefix_of_row}
 use Rattle.dos_runner.proofs.transfer.write_bytes.Goals as goal
@@ -11,6 +11,9 @@ returns-in_err-write_part-clause-prefix g c =
     (bytes_at m c.args.segment ((c.args.offset + c.loop-done.done) % 65536) c.min-size.result)
     (g.K.Sink.contents c.args.sink.now) (g.K.Sink.contents c.loop-done.sink) (g.K.Sink.contents c.write_part.new.sink)
     c.ranges.offset.fits within c.loop-done.invariant.contents refl c.write_part.ensures.prefix
+
+pub returns-in_err-write_part-clause-some : goal.returns-in_err-write_part-clause-some
+returns-in_err-write_part-clause-some g c = omega (arith, c.loop-done-test.true)
 
 pub loop-done-preserved : goal.loop-done-preserved
 loop-done-preserved g c =
