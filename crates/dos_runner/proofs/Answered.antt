@@ -90,7 +90,7 @@ fails_writing Is new last out over o o' does input some output errors rose = rec
   does = does;
   leaves = refl;
   reads = gave_none over o.input o'.input input;
-  wrote = output;
+  wrote = record { some = some; prefix = output };
   told = took_none o.errors o'.errors errors;
   rose = rose;
 }
@@ -102,7 +102,7 @@ fails_telling Is new last err over o o' does input output some errors rose = rec
   leaves = refl;
   reads = gave_none over o.input o'.input input;
   wrote = took_none o.output o'.output output;
-  told = errors;
+  told = record { some = some; prefix = errors };
   rose = rose;
 }
 

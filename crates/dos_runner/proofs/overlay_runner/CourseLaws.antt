@@ -7,12 +7,12 @@ use Rattle.dos_runner.specs.declared.runner.RunEnd.{RunEnd}
 use Rattle.dos_runner.specs.declared.runner.RunEnd.TheVariants as ends
 use Rattle.dos_runner.specs.Run.{Progress}
 use Rattle.dos_runner.specs.Outside.{Outside, Counts, Progresses}
-use Rattle.dos_runner.proofs.Composition.{behind, gave_none, took_none, run_behind, joined, risen_later}
+use Rattle.dos_runner.proofs.Composition.{behind, gave_none, took_none, run_behind, joined}
 use Rattle.overlay_manager.specs.Manager.{Manager}
 use Rattle.overlay_manager.specs.overlay_run.Managed.{Managed, ManagedGoes, ManagedRuns}
 use Rattle.dos_runner.specs.declared.overlay_runner.course.Course.{Course}
 use Rattle.dos_runner.specs.overlay_runner.Event.{managed, IsManagedEvent, FindsTrap, FailsLoading, ManagedAdvances}
-use Rattle.dos_runner.specs.overlay_runner.Course.{IsManagedRun, ComesTo, FailsAtTrap, Courses, events_in}
+use Rattle.dos_runner.specs.overlay_runner.Course.{IsManagedRun, FailsAtTrap, Courses, events_in}
 
 -- one event more
 one-more : (bytes : List ℕ) (n : ℕ) (p q r : Managed) → ManagedRuns bytes n p q → ManagedGoes bytes q r → ManagedRuns bytes (n + 1) p r

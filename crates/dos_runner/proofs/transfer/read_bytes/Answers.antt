@@ -1,4 +1,6 @@
 use Rattle.std.proofs.Common.{◌≤◌, ◌+◌, ◌%◌, refl, arith}
+use Rattle.dos_runner.specs.Transfer.{ReadLess}
+use Rattle.dos_runner.proofs.Failed.{on_err}
 use Rattle.dos_runner.proofs.Reading.{read_more, all_read, read_less}
 use Rattle.dos_runner.proofs.transfer.read_bytes.Goals as goal
 
@@ -16,9 +18,10 @@ loop-done-preserved g c =
 
 pub returns-in_err-part-clause-less : goal.returns-in_err-part-clause-less
 returns-in_err-part-clause-less g c =
-    read_less c.args.segment c.args.offset c.args.count c.args.machine.now c.loop-done.machine
+    on_err c.from_residual.result (ReadLess c.args.count (g.S.Source.remaining c.args.source.now) (g.S.Source.remaining c.read_part.new.source))
+    (read_less c.args.segment c.args.offset c.args.count c.args.machine.now c.loop-done.machine
     (g.S.Source.remaining c.args.source.now) (g.S.Source.remaining c.loop-done.source) (g.S.Source.remaining c.read_part.new.source)
-    c.loop-done.done c.loop-done-test.true c.loop-done.invariant.read c.in_err-part.ensures.not_given
+    c.loop-done.done c.loop-done-test.true c.loop-done.invariant.read c.in_err-part.ensures.not_given)
 
 pub returns-clause-read : goal.returns-clause-read
 returns-clause-read g c =

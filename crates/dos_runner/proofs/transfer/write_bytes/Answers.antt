@@ -1,6 +1,7 @@
 use Rattle.std.proofs.Common.{◌<◌, ◌≤◌, ◌+◌, ◌%◌, refl, arith}
 use Rattle.cpu_8086.specs.Process.{bytes_at}
 use Rattle.dos_runner.proofs.BytesAt.{more_written, prefix_of_row}
+use Rattle.dos_runner.proofs.Failed.{on_err}
 use Rattle.dos_runner.proofs.transfer.write_bytes.Goals as goal
 
 pub returns-in_err-write_part-clause-prefix : goal.returns-in_err-write_part-clause-prefix
@@ -13,7 +14,7 @@ returns-in_err-write_part-clause-prefix g c =
     c.ranges.offset.fits within c.loop-done.invariant.contents refl c.write_part.ensures.prefix
 
 pub returns-in_err-write_part-clause-some : goal.returns-in_err-write_part-clause-some
-returns-in_err-write_part-clause-some g c = omega (arith, c.loop-done-test.true)
+returns-in_err-write_part-clause-some g c = on_err c.from_residual.result (0 < c.args.count) (omega (arith, c.loop-done-test.true))
 
 pub loop-done-preserved : goal.loop-done-preserved
 loop-done-preserved g c =
