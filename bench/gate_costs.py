@@ -124,6 +124,32 @@ def kept_bytes(folder):
     return kept, whole
 
 
+def minutes_on(lanes, told):
+    """Returns the minutes that all checks take on so many processors, each on one of its own and those first that most waits for, as rt starts them."""
+    below = {name: [it for it in deps.split() if it != name] for name, deps in re.findall(r"(?m)^(\w+):(.*)", CRATES.read_text())}
+    tasks = {}
+    for name in below:
+        of = told.get(name, {})
+        tasks[name, "proof"] = of.get("proof", 0), [(it, "proof") for it in below[name] if it in below]
+        for kind in KINDS[1:]:
+            if of.get(kind):
+                tasks[name, kind] = of[kind], [(name, "proof")]
+    behind = {}
+    for key in reversed(tasks):
+        behind[key] = tasks[key][0] + max((behind[it] for it in behind if key in tasks[it][1]), default=0)
+    # (edits fill what proofs leave free)
+    left = sorted(tasks, key=lambda it: (it[1] == "edits", -behind[it]))
+    now, done, running = 0, set(), []
+    while left or running:
+        for key in [it for it in left if done.issuperset(tasks[it][1])][: lanes - len(running)]:
+            left.remove(key)
+            running.append((now + tasks[key][0], key))
+        running.sort()
+        now, key = running.pop(0)
+        done.add(key)
+    return now / 60
+
+
 def table():
     """Returns the lines of the table."""
     names = re.findall(r"(?m)^(\w+)", CRATES.read_text())
@@ -136,7 +162,12 @@ def table():
     for name, seconds, much in [*rows[:ROWS], all_of]:
         lines.append(line.format(name, *(f"{it:,.0f}" for it in [*seconds, sum(seconds)]), f"{much / 1e6:,.1f}"))
     timed, held = sum(any(it[1]) for it in rows), sum(it[2] > 0 for it in rows)
-    return [*lines, "", f"{timed} crates have seconds, {held} are kept; the store holds {whole / 1e6:,.1f} MB."]
+    clock = "; ".join(f"on {it} processors {minutes_on(it, told):,.0f} minutes" for it in (2, 4))
+    return [
+        *lines,
+        "",
+        f"{timed} crates have seconds, {held} are kept; the store holds {whole / 1e6:,.1f} MB. From nothing, at these seconds and with nothing beside: {clock}.",
+    ]
 
 
 def write():

@@ -119,6 +119,14 @@ text_of() {
         ends { exit }' "$source")"
 }
 
+# Which sources they are, where they came by git. The program itself can't say this: its bytes would change with each commit.
+commit_of_sources() {
+    local commit
+    commit=$(git -C "$top" rev-parse --short=12 HEAD 2>/dev/null) || return 0
+    git -C "$top" diff --quiet HEAD -- crates crates.txt 2>/dev/null || commit="$commit, changed since"
+    echo "sources: commit $commit"
+}
+
 # Answers --help and --version, and refuses `words` that ask for nothing: for these nothing is built. Returns for the others.
 answer_words() {
     local wrong
@@ -126,7 +134,7 @@ answer_words() {
     [ -n "$commands" ] || return
     case ${#words[@]}:${words[*]} in
     1:--help) text_of help_text; exit 0 ;;
-    1:--version) text_of version_text; exit 0 ;;
+    1:--version) text_of version_text; commit_of_sources; exit 0 ;;
     esac
     wrong=$(wrong_words)
     if [ -n "$wrong" ]; then

@@ -12,6 +12,8 @@ help_text =
     ++ codes "go   reads name.pas and its units, writes name.exe, and runs it\n"
     ++ codes "mean reads name.pas and its units, and shows what the program means\n"
     ++ codes "run  runs name.exe, with name.ovr if it has overlays\n\n"
+    ++ codes "The program reads standard input, which Ctrl-D ends at a terminal; mean\n"
+    ++ codes "reads it to its end before the program begins.\n\n"
     ++ codes "--buffer P  the overlay buffer in paragraphs of 16 bytes, up to 40960\n"
     ++ codes "            (default: as large as the largest overlay)\n"
     ++ codes "--limit N   stop after N instructions (default: 1000000000)\n"
@@ -21,10 +23,12 @@ help_text =
     ++ codes "a line on standard error says why, and the status is 249 for an act that\n"
     ++ codes "the language leaves open, 250 and 251 at the limits, 252 for a refusal,\n"
     ++ codes "253 where the machine stopped, 254 for a fault of a file or a stream, and\n"
-    ++ codes "255 for want of memory.\n"
+    ++ codes "255 for want of memory.\n\n"
+    ++ codes "docs/usage.md says what each line means and what helps, docs/language.md\n"
+    ++ codes "what the language is, and examples/ has programs.\n"
 
 unfoldable pub version_text : List ℕ
-version_text = codes "tp 0.1\n"
+version_text = codes "tp 0.1, proved and built by rattle-kit-13f\n"
 
 -- The words ask for this text.
 abbrev pub IsTextOf : List (List ℕ) → List ℕ → Type 0

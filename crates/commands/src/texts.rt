@@ -21,6 +21,8 @@ pub fn help_text() -> &'static str
      go   reads name.pas and its units, writes name.exe, and runs it\n\
      mean reads name.pas and its units, and shows what the program means\n\
      run  runs name.exe, with name.ovr if it has overlays\n\n\
+     The program reads standard input, which Ctrl-D ends at a terminal; mean\n\
+     reads it to its end before the program begins.\n\n\
      --buffer P  the overlay buffer in paragraphs of 16 bytes, up to 40960\n\
      \x20           (default: as large as the largest overlay)\n\
      --limit N   stop after N instructions (default: 1000000000)\n\
@@ -30,15 +32,17 @@ pub fn help_text() -> &'static str
      a line on standard error says why, and the status is 249 for an act that\n\
      the language leaves open, 250 and 251 at the limits, 252 for a refusal,\n\
      253 where the machine stopped, 254 for a fault of a file or a stream, and\n\
-     255 for want of memory.\n"
+     255 for want of memory.\n\n\
+     docs/usage.md says what each line means and what helps, docs/language.md\n\
+     what the language is, and examples/ has programs.\n"
 }
 
-/// Which version this is.
+/// Which version this is, and the toolchain that proves and builds it.
 #[tactic(auto, unfolding(crate::specs::Texts::version_text))]
 pub fn version_text() -> &'static str
     ensures { result.now ≡ version_text }
 {
-    "tp 0.1\n"
+    "tp 0.1, proved and built by rattle-kit-13f\n"
 }
 
 /// Writes a text to the output.

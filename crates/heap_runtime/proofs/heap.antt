@@ -5,6 +5,7 @@ pub mod Rows
 pub mod Links
 pub mod Finding
 pub mod Holding
+pub mod Taking
 pub mod Making
 pub mod Disposing
 pub mod Places

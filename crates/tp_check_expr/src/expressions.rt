@@ -8,18 +8,17 @@ ghost use Rattle.call_rules.specs.set_rules.Sets.{view_item};
 ghost use Rattle.tp_check_expr.specs.Calls.{view_callable, target_for};
 ghost use Rattle.tp_check_expr.specs.Typed.{first_param, rest_params, judged_as, judged, callable, items_judged, item_judged, all_given, one_given, misplaced, miscalled, special_given, called_for, size_of_one, made_by};
 
-use crate::calls::{
-    CallTarget, callable_name, constructor_at, entered_by, member_callable, parameters, special_of,
-    target_called,
-};
+mod designators;
+
+use crate::calls::{CallTarget, constructor_at, parameters, special_of, target_called};
 use crate::constants::{control_constant, number_constant, text_constant};
-use crate::members::{chosen, method_wanted, named};
-use crate::names::{Purpose, as_wanted, purpose_of};
-use crate::operations::{combined, element, marked};
-use crate::owners::{inherited_from, type_at, type_in};
+use crate::names::{Purpose, purpose_of};
+use crate::operations::{combined, marked};
+use crate::owners::type_at;
 use call_rules::allocation_rules::{blank, newly_made};
 use call_rules::set_rules::constructed;
 use call_rules::standard_rules::{is_size, sized, variable_sized};
+pub use designators::{callable, designator_as};
 use pascal_grammar::Position;
 use scopes::Scope;
 use std::alloc::Global;
@@ -27,7 +26,7 @@ use syntax_tree::expression_tree::{begins, of_adder, of_multiplier, of_relator};
 use syntax_tree::{Argument, Designator, Element, Expression, Factor, SimpleExpression, Term};
 use type_layout::{Param, Place, TypeId};
 use typed_tree::{Expr, SetElement};
-use typing_rules::{Refusal, Rule, broken, followed, negated, nil};
+use typing_rules::{Refusal, Rule, broken, negated, nil};
 
 /// The node of an expression that stands for this.
 #[cycle(parts)]
@@ -297,98 +296,6 @@ pub fn made_by(
 {
     let one = expression_as(alloc, tree, Purpose::Constructor { ty, place }, scope)?;
     newly_made(place, one)
-}
-
-/// The node of a designator that stands for this.
-#[cycle(parts)]
-pub fn designator_as(
-    alloc: Global,
-    tree: &Designator,
-    purpose: Purpose,
-    scope: &Scope,
-) -> Result<Expr, Refusal>
-    ensures { Gives view_expr result (judged_as scope.now purpose (view_designator tree.now)).run }
-{
-    let types = scope.types();
-    match tree {
-        Designator::Name(one) => named(alloc, scope, one.position, purpose, &one.name),
-        Designator::Field {
-            owner,
-            position,
-            field,
-        } => match type_in(scope, owner) {
-            Some(one) => {
-                let one = inherited_from(scope, position.place, one, &field.name)?;
-                method_wanted(alloc, types, *position, purpose, one)
-            }
-            None => {
-                let owner = designator_as(alloc, owner, Purpose::Value, scope)?;
-                chosen(alloc, scope, *position, purpose, owner, &field.name)
-            }
-        },
-        Designator::Index {
-            owner,
-            position,
-            index,
-            ..
-        } => {
-            let owner = designator_as(alloc, owner, Purpose::Value, scope)?;
-            let index = expression_as(alloc, index, Purpose::Value, scope)?;
-            let one = element(alloc, types, *position, owner, index)?;
-            as_wanted(alloc, types, position.place, purpose, one)
-        }
-        Designator::Dereference { owner, position } => {
-            let owner = designator_as(alloc, owner, Purpose::Value, scope)?;
-            let one = followed(alloc, types, position.place, owner)?;
-            as_wanted(alloc, types, position.place, purpose, one)
-        }
-    }
-}
-
-/// What stands before arguments, in a call that begins at a place.
-#[cycle(parts)]
-pub fn callable<'a>(
-    alloc: Global,
-    callee: &Designator,
-    place: Place,
-    scope: &'a Scope,
-) -> Result<CallTarget<'a>, Refusal>
-    ensures { Gives view_callable result (callable scope.now place (view_designator callee.now)).run }
-{
-    let types = scope.types();
-    match callee {
-        Designator::Name(one) => callable_name(alloc, scope, one.position.place, &one.name),
-        Designator::Field {
-            owner,
-            position,
-            field,
-        } => match type_in(scope, owner) {
-            Some(one) => {
-                let one = inherited_from(scope, position.place, one, &field.name)?;
-                Ok(CallTarget::Method(one))
-            }
-            None => {
-                let owner = designator_as(alloc, owner, Purpose::Value, scope)?;
-                member_callable(alloc, scope, place, position.place, owner, &field.name)
-            }
-        },
-        Designator::Index {
-            owner,
-            position,
-            index,
-            ..
-        } => {
-            let owner = designator_as(alloc, owner, Purpose::Value, scope)?;
-            let index = expression_as(alloc, index, Purpose::Value, scope)?;
-            let one = element(alloc, types, *position, owner, index)?;
-            entered_by(types, place, one)
-        }
-        Designator::Dereference { owner, position } => {
-            let owner = designator_as(alloc, owner, Purpose::Value, scope)?;
-            let one = followed(alloc, types, position.place, owner)?;
-            entered_by(types, place, one)
-        }
-    }
 }
 
 // What a set constructor lists.

@@ -5,5 +5,7 @@ pub use Rattle.type_layout.proofs as type_layout_proofs
 pub use Rattle.typing_rules.proofs as typing_rules_proofs
 mod InsideLaws
 mod NodeViews
+mod PartLaws
 pub mod StatementLaws
+mod TestLaws
 mod TreeSteps

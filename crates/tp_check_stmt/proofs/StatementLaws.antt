@@ -1,14 +1,10 @@
 -- Statements are judged lawfully.
-use Rattle.std.proofs.Common.{◌≡◌, ◌⊎◌, ℕ, ℤ, ◌<ℤ◌, ◌≤ℤ◌, int_lt, int_le, ◌==◌, ◌&&◌, ◌||◌, Bool, true, false, All, List, [], ◌∷◌, ◌++◌, Option, Some, None, Decides, refl, arith}
-use Rattle.std.specs.List.{list_all}
-use Rattle.std.proofs.lemmas.Int.{ints}
-use Rattle.std.proofs.lemmas.Bool.Decides.{Decides-and, Decides-or, Decides-eqb, Decides-by_and}
+use Rattle.std.proofs.Common.{ℕ, ℤ, ◌≤ℤ◌, int_le, ◌&&◌, Bool, List, [], ◌∷◌, ◌++◌, Option, Some, None, Decides}
+use Rattle.std.proofs.lemmas.Bool.Decides.{Decides-and}
 use Rattle.type_layout.specs.declared.definitions.TypeId.{TypeId}
 use Rattle.type_layout.specs.declared.definitions.RoutineId.{RoutineId}
 use Rattle.type_layout.specs.declared.definitions.Header.{Header}
 use Rattle.type_layout.specs.declared.definitions.Method.{Method}
-use Rattle.type_layout.specs.declared.definitions.TypeDef.{TypeDef}
-use Rattle.type_layout.specs.declared.definitions.TypeDef.TheVariants as type
 use Rattle.type_layout.specs.declared.texts.Place.{Place}
 use Rattle.tp_lexer.specs.declared.token.Feature.{Feature}
 use Rattle.tp_lexer.specs.left_out_names.Names.{feature_of}
@@ -18,9 +14,8 @@ use Rattle.syntax_tree.specs.statement_tree.Trees.{Label, alone, from_to, Task, 
 use Rattle.syntax_tree.specs.statement_tree.Places.{place_of}
 use Rattle.typed_tree.specs.declared.expressions.Variable.{Variable}
 use Rattle.typed_tree.specs.declared.statements.LabelRange.{LabelRange}
-use Rattle.typed_tree.specs.Expressions as tree
 use Rattle.typed_tree.specs.Expressions.{Expression, type_of}
-use Rattle.typed_tree.specs.Statements.{Statement, Written, Run, Assign, Halt, Case, With}
+use Rattle.typed_tree.specs.Statements.{Statement, Written, Run, Halt, Case, With}
 use Rattle.scopes.specs.declared.entries.Entry.{Entry}
 use Rattle.scopes.specs.declared.entries.Entry.TheVariants as entry
 use Rattle.scopes.specs.declared.entries.BlockKind.{BlockKind}
@@ -31,23 +26,20 @@ use Rattle.typed_tree.specs.type_fits.Fits.{definition}
 use Rattle.constant_checker.specs.constant_expressions.Constants as constants
 use Rattle.constant_checker.specs.constant_expressions.Values.{number_of}
 use Rattle.constant_checker.proofs.constant_expressions.ConstantLaws as constant
-use Rattle.typing_rules.specs.declared.faults.Fault.{Fault}
 use Rattle.typing_rules.specs.declared.faults.Rule.{Rule}
 use Rattle.typing_rules.specs.declared.faults.Rule.TheVariants as rules
 use Rattle.typing_rules.specs.declared.sorts.Sort.{Sort}
-use Rattle.typing_rules.specs.declared.sorts.Sort.TheVariants as sort
 use Rattle.typing_rules.specs.Faults.{broken}
 use Rattle.typing_rules.specs.Judgements.{Judgement, makes, refuses, rule, part, parts}
 use Rattle.typing_rules.specs.Sorts.{sort_of_type, sort_of}
 use Rattle.typing_rules.specs.Plans.{IsBoolean, is_boolean, IsInteger, is_integer, AreOfOneHost, are_of_one_host}
 use Rattle.typing_rules.specs.Wanted.{stored_of}
-use Rattle.typing_rules.specs.Assignments.{IsAssignable, is_assignable, assigned_by, assigned}
+use Rattle.typing_rules.specs.Assignments.{IsAssignable, is_assignable, assigned_by}
 use Rattle.typing_rules.specs.Laws.{Lawful}
 use Rattle.typing_rules.proofs.JudgementLaws.{lawful_makes, lawful_refuses, lawful_rule, lawful_either, lawful_part, lawful_parts}
-use Rattle.typing_rules.proofs.PlanLaws.{yes, no, tells_integer, tells_one_host}
-use Rattle.typing_rules.proofs.AssignmentLaws.{tells_assignable, lawful_assigned}
+use Rattle.typing_rules.proofs.PlanLaws.{tells_integer, tells_one_host}
+use Rattle.typing_rules.proofs.AssignmentLaws.{tells_assignable}
 use Rattle.call_rules.specs.Casts.{IsOrdinal, is_ordinal}
-use Rattle.call_rules.specs.Given.{performed}
 use Rattle.call_rules.proofs.CallLaws.{tells_ordinal, lawful_performed}
 use Rattle.call_rules.specs.method_rules.Methods.{method_in, routine_in}
 use Rattle.call_rules.specs.method_rules.Calls.{performed_on}
@@ -67,77 +59,19 @@ use Rattle.tp_check_stmt.specs.declared.standard.StandardStatement.{StandardStat
 use Rattle.tp_check_stmt.specs.declared.standard.StandardStatement.TheVariants as standard
 use Rattle.tp_check_stmt.specs.Lists.{each}
 use Rattle.tp_check_stmt.specs.Places.{Spot, spot_of, present}
-use Rattle.tp_check_stmt.specs.Asked.{such, condition, selector, IsWritable, is_writable, written_value, width, IsReadable, is_readable}
-use Rattle.tp_check_stmt.specs.Assignments.{held_target, is_inside, result_spot, result_target, method_result, is_numbered, method_target, member_target, meant_target, target, is_structured, copied, stored, assigned_to}
+use Rattle.tp_check_stmt.specs.Asked.{such, condition, selector, IsWritable, is_writable, written_value, width}
+use Rattle.tp_check_stmt.specs.Assignments.{held_target, is_inside, result_spot, result_target, method_result, is_numbered, method_target, member_target, meant_target, target, assigned_to}
 use Rattle.call_rules.specs.procedure_rules.Procedures.{standard_performed, told}
 use Rattle.call_rules.proofs.procedure_rules.ProcedureLaws as procedure
 use Rattle.call_rules.proofs.procedure_rules.ProcedureLaws.{lawful_told}
 use Rattle.tp_check_stmt.specs.Arguments.{sized, NamedCall, named_call}
 use Rattle.tp_check_stmt.specs.Standard.{item, written, taken_from, taken_one, taken, values, halted, left, told_of, misgiven, told_two, are_two, telling, proceeding, made_to, creating, ended_with, ended_by, ending, is_creating, Pair, plain_pair, managed, managing, standard_of, standard_run}
 use Rattle.tp_check_stmt.specs.Calls.{run_node, performed_entry, run_entry, run_target, run_of}
-use Rattle.tp_check_stmt.specs.Labels.{from, label_value, label_range, AreApart, are_apart, IsNew, is_new, label_place, new_label, labelled}
+use Rattle.tp_check_stmt.specs.Labels.{from, label_value, label_range, IsNew, is_new, label_place, new_label, labelled}
 use Rattle.tp_check_stmt.specs.Loops.{IsNear, is_near, HasOrder, has_order, counter_of, counter_entry, counter_meant, counter, whole, bound_by, bound, Counted, counted_from, counted}
-use Rattle.tp_check_stmt.specs.Typed.{Armed, arms_of, block_of, three, blocked, HasMembers, has_members, opened_spot, held, within, stated, chosen, inside, assigning, listed, branched}
-
--- ---- tests
-
--- a catch-all stands for each that the clauses above it leave
-tells_boolean : (s : Sort) → Decides (is_boolean s) (IsBoolean s)
-tells_boolean sort.Boolean = yes
-tells_boolean _ = no
-
-tells_writable : (s : Sort) → Decides (is_writable s) (IsWritable s)
-tells_writable (sort.Integer r) = yes
-tells_writable sort.Boolean = yes
-tells_writable sort.Char = yes
-tells_writable sort.Text = yes
-tells_writable _ = no
-
-tells_readable : (s : Sort) → Decides (is_readable s) (IsReadable s)
-tells_readable (sort.Integer r) = yes
-tells_readable sort.Char = yes
-tells_readable sort.Text = yes
-tells_readable _ = no
-
-tells_order : (one : Option TypeDef) → Decides (has_order one) (HasOrder one)
-tells_order (Some (type.Ordinal host low high)) = yes
-tells_order _ = no
-
-tells_members : (one : Option TypeDef) → Decides (has_members one) (HasMembers one)
-tells_members (Some (type.RecordOf fields)) = yes
-tells_members (Some (type.ObjectOf parent dynamic fields methods)) = yes
-tells_members _ = no
-
-tells_less : (m n : ℤ) → Decides (int_lt m n) (m <ℤ n)
-tells_less m n = (λ e. grind (arith, ints), λ h. grind (arith, ints))
-
-tells_rising : (m n : ℤ) → Decides (int_le m n) (m ≤ℤ n)
-tells_rising m n = (λ e. grind (arith, ints), λ h. grind (arith, ints))
-
-tells_apart : (a b : LabelRange) → Decides (are_apart a b) (AreApart a b)
-tells_apart a b = Decides-or _ _ (tells_less a.high b.low) (tells_less b.high a.low)
-
-tells_new : (seen : List LabelRange) (one : LabelRange) → Decides (is_new seen one) (IsNew seen one)
-tells_new seen one = Decides-by_and (are_apart one) (AreApart one) (list_all (are_apart one)) (tells_apart one) refl (λ x xs. refl) seen
-
-tells_near : (one : Variable) → Decides (is_near one) (IsNear one)
-tells_near one = Decides-or _ _ (Decides-eqb one.level 1) (Decides-and _ _ (Decides-eqb one.level 0) (Decides-eqb one.unit 0))
-
--- ---- what is shared
-
-lawful_present : {C : Type 0} (fault : Fault) (one : Option C) → Lawful (present fault one)
-lawful_present fault None = lawful_refuses _
-lawful_present fault (Some c) = lawful_makes _
-
-lawful_each : {C : Type 0} (of : Operand → Judgement C) → ((one : Operand) → Lawful (of one)) → (all : Operands) → Lawful (each of all)
-lawful_each of m no_operands = lawful_makes _
-lawful_each of m (and_operand one rest) = lawful_parts (of one) (each of rest) _ (m one) (lawful_each of m rest) (λ x xs. lawful_makes _)
-
-lawful_three : {A B C D : Type 0} (j : Judgement A) (k : Judgement B) (l : Judgement C) (f : A → B → C → D) → Lawful j → Lawful k → Lawful l → Lawful (three j k l f)
-lawful_three {B = B} {C = C} j k l f m n o =
-    let pair : B → C → B × C = λ b c. (b, c) in
-    lawful_parts {B = B × C} j (parts k l (λ b c. makes (pair b c))) (λ a p. makes (f a p.0 p.1)) m
-    (lawful_parts k l (λ b c. makes (pair b c)) n o (λ b c. lawful_makes (pair b c))) (λ a p. lawful_makes (f a p.0 p.1))
+use Rattle.tp_check_stmt.specs.Typed.{Armed, arms_of, block_of, blocked, HasMembers, has_members, opened_spot, held, within, stated, chosen, inside, assigning, listed, branched}
+use Rattle.tp_check_stmt.proofs.TestLaws.{tells_boolean, tells_writable, tells_order, tells_members, tells_rising, tells_new, tells_near}
+use Rattle.tp_check_stmt.proofs.PartLaws.{lawful_present, lawful_each, lawful_three, lawful_assigned_to, lawful_from, lawful_halted, lawful_left, lawful_run_node, lawful_entry}
 
 module _ (g : Environment) where
   lawful_such : (one : Tree) (broke : Rule) (test : Sort → Bool) (Asked : Sort → Type 0) → ((s : Sort) → Decides (test s) (Asked s)) → Lawful (such g one broke test Asked)
@@ -210,48 +144,6 @@ module _ (g : Environment) where
   lawful_target (field here a one) = lawful_held_target (field here a one)
   lawful_target (index here a i) = lawful_held_target (index here a i)
   lawful_target (followed place a) = lawful_held_target (followed place a)
-
-module _ (types : List TypeDef) where
-  lawful_copied : (place : Place) (to : tree.Place) (from : Option Spot) → Lawful (copied place to from)
-  lawful_copied place to None = lawful_refuses _
-  lawful_copied place to (Some from) = lawful_makes _
-
-  lawful_stored : (place : Place) (to : Spot) (e : Expression) → Lawful (stored types place to e)
-  lawful_stored place to e =
-      lawful_either (is_structured (definition types to.ty)) (copied place to.at (spot_of e)) (makes (Assign to.at e)) (lawful_copied place to.at (spot_of e)) (lawful_makes _)
-
-  lawful_assigned_to : (here : Position) (to : Spot) (e : Expression) → Lawful (assigned_to types here to e)
-  lawful_assigned_to here to e =
-      lawful_part (assigned types here.place to.ty here.switches.r e) (λ v. stored types here.place to v) (lawful_assigned types here.place to.ty here.switches.r e)
-      (λ v. lawful_stored here.place to v)
-
-  -- ---- calls
-
-  lawful_from : (place : Place) (checked : Bool) (one : Option Spot) → Lawful (taken_from types place checked one)
-  lawful_from place checked None = lawful_refuses _
-  lawful_from place checked (Some one) =
-      lawful_rule (broken place rules.Read) (is_readable (sort_of_type types one.ty)) (IsReadable (sort_of_type types one.ty)) (record { at = one.at; ty = one.ty; checked = checked })
-      (tells_readable (sort_of_type types one.ty))
-
-  lawful_halted : (place : Place) (es : List Expression) → Lawful (halted types place es)
-  lawful_halted place [] = lawful_makes _
-  lawful_halted place (e ∷ []) = lawful_rule (broken place rules.Called) (is_integer (sort_of types e)) (IsInteger (sort_of types e)) (Halt e) (tells_integer (sort_of types e))
-  lawful_halted place (e ∷ (f ∷ es)) = lawful_refuses _
-
-  lawful_left : (place : Place) (es : List Expression) → Lawful (left place es)
-  lawful_left place [] = lawful_makes _
-  lawful_left place (e ∷ es) = lawful_refuses _
-
-  lawful_run_node : (j : Judgement Expression) → Lawful j → Lawful (run_node j)
-  lawful_run_node j m = lawful_part j _ m (λ e. lawful_makes _)
-
-  lawful_entry : (here : Position) (one : Entry) (es : List Expression) → Lawful (performed_entry types here one es)
-  lawful_entry here (entry.Const ty v) es = lawful_refuses _
-  lawful_entry here (entry.Ty ty) es = lawful_refuses _
-  lawful_entry here (entry.Var unit level n ty) es = lawful_refuses _
-  lawful_entry here (entry.Code routine level header far) es =
-      lawful_run_node (performed types here.place here.switches.r routine header es) (lawful_performed types here.place here.switches.r routine header es)
-  lawful_entry here (entry.Std n) es = lawful_refuses _
 
 module _ (g : Environment) where
   lawful_values : (here : Position) (all : Operands) → Lawful (values g here all)

@@ -18,7 +18,7 @@ use Rattle.typing_rules.specs.Plans.{IsInteger, is_integer}
 use Rattle.tp_check_expr.specs.Typed.{judged}
 use Rattle.tp_check_stmt.specs.declared.standard.StandardStatement.{StandardStatement}
 use Rattle.tp_check_stmt.specs.declared.standard.StandardStatement.TheVariants as standard
-use Rattle.tp_check_stmt.specs.declared.standard.PlainPair.{PlainPair}
+use Rattle.tp_check_stmt.specs.declared.allocations.PlainPair.{PlainPair}
 use Rattle.tp_check_stmt.specs.Lists.{each}
 use Rattle.tp_check_stmt.specs.Places.{Spot, spot_of}
 use Rattle.tp_check_stmt.specs.Asked.{written_value, width, IsReadable, is_readable}

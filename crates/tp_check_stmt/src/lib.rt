@@ -1,6 +1,7 @@
 //! The checker of statements: from a tree and a scope to a typed node, or the rule that fails and where.
 #![tactic(auto)]
 
+mod allocations;
 mod arguments;
 mod asked;
 mod assignments;

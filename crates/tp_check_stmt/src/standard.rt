@@ -1,29 +1,27 @@
 //! Standard routines as statements.
 
 ghost use Rattle.std.specs.Prelude.{◌≡◌, map};
-ghost use Rattle.std.specs.Option.{option_map};
 ghost use Rattle.typed_tree.specs.Expressions.{view_expr};
 ghost use Rattle.typed_tree.specs.Statements.{view_stmt, view_written, view_taken};
-ghost use Rattle.syntax_tree.specs.expression_tree.Trees.{and_operand, plain, view_argument, view_arguments, view_expression};
+ghost use Rattle.syntax_tree.specs.expression_tree.Trees.{view_argument, view_arguments};
 ghost use Rattle.typing_rules.specs.Judgements.{Gives, parts};
-ghost use Rattle.tp_check_stmt.specs.Arguments.{view_named, sized};
+ghost use Rattle.tp_check_stmt.specs.Arguments.{sized};
 ghost use Rattle.tp_check_stmt.specs.Lists.{each};
 ghost use Rattle.tp_check_stmt.specs.Places.{spot_of};
-ghost use Rattle.tp_check_stmt.specs.Standard.{item, written, taken_from, taken_one, taken, halted, left, told_of, misgiven, told_two, is_none, is_one, are_two, telling, proceeding, made_to, creating, ended_by, ending, is_creating, view_pair, plain_pair, managing, standard_of, standard_run};
+ghost use Rattle.tp_check_stmt.specs.Standard.{item, written, taken_from, taken_one, taken, halted, left, told_of, misgiven, told_two, is_none, is_one, are_two, telling, proceeding, managing, standard_of, standard_run};
 
-use crate::arguments::{SoleCall, named_call, sized};
+use crate::allocations::{PlainPair, creating, ending, is_creating, plain_pair};
+use crate::arguments::sized;
 use crate::asked::{is_readable, width, written_value};
-use crate::assignments::assigned_to;
 use crate::nodes::{halt_node, plain_item, read_item, run_node, wide_item};
 use crate::places::spot_of;
-use call_rules::allocation_rules::{destructor_of, unmade};
 use call_rules::procedure_rules::{standard_performed, told};
 use pascal_grammar::Position;
 use scopes::{INTEGER, Scope};
 use std::alloc::Global;
+use syntax_tree::Argument;
 use syntax_tree::statement_tree::place_of;
-use syntax_tree::{Argument, Expression};
-use tp_check_expr::{judged_expression, made_by, operands};
+use tp_check_expr::{judged_expression, operands};
 use type_layout::{Place, Types};
 use typed_tree::standard::{DISPOSE, EXIT, HALT, NEW, READ, READ_LN, STR, WRITE, WRITE_LN};
 use typed_tree::{Expr, ReadItem, Stmt, Value, WriteItem};
@@ -272,126 +270,6 @@ fn proceeding(
     let values = operands(alloc, given, &[], here, scope)?;
     let call = standard_performed(alloc, scope.types(), here.place, number, values)?;
     run_node(alloc, call)
-}
-
-// A new block to what an expression loads from.
-fn made_to(
-    alloc: Global,
-    here: Position,
-    call: &Expression,
-    variable: Expr,
-    scope: &Scope,
-) -> Result<Stmt, Refusal>
-    ensures { Gives view_stmt result (made_to scope.now here (view_expression call.now) (spot_of (view_expr variable))).run }
-{
-    match spot_of(variable) {
-        None => Err(Refusal::Because(broken(here.place, Rule::Called))),
-        Some(to) => {
-            let block = made_by(alloc, call, to.ty, here.place, scope)?;
-            assigned_to(alloc, scope.types(), here, to, block)
-        }
-    }
-}
-
-// New with a constructor.
-fn creating(
-    alloc: Global,
-    here: Position,
-    variable: &Expression,
-    call: &Expression,
-    scope: &Scope,
-) -> Result<Stmt, Refusal>
-    ensures { Gives view_stmt result (creating scope.now here (view_expression variable.now) (view_expression call.now)).run }
-{
-    let variable = judged_expression(alloc, variable, scope)?;
-    made_to(alloc, here, call, variable, scope)
-}
-
-fn ended_by(
-    alloc: Global,
-    here: Position,
-    pointer: Expr,
-    call: Option<SoleCall<'_>>,
-    scope: &Scope,
-) -> Result<Stmt, Refusal>
-    ensures { Gives view_stmt result (ended_by scope.now here (view_expr pointer) (option_map view_named call.entry)).run }
-{
-    let Some(SoleCall { name, arguments }) = call else {
-        return Err(Refusal::Because(broken(here.place, Rule::Allocating)));
-    };
-    let at = name.position;
-    let one = destructor_of(alloc, scope, here.place, &pointer, &name.name)?;
-    let params = one.header.params.as_slice();
-    let values = operands(alloc, arguments, params, at, scope)?;
-    unmade(
-        alloc,
-        scope.types(),
-        at.place,
-        at.switches.r,
-        pointer,
-        one,
-        values,
-    )
-}
-
-// Dispose with a destructor.
-fn ending(
-    alloc: Global,
-    here: Position,
-    pointer: &Expression,
-    call: &Expression,
-    scope: &Scope,
-) -> Result<Stmt, Refusal>
-    ensures { Gives view_stmt result (ending scope.now here (view_expression pointer.now) (view_expression call.now)).run }
-{
-    let pointer = judged_expression(alloc, pointer, scope)?;
-    ended_by(alloc, here, pointer, named_call(call), scope)
-}
-
-fn is_creating(number: u32) -> bool
-    ensures { result ≡ is_creating number }
-{
-    number == NEW
-}
-
-// Two arguments without widths.
-#[derive(Clone, Copy)]
-pub(crate) struct PlainPair<'a> {
-    pub first: &'a Expression,
-    pub second: &'a Expression,
-}
-
-fn pair_of<'a>(
-    first: &'a Expression,
-    second: &'a Expression,
-    more: &[Argument],
-) -> Option<PlainPair<'a>>
-    ensures { option_map view_pair result ≡ plain_pair (and_operand (plain (view_expression first.now)) (and_operand (plain (view_expression second.now)) (view_arguments more.now))) }
-{
-    match more {
-        [] => Some(PlainPair { first, second }),
-        [_more, _rest @ ..] => None,
-    }
-}
-
-fn pair_behind<'a>(first: &'a Expression, rest: &'a [Argument]) -> Option<PlainPair<'a>>
-    ensures { option_map view_pair result ≡ plain_pair (and_operand (plain (view_expression first.now)) (view_arguments rest.now)) }
-{
-    match rest {
-        [] => None,
-        [Argument::Wide(..), _more @ ..] => None,
-        [Argument::Plain(second), more @ ..] => pair_of(first, second, more),
-    }
-}
-
-fn plain_pair(given: &[Argument]) -> Option<PlainPair<'_>>
-    ensures { option_map view_pair result ≡ plain_pair (view_arguments given.now) }
-{
-    match given {
-        [] => None,
-        [Argument::Wide(..), _rest @ ..] => None,
-        [Argument::Plain(first), rest @ ..] => pair_behind(first, rest),
-    }
 }
 
 // New and Dispose.

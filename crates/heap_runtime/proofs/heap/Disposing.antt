@@ -33,7 +33,7 @@ use Rattle.heap_runtime.proofs.heap.Sound.{disposed-sound, disposed-counts, free
 use Rattle.heap_runtime.proofs.heap.Links.{word-same, blocks-apart, head_of, head-word, from_found, before_found, found-among, found-has, has-found, has-nothing}
 use Rattle.heap_runtime.proofs.heap.Finding.{Finding, AreInside, PointsTo, FoundList, finds, data-seen, behind-seen, behind-so, data-so}
 use Rattle.heap_runtime.proofs.heap.Holding.{unwritten, still-reached, link_low, link_high, low-word, high-word, IsPart, holds-same, put-holds, begun-holds}
-use Rattle.heap_runtime.proofs.heap.Making.{decide-off, known-reached, known-behind}
+use Rattle.heap_runtime.proofs.heap.Taking.{decide-off, known-reached, known-behind}
 
 -- ---- the words of the activation
 

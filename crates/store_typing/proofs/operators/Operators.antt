@@ -20,7 +20,7 @@ use Rattle.tp_meaning.specs.typed_tree.declared.expressions.BinaryOp.TheVariants
 use Rattle.tp_meaning.specs.common_values.Ordinals.{width_of, quotient, remainder, shift_count}
 use Rattle.tp_meaning.specs.common_values.Strings.{longest, joined}
 use Rattle.tp_meaning.specs.common_values.Sets.{is_member, union, difference, intersection, with_range}
-use Rattle.tp_meaning.specs.typed_tree.type_fits.Fits.{stored_as, family_of, IsSome, IsInteger, IsBoolean, IsChar, AreStoredAlike, IsWide, IsString, IsSet, IsPointer}
+use Rattle.tp_meaning.specs.typed_tree.type_fits.Fits.{stored_as, family_of, IsSome, IsBoolean, IsChar, AreStoredAlike, IsString, IsSet, IsPointer}
 use Rattle.tp_meaning.specs.typed_tree.type_fits.Operators.{IsArithmetic, FitsUnary, AreNumbers, AreSets, AreStrings, AreTruths, IsShift, AreOrdered, AreSetsBoth, ArePointers, FitsBinary, MayBeEarly, IsConversion}
 use Rattle.tp_meaning.specs.Trees.{Key, Value, Ordinal, Text, Elements, Nil, Block}
 use Rattle.tp_meaning.specs.Found.{Found, Act, Error, ◌>>=◌}
@@ -36,44 +36,7 @@ use Rattle.store_typing.proofs.stores.Paths.{finds_bind}
 use Rattle.store_typing.proofs.stores.Steps.{as_ordinal, of_ordinal}
 use Rattle.store_typing.proofs.operators.Ranges.{kept_held, meant_held, and_word, or_word, xor_word, shifted_word, number_word}
 use Rattle.store_typing.specs.operators.Laws.{OperatorLaws}
-
--- ---- how types are stored
-
--- a type that operators on integers give
-record Wide (o : Option TypeDef) : Type 0 where
-  stored : Host
-  is : stored_as o ≡ Some stored
-  no_boolean : is_boolean stored ≡ false
-
-wide_by : (o : Option TypeDef) (s : Option Host) → stored_as o ≡ s → IsWide s → Wide o
-wide_by o (Some host.Integer) e is = record { stored = host.Integer; is = e; no_boolean = refl }
-wide_by o (Some host.Word) e is = record { stored = host.Word; is = e; no_boolean = refl }
-wide_by o (Some host.LongInt) e is = record { stored = host.LongInt; is = e; no_boolean = refl }
-wide_by o s e is = absurd is
-
-wide : (o : Option TypeDef) → IsWide (stored_as o) → Wide o
-wide o is = wide_by o (stored_as o) refl is
-
-some_stored : (s : Option Host) → IsSome s → (h : Host) × (s ≡ Some h)
-some_stored (Some h) is = (h, refl)
-some_stored None is = absurd is
-
-stored_of_family : (o : Option TypeDef) → IsSome (family_of o) → IsSome (stored_as o)
-stored_of_family (Some (type.Ordinal host low high)) is = tt
-stored_of_family (Some (type.Str max)) is = is
-stored_of_family (Some (type.SetOf base)) is = is
-stored_of_family (Some (type.ArrayOf i e)) is = is
-stored_of_family (Some (type.RecordOf fields)) is = is
-stored_of_family (Some (type.PointerTo target)) is = is
-stored_of_family (Some (type.ObjectOf p d fields methods)) is = is
-stored_of_family (Some (type.Procedural header)) is = is
-stored_of_family None is = is
-
-pub ordinal_of_family : (o : Option TypeDef) → IsSome (family_of o) → (h : Host) × (stored_as o ≡ Some h)
-ordinal_of_family o is = some_stored (stored_as o) (stored_of_family o is)
-
-pub ordinal_if_integer : (o : Option TypeDef) → IsInteger o → (h : Host) × (stored_as o ≡ Some h)
-ordinal_if_integer o is = ordinal_of_family o (subst IsSome (sym is) tt)
+use Rattle.store_typing.proofs.operators.Stored.{wide, some_stored, ordinal_of_family, ordinal_if_integer}
 
 module _ (w : World) where
   -- ---- values by their kinds

@@ -26,7 +26,7 @@ use Rattle.store_typing.specs.stores.Worlds.{World, IsHeld}
 use Rattle.store_typing.specs.stores.Places.{IsAt, IsText}
 use Rattle.store_typing.specs.stores.Stores.{IsTypedStore, Finds}
 use Rattle.store_typing.proofs.stores.Paths.{finds_bind}
-use Rattle.store_typing.proofs.operators.Operators.{ordinal_if_integer}
+use Rattle.store_typing.proofs.operators.Stored.{ordinal_if_integer}
 use Rattle.store_typing.specs.standard.Operands.{IsOperand}
 use Rattle.store_typing.specs.standard.Laws.{IsTypedLater, IsSoundCall}
 use Rattle.store_typing.proofs.standard.Arguments.{NumberGiven, integer_given, text_given, integer_named, ordinal_named, text_named}

@@ -23,13 +23,12 @@ pub call-returns-in_err-admit : goal.call-returns-in_err-admit
 call-returns-in_err-admit t c =
     let program = view_program c.args.self.now in
     let choice = view_choice c.args.self.now in
-    let f = view_frame c.args.f.now in
     let s = view_run c.args.state.now in
     let again = run program choice in
     let key = view_callee c.args.callee in
     let unit = view_unit c.in-Some.unit.now in
     let r = view_routine c.in-Some-routine_of.routine.now in
-    let e = called-entered program choice again c.args.args.now c.args.wanted f s key unit r c.in-Some.ensures c.in-Some-routine_of.ensures in
+    let e = called-entered program choice again c.args.args.now c.args.wanted (view_frame c.args.f.now) s key unit r c.in-Some.ensures c.in-Some-routine_of.ensures in
     let p = err_from_is_err_and c.from_residual.result c.from_residual.ensures.1 in
     rw (p.1, p.2) (subst (Stops c.in_err-admit.field-0.0 s) (sym e) (c.in_err-admit.ensures.admitted again unit c.args.wanted))
 
@@ -43,15 +42,13 @@ pub call-returns : goal.call-returns
 call-returns t c =
     let program = view_program c.args.self.now in
     let choice = view_choice c.args.self.now in
-    let f = view_frame c.args.f.now in
     let s = view_run c.args.state.now in
     let again = run program choice in
     let key = view_callee c.args.callee in
     let unit = view_unit c.in-Some.unit.now in
     let r = view_routine c.in-Some-routine_of.routine.now in
-    let e = called-entered program choice again c.args.args.now c.args.wanted f s key unit r c.in-Some.ensures c.in-Some-routine_of.ensures in
-    let u = view_run c.activate.new.state in
-    subst (λ (o : Outcome). Passes c.activate.result u o) (sym (e ∙ c.in_ok-admit.ensures.admitted again unit c.args.wanted)) c.activate.ensures
+    let e = called-entered program choice again c.args.args.now c.args.wanted (view_frame c.args.f.now) s key unit r c.in-Some.ensures c.in-Some-routine_of.ensures in
+    subst (λ (o : Outcome). Passes c.activate.result (view_run c.activate.new.state) o) (sym (e ∙ c.in_ok-admit.ensures.admitted again unit c.args.wanted)) c.activate.ensures
 
 pub call_routine-returns-in_err-values : goal.call_routine-returns-in_err-values
 call_routine-returns-in_err-values t c =
@@ -62,9 +59,8 @@ call_routine-returns-in_err-values t c =
     let step = Call c.args.routine.unit c.args.routine.number (view_exprs c.args.args.now) c.args.wanted in
     let go : List ℕ → State → Outcome = λ values s. with_found (key_of f c.args.routine.unit c.args.routine.number) s (called program choice (run program choice) values c.args.wanted f s) in
     let alone = run-alone program choice step f s (begun (1 + exprs_size (view_exprs c.args.args.now)) s) refl in
-    let u = view_run c.prepare.new.state in
     let p = err_from_is_err_and c.from_residual.result c.from_residual.ensures.1 in
-    rw (p.1, p.2) (subst (Stops c.in_err-values.field-0.0 u) (sym alone) (c.in_err-values.ensures.leads go))
+    rw (p.1, p.2) (subst (Stops c.in_err-values.field-0.0 (view_run c.prepare.new.state)) (sym alone) (c.in_err-values.ensures.leads go))
 
 pub call_routine-returns-in_err-callee : goal.call_routine-returns-in_err-callee
 call_routine-returns-in_err-callee t c =
@@ -75,10 +71,9 @@ call_routine-returns-in_err-callee t c =
     let step = Call c.args.routine.unit c.args.routine.number (view_exprs c.args.args.now) c.args.wanted in
     let go : List ℕ → State → Outcome = λ values s. with_found (key_of f c.args.routine.unit c.args.routine.number) s (called program choice (run program choice) values c.args.wanted f s) in
     let alone = run-alone program choice step f s (begun (1 + exprs_size (view_exprs c.args.args.now)) s) refl in
-    let u = view_run c.prepare.new.state in
     let on : Key → State → Outcome = λ key s. called program choice (run program choice) c.in_ok-values.values.items c.args.wanted f s key in
     let p = err_from_is_err_and c.from_residual-in_err-callee.result c.from_residual-in_err-callee.ensures.1 in
-    rw (p.1, p.2) (subst (Stops c.in_err-callee.field-0.0 u) (sym (alone ∙ c.in_ok-values.ensures.leads go)) (c.in_err-callee.ensures on))
+    rw (p.1, p.2) (subst (Stops c.in_err-callee.field-0.0 (view_run c.prepare.new.state)) (sym (alone ∙ c.in_ok-values.ensures.leads go)) (c.in_err-callee.ensures on))
 
 pub call_routine-call-requires : goal.call_routine-call-requires
 call_routine-call-requires t c =
@@ -113,9 +108,8 @@ call_runtime-returns-in_err-values t c =
     let step = Runtime c.args.number (view_exprs c.args.args.now) c.args.wanted in
     let go : List ℕ → State → Outcome = λ values s. runtime_of program choice (run program choice) c.args.number values c.args.wanted f s in
     let alone = run-alone program choice step f s (begun (1 + exprs_size (view_exprs c.args.args.now)) s) refl in
-    let u = view_run c.prepare.new.state in
     let p = err_from_is_err_and c.from_residual.result c.from_residual.ensures.1 in
-    rw (p.1, p.2) (subst (Stops c.in_err-values.field-0.0 u) (sym alone) (c.in_err-values.ensures.leads go))
+    rw (p.1, p.2) (subst (Stops c.in_err-values.field-0.0 (view_run c.prepare.new.state)) (sym alone) (c.in_err-values.ensures.leads go))
 
 pub call_runtime-returns-then-number-lt5 : goal.call_runtime-returns-then-number-lt5
 call_runtime-returns-then-number-lt5 t c =
@@ -167,9 +161,8 @@ call_through-returns-in_err-values t c =
     let step = CallThrough c.args.pointer (view_exprs c.args.args.now) c.args.wanted in
     let go : List ℕ → State → Outcome = λ values s. with_found (pointer_at choice f s.cells c.args.pointer) s (λ p. with_some (choice.callee p) s (called program choice (run program choice) values c.args.wanted f s)) in
     let alone = run-alone program choice step f s (begun (1 + exprs_size (view_exprs c.args.args.now)) s) refl in
-    let u = view_run c.prepare.new.state in
     let p = err_from_is_err_and c.from_residual.result c.from_residual.ensures.1 in
-    rw (p.1, p.2) (subst (Stops c.in_err-values.field-0.0 u) (sym alone) (c.in_err-values.ensures.leads go))
+    rw (p.1, p.2) (subst (Stops c.in_err-values.field-0.0 (view_run c.prepare.new.state)) (sym alone) (c.in_err-values.ensures.leads go))
 
 pub call_through-returns-in_err-callee : goal.call_through-returns-in_err-callee
 call_through-returns-in_err-callee t c =
@@ -180,10 +173,9 @@ call_through-returns-in_err-callee t c =
     let step = CallThrough c.args.pointer (view_exprs c.args.args.now) c.args.wanted in
     let go : List ℕ → State → Outcome = λ values s. with_found (pointer_at choice f s.cells c.args.pointer) s (λ p. with_some (choice.callee p) s (called program choice (run program choice) values c.args.wanted f s)) in
     let alone = run-alone program choice step f s (begun (1 + exprs_size (view_exprs c.args.args.now)) s) refl in
-    let u = view_run c.prepare.new.state in
     let on : Key → State → Outcome = λ key s. called program choice (run program choice) c.in_ok-values.values.items c.args.wanted f s key in
     let p = err_from_is_err_and c.from_residual-in_err-callee.result c.from_residual-in_err-callee.ensures.1 in
-    rw (p.1, p.2) (subst (Stops c.in_err-callee.field-0.0 u) (sym (alone ∙ c.in_ok-values.ensures.leads go)) (c.in_err-callee.ensures on))
+    rw (p.1, p.2) (subst (Stops c.in_err-callee.field-0.0 (view_run c.prepare.new.state)) (sym (alone ∙ c.in_ok-values.ensures.leads go)) (c.in_err-callee.ensures on))
 
 pub call_through-call-requires : goal.call_through-call-requires
 call_through-call-requires t c =
@@ -261,7 +253,6 @@ choose-returns t c =
 
 pub repeat-returns-in_err-spend : goal.repeat-returns-in_err-spend
 repeat-returns-in_err-spend t c =
-    let program = view_program c.args.self.now in
     let choice = view_choice c.args.self.now in
     let f = view_frame c.args.f.now in
     let body = view_list c.args.body.now in
@@ -271,7 +262,7 @@ repeat-returns-in_err-spend t c =
     let u = view_run c.spend.new.self in
     let stop = c.in_err-spend.field-0.0 in
     let none = c.in_err-spend.ensures.err in
-    rw (p.1, p.2) (subst (Stops stop u) (sym c.rounds.invariant.again) (round-none program choice body f s s1 u stop c.in_ok-begin.ensures none.0 none.1 none.2))
+    rw (p.1, p.2) (subst (Stops stop u) (sym c.rounds.invariant.again) (round-none (view_program c.args.self.now) choice body f s s1 u stop c.in_ok-begin.ensures none.0 none.1 none.2))
 
 pub repeat-returns-in_err-flow : goal.repeat-returns-in_err-flow
 repeat-returns-in_err-flow t c =
@@ -279,13 +270,11 @@ repeat-returns-in_err-flow t c =
     let choice = view_choice c.args.self.now in
     let f = view_frame c.args.f.now in
     let body = view_list c.args.body.now in
-    let s = view_run c.rounds.state in
-    let s1 = view_run c.begin.new.self in
     let s2 = view_run c.spend.new.self in
     let s3 = view_run c.begin-in-rounds.new.self in
     let u = view_run c.run_list.new.state in
     let again : State → Outcome = run program choice (Loop body End) f in
-    let round = round-some program choice body f s s1 s2 s3 c.in_ok-begin.ensures c.in_ok-spend.ensures.ok c.in_ok-begin-2.ensures in
+    let round = round-some program choice body f (view_run c.rounds.state) (view_run c.begin.new.self) s2 s3 c.in_ok-begin.ensures c.in_ok-spend.ensures.ok c.in_ok-begin-2.ensures in
     let p = err_from_is_err_and c.from_residual-in_err-flow.result c.from_residual-in_err-flow.ensures.1 in
     let stop = c.in_err-flow.field-0.0 in
     rw (p.1, p.2) (subst (Stops stop u) (sym (c.rounds.invariant.again ∙ round)) (stops-looped stop u (run program choice body f s3) again c.in_err-flow.ensures))
@@ -296,14 +285,11 @@ repeat-returns-in-Some t c =
     let choice = view_choice c.args.self.now in
     let f = view_frame c.args.f.now in
     let body = view_list c.args.body.now in
-    let s = view_run c.rounds.state in
-    let s1 = view_run c.begin.new.self in
     let s2 = view_run c.spend.new.self in
     let s3 = view_run c.begin-in-rounds.new.self in
-    let u = view_run c.run_list.new.state in
     let again : State → Outcome = run program choice (Loop body End) f in
-    let round = round-some program choice body f s s1 s2 s3 c.in_ok-begin.ensures c.in_ok-spend.ensures.ok c.in_ok-begin-2.ensures in
-    c.rounds.invariant.again ∙ round ∙ ap (λ (o : Outcome). looped o again) c.in_ok-flow.ensures ∙ c.in-Some.ensures u again
+    let round = round-some program choice body f (view_run c.rounds.state) (view_run c.begin.new.self) s2 s3 c.in_ok-begin.ensures c.in_ok-spend.ensures.ok c.in_ok-begin-2.ensures in
+    c.rounds.invariant.again ∙ round ∙ ap (λ (o : Outcome). looped o again) c.in_ok-flow.ensures ∙ c.in-Some.ensures (view_run c.run_list.new.state) again
 
 pub repeat-rounds-smaller : goal.repeat-rounds-smaller
 repeat-rounds-smaller t c =
@@ -312,13 +298,10 @@ repeat-rounds-smaller t c =
     let f = view_frame c.args.f.now in
     let body = view_list c.args.body.now in
     let s = view_run c.rounds.state in
-    let s1 = view_run c.begin.new.self in
-    let s2 = view_run c.spend.new.self in
     let s3 = view_run c.begin-in-rounds.new.self in
-    let u = view_run c.run_list.new.state in
     let again : State → Outcome = run program choice (Loop body End) f in
-    let round = round-some program choice body f s s1 s2 s3 c.in_ok-begin.ensures c.in_ok-spend.ensures.ok c.in_ok-begin-2.ensures in
-    let fall = falls-flow program choice body f s3 u c.in_ok-flow.flow c.in_ok-flow.ensures in
+    let round = round-some program choice body f s (view_run c.begin.new.self) (view_run c.spend.new.self) s3 c.in_ok-begin.ensures c.in_ok-spend.ensures.ok c.in_ok-begin-2.ensures in
+    let fall = falls-flow program choice body f s3 (view_run c.run_list.new.state) c.in_ok-flow.flow c.in_ok-flow.ensures in
     let one = ap (λ (s : State). s.turns) c.in_ok-begin.ensures in
     let two = ap (λ (s : State). s.turns) c.in_ok-begin-2.ensures in
     omega (arith, fall, one, two, c.in_ok-spend.ensures.turn)
@@ -330,12 +313,10 @@ repeat-rounds-preserved t c =
     let f = view_frame c.args.f.now in
     let body = view_list c.args.body.now in
     let s = view_run c.rounds.state in
-    let s1 = view_run c.begin.new.self in
-    let s2 = view_run c.spend.new.self in
     let s3 = view_run c.begin-in-rounds.new.self in
     let u = view_run c.run_list.new.state in
     let again : State → Outcome = run program choice (Loop body End) f in
-    let round = round-some program choice body f s s1 s2 s3 c.in_ok-begin.ensures c.in_ok-spend.ensures.ok c.in_ok-begin-2.ensures in
+    let round = round-some program choice body f s (view_run c.begin.new.self) (view_run c.spend.new.self) s3 c.in_ok-begin.ensures c.in_ok-spend.ensures.ok c.in_ok-begin-2.ensures in
     let fall = falls-flow program choice body f s3 u c.in_ok-flow.flow c.in_ok-flow.ensures in
     let one = ap (λ (s : State). s.turns) c.in_ok-begin.ensures in
     let two = ap (λ (s : State). s.turns) c.in_ok-begin-2.ensures in
@@ -351,10 +332,9 @@ run_list-run_statement-requires t c =
     let f = view_frame c.args.f.now in
     let s = view_run c.statements.state in
     let list = c.args.list.now in
-    let i = c.statements.statement-index in
     let x = c.statement-item.result in
     let size = program_size (map view_unit c.args.self.now.units.now) in
-    let small = size-in list i x (omega arith) c.statement-item.is in
+    let small = size-in list c.statements.statement-index x (omega arith) c.statement-item.is in
     let less = no_more c.statements.state.turns c.args.state.now.turns size (code_size (view_stmt x End)) (code_size (view_list list) + 1) c.statements.invariant.turns (omega (arith, small)) in
     let h : turns_left c.statements.state.turns size + code_size (view_stmt x End) < t = omega (arith, less, c.decreases) in
     (h, tt)
@@ -380,30 +360,24 @@ run_list-returns-in-Left t c =
     let program = view_program c.args.self.now in
     let choice = view_choice c.args.self.now in
     let f = view_frame c.args.f.now in
-    let s = view_run c.statements.state in
     let list = c.args.list.now in
     let i = c.statements.statement-index in
-    let x = c.statement-item.result in
-    let u = view_run c.run_statement.new.state in
     let rest : State → Outcome = run program choice (view_list (drop (i + 1) list)) f in
-    let e = c.statements.invariant.rest ∙ list-step program choice list i x f s (omega arith) c.statement-item.is in
+    let e = c.statements.invariant.rest ∙ list-step program choice list i c.statement-item.result f (view_run c.statements.state) (omega arith) c.statement-item.is in
     let done = ap (λ (o : Outcome). and_then o rest) c.in_ok-flow.ensures in
-    e ∙ done ∙ ap (λ (flow : Flow). and_then (outcome_of flow u) rest) c.in-Left.is
+    e ∙ done ∙ ap (λ (flow : Flow). and_then (outcome_of flow (view_run c.run_statement.new.state)) rest) c.in-Left.is
 
 pub run_list-returns-in-Returned : goal.run_list-returns-in-Returned
 run_list-returns-in-Returned t c =
     let program = view_program c.args.self.now in
     let choice = view_choice c.args.self.now in
     let f = view_frame c.args.f.now in
-    let s = view_run c.statements.state in
     let list = c.args.list.now in
     let i = c.statements.statement-index in
-    let x = c.statement-item.result in
-    let u = view_run c.run_statement.new.state in
     let rest : State → Outcome = run program choice (view_list (drop (i + 1) list)) f in
-    let e = c.statements.invariant.rest ∙ list-step program choice list i x f s (omega arith) c.statement-item.is in
+    let e = c.statements.invariant.rest ∙ list-step program choice list i c.statement-item.result f (view_run c.statements.state) (omega arith) c.statement-item.is in
     let done = ap (λ (o : Outcome). and_then o rest) c.in_ok-flow.ensures in
-    e ∙ done ∙ ap (λ (flow : Flow). and_then (outcome_of flow u) rest) c.in-Returned.is
+    e ∙ done ∙ ap (λ (flow : Flow). and_then (outcome_of flow (view_run c.run_statement.new.state)) rest) c.in-Returned.is
 
 pub run_list-statements-preserved : goal.run_list-statements-preserved
 run_list-statements-preserved t c =
@@ -454,23 +428,17 @@ run_statement-repeat-requires t c =
 
 pub run_statement-returns-in-If : goal.run_statement-returns-in-If
 run_statement-returns-in-If t c =
-    let program = view_program c.args.self.now in
-    let choice = view_choice c.args.self.now in
-    let f = view_frame c.args.f.now in
     let s = view_run c.args.state.now in
     let is = ap (λ (x : FlatStmt). view_stmt x End) c.in-If.is ∙ view_if c.in-If.test c.in-If.yes c.in-If.no in
     let first = ap view_list (sym c.as_slice.ensures.value) in
     let second = ap view_list (sym c.as_slice-in-If.ensures.value) in
     let whole = is ∙ ap (λ (code : Code). If (view_expr c.in-If.test) code (view_list c.in-If.no.items) End) first ∙ ap (λ (code : Code). If (view_expr c.in-If.test) (view_list c.as_slice.result.now) code End) second in
     let u = view_run c.choose.new.state in
-    subst (λ (code : Code). Flows c.choose.result u (run program choice code f s)) (sym whole) c.choose.ensures
+    subst (λ (code : Code). Flows c.choose.result u (run (view_program c.args.self.now) (view_choice c.args.self.now) code (view_frame c.args.f.now) s)) (sym whole) c.choose.ensures
 
 pub run_statement-returns-in-Loop : goal.run_statement-returns-in-Loop
 run_statement-returns-in-Loop t c =
-    let program = view_program c.args.self.now in
-    let choice = view_choice c.args.self.now in
-    let f = view_frame c.args.f.now in
     let s = view_run c.args.state.now in
     let whole = ap (λ (x : FlatStmt). view_stmt x End) c.in-Loop.is ∙ view_loop c.in-Loop.body ∙ ap (λ (code : Code). Loop code End) (ap view_list (sym c.as_slice-in-Loop.ensures.value)) in
     let u = view_run c.repeat.new.state in
-    subst (λ (code : Code). Flows c.repeat.result u (run program choice code f s)) (sym whole) c.repeat.ensures
+    subst (λ (code : Code). Flows c.repeat.result u (run (view_program c.args.self.now) (view_choice c.args.self.now) code (view_frame c.args.f.now) s)) (sym whole) c.repeat.ensures
