@@ -1,0 +1,3 @@
+pub mod Farness
+pub mod Limits
+pub mod Lowerable
