@@ -19,7 +19,9 @@ const MOST_AROUND: u32 = 15;
 fn are_dispatchable(units: &[Unit], unit: &Unit, methods: &[Method]) -> bool
     ensures { result ≡ list_all (is_dispatchable units.now unit.now) methods.now }
 {
-    methods.iter().all(|method| is_dispatchable(units, unit, method))
+    methods
+        .iter()
+        .all(|method| is_dispatchable(units, unit, method))
 }
 
 fn has_far_methods(units: &[Unit], unit: &Unit, ty: &TypeDef) -> bool

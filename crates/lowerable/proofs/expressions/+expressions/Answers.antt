@@ -1,4 +1,4 @@
-use Rattle.std.proofs.Common.{◌≡◌, true, sym, ap, ◌∙◌}
+use Rattle.std.proofs.Common.{sym, ap, ◌∙◌}
 use Rattle.typed_tree.specs.declared.expressions.Expr.{Expr}
 use Rattle.typed_tree.specs.Expressions.{view_expr, view_place, view_receiver, view_args}
 use Rattle.lowerable.specs.Farness.{is_callable, is_linkable, is_linkable_place, is_linkable_receiver, are_linkable}

@@ -1,4 +1,4 @@
-use Rattle.std.proofs.Common.{◌≡◌, Bool, true, false, sym, ◌∙◌, arith}
+use Rattle.std.proofs.Common.{Bool, true, false, sym, ◌∙◌, arith}
 use Rattle.typed_tree.specs.declared.units.Routine.{Routine}
 use Rattle.lowerable.specs.Lowerable.{is_lowerable_routine}
 use Rattle.lowerable.proofs.Lists.{all_turns, all_end}

@@ -1,4 +1,4 @@
-use Rattle.std.proofs.Common.{◌≡◌, Bool, true, false, sym, ap, ◌∙◌, Option, arith}
+use Rattle.std.proofs.Common.{Bool, true, false, sym, ap, ◌∙◌, Option, arith}
 use Rattle.std.specs.Option.{option_map_or}
 use Rattle.type_layout.specs.declared.definitions.TypeDef.{TypeDef}
 use Rattle.lowerable.specs.Farness.{has_far_methods}
