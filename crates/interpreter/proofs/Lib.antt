@@ -3,6 +3,7 @@ pub mod SpentCalls
 pub mod Entered
 pub mod Counting
 pub mod Parts
+pub mod Measured
 pub mod Makes
 pub mod Steps
 pub mod Starts

@@ -85,8 +85,11 @@ fn loaded_from<'a>(one: &'a Arg) -> Option<&'a PlaceExpr>
     ensures { (p : Program) (again : Runs) (f : PureActivation) (other : Does PureValue) → measured p again f routine.length (view_arg one.now NoArguments) other ≡ measured_at p again f (option_map view_place (option_copied result)) other }
 {
     match one {
-        Arg::Value(Expr::Load { place, .. }) => Some(place),
-        _ => None,
+        Arg::Value(e) => match e {
+            Expr::Load { place, .. } => Some(place),
+            _ => None,
+        },
+        Arg::Place(_) => None,
     }
 }
 
@@ -95,6 +98,7 @@ fn variable_measured<'a>(number: u32, args: &'a [Arg]) -> Option<&'a PlaceExpr>
     ensures { (p : Program) (again : Runs) (f : PureActivation) (other : Does PureValue) → measured p again f number (view_args args.now) other ≡ measured_at p again f (option_map view_place (option_copied result)) other }
 {
     match args {
+        [] => None,
         [one] => {
             if number == LENGTH {
                 loaded_from(one)
@@ -102,7 +106,7 @@ fn variable_measured<'a>(number: u32, args: &'a [Arg]) -> Option<&'a PlaceExpr>
                 None
             }
         }
-        _ => None,
+        [_, _, ..] => None,
     }
 }
 

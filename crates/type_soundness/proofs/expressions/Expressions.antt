@@ -227,16 +227,17 @@ module _ (program : Program) (well : IsWellTyped program) (again : Runs) (sound 
     measured_ends : (made : List Made) (n : ℕ) (slots : List Slot) (outcome : Result) (ty : Option TypeId) (args : Arguments) (other : Does Value) → IsStandard n slots outcome → IsGiven f.unit.types.types outcome ty args
         → (h : FillEach scope slots args) → RefersFilled site scope slots args h → (s : State) → Body made → IsTyped' made s → Ends (world program made) (GivesAs f.unit ty) (other s)
         → Ends (world program made) (GivesAs f.unit ty) (measured program again f n args other s)
-    measured_ends made n (slot ∷ slots) outcome ty (ByValue (Load t from) NoArguments) other std gives h r s k typed general = by (n == routine.length) refl where
-      by : (test : Bool) → (n == routine.length) ≡ test → Ends (world program made) (GivesAs f.unit ty) ((if test then (place program again f from >>= λ at. looked (length_held at)) else other) s)
-      by false e = general
-      by true e =
+    measured_ends made n (slot ∷ slots) outcome ty (ByValue (Load t from) NoArguments) other std gives h r s k typed general = by (n == routine.length) refl (place_ends made from t h.0.1 r.0 s k typed) where
+      by : (test : Bool) → (n == routine.length) ≡ test → Ends (world program made) (PlaceAt (sort_at t)) (place program again f from s)
+          → Ends (world program made) (GivesAs f.unit ty) ((if test then (place program again f from >>= λ at. looked (length_held at)) else other) s)
+      by false e at = general
+      by true e at =
           let same = length_slots program well.agreed n (slot ∷ slots) outcome std (same_number n routine.length e) in
           let text : slot ≡ TextSlot = same_head slot TextSlot slots [] same.0 in
           length_ends program well.agreed made f.unit (sort_at t) ty (ByValue (Load t from) NoArguments) (place program again f from s)
           (subst (λ (x : Slot). FitsValue x (definition (sort_at t))) text h.1)
           (subst (λ (x : Result). IsGiven f.unit.types.types x ty (ByValue (Load t from) NoArguments)) same.1 gives)
-          (place_ends made from t h.0.1 r.0 s k typed)
+          at
     measured_ends made n [] outcome ty (ByValue one rest) other std gives h r s k typed general = absurd h
     measured_ends made n slots outcome ty args other std gives h r s k typed general = general
 
