@@ -18,7 +18,7 @@ use Rattle.program_typing.specs.typed_tree.type_fits.Fits.{stored_as, held_as, I
 use Rattle.program_typing.specs.typed_tree.type_fits.Fits.{definition as definition_in}
 use Rattle.program_typing.specs.typed_tree.type_fits.Standard.{sort_of, Slot, Text as TextSlot, Outcome as Result, Nothing, Wide, Holding, Alike, Truth, Letter, Byte, Small, Size, Line, Link, HoldsAll, HoldsValue, HoldsFirst, IsLikeFirst, Gives as IsGiven, IsStandard, abs, sqr, odd, ord, chr, succ, pred, inc, inc_by, dec, dec_by, hi, lo, swap, size, up_case, length_of, copy, delete, insert, concat, position, text, text_in, number, end_of_file, end_of_line, new, new_block, dispose}
 use Rattle.program_typing.specs.typed_tree.Standard as routine
-use Rattle.program_typing.specs.tp_meaning.Trees.{Value, Ordinal, Block, Void}
+use Rattle.program_typing.specs.tp_meaning.Trees.{Value, Block, Void}
 use Rattle.program_typing.specs.tp_meaning.Programs.{Sort, definition, beside, sort_in, class_key}
 use Rattle.program_typing.specs.tp_meaning.Outcomes.{State, Outcome, and_then, ◌>>=◌, give, known, found, looked, changed}
 use Rattle.program_typing.specs.tp_meaning.Activations.{Reached, length_held}

@@ -7,7 +7,7 @@ use Rattle.program_typing.specs.type_layout.declared.definitions.TypeDef.TheVari
 use Rattle.program_typing.specs.type_layout.Layouts.{bounds_of}
 use Rattle.program_typing.specs.type_layout.Storage.{holds}
 use Rattle.program_typing.specs.typed_tree.type_fits.Fits.{stored_as, held_as, family_of, IsSome}
-use Rattle.program_typing.specs.tp_meaning.Trees.{Value, Ordinal}
+use Rattle.program_typing.specs.tp_meaning.Trees.{Value}
 use Rattle.program_typing.specs.tp_meaning.Found.{Found}
 use Rattle.program_typing.specs.tp_meaning.Store.{Store, number_of}
 use Rattle.program_typing.specs.tp_meaning.Programs.{Sort, definition}
