@@ -68,17 +68,17 @@ module _ (types : List TypeDef) (place : Place) where
   abbrev truth_of : BinaryOp → Sort → Constant → Constant → Constant
   truth_of one s a b = values.truth (cond (values.related (operation_of one) one s a.value b.value) (pos 1) (pos 0))
 
-  lawful_allowed : (one : BinaryOp) (s t : Sort) (a b : Constant)
-      → Lawful (either (compares (operation_of one)) (makes (truth_of one s a b)) (combined_values place one s (base_in s) a b))
-  lawful_allowed one s t a b =
+  lawful_allowed : (one : BinaryOp) (s : Sort) (a b : Constant) → Lawful (values.allowed place one s a b)
+  unfolding values.allowed
+  lawful_allowed one s a b =
       lawful_either (compares (operation_of one)) (makes (truth_of one s a b)) (combined_values place one s (base_in s) a b) (lawful_makes _) (lawful_values one s (base_in s) a b)
 
   lawful_by : (one : BinaryOp) (s t : Sort) (a b : Constant) → Lawful (combined_by place one s t a b)
   lawful_by one s t a b =
       lawful_part (rule (broken place (rule_of (operation_of one) s t)) (allows (operation_of one) s t) (Asks (operation_of one) s t) tt)
-      (λ u. either (compares (operation_of one)) (makes (truth_of one s a b)) (combined_values place one s (base_in s) a b))
+      (λ u. values.allowed place one s a b)
       (lawful_rule (broken place (rule_of (operation_of one) s t)) (allows (operation_of one) s t) (Asks (operation_of one) s t) tt (tells_allowed (operation_of one) s t))
-      (λ u. lawful_allowed one s t a b)
+      (λ u. lawful_allowed one s a b)
 
   lawful_combined : (one : BinaryOp) (a b : Constant) → Lawful (values.combined types place one a b)
   unfolding values.combined

@@ -165,7 +165,7 @@ abbrev pub values_relate : BinaryOp → Sort → Option SetBase → Value → Va
 values_relate one s (Some base) a b = sets_relate one (elements_of a) (elements_of b)
 values_relate one s None a b = cond (is_text s) (relates one (compared (bytes_of a) (bytes_of b))) (relates one (int_cmp (number_of a) (number_of b)))
 
-abbrev pub related : Operation → BinaryOp → Sort → Value → Value → Bool
+unfoldable pub related : Operation → BinaryOp → Sort → Value → Value → Bool
 related operation.Membership one s a b = is_member (elements_of b) (number_of a)
 related _ one s a b = values_relate one s (base_in s) a b
 
@@ -184,10 +184,14 @@ combined_values place one s (Some base) a b = makes (sets_combined one base a b)
 combined_values place one s None a b =
     either (is_text s) (makes (text (joined (bytes_of a.value) (bytes_of b.value)))) (numbered place s (computed one (taken s (number_of a.value)) (taken s (number_of b.value))))
 
+-- what an operator that is allowed makes: a truth where it compares, else a value of its operands' sort
+unfoldable pub allowed : Place → BinaryOp → Sort → Constant → Constant → Judgement Constant
+allowed place one s a b =
+    either (compares (operation_of one)) (makes (truth (cond (related (operation_of one) one s a.value b.value) (pos 1) (pos 0)))) (combined_values place one s (base_in s) a b)
+
 abbrev pub combined_by : Place → BinaryOp → Sort → Sort → Constant → Constant → Judgement Constant
 combined_by place one s t a b =
-    asking (rule (broken place (rule_of (operation_of one) s t)) (allows (operation_of one) s t) (Asks (operation_of one) s t) tt)
-    (either (compares (operation_of one)) (makes (truth (cond (related (operation_of one) one s a.value b.value) (pos 1) (pos 0)))) (combined_values place one s (base_in s) a b))
+    asking (rule (broken place (rule_of (operation_of one) s t)) (allows (operation_of one) s t) (Asks (operation_of one) s t) tt) (allowed place one s a b)
 
 -- An operator at a place: its rule on types holds, and no divisor is 0.
 unfoldable pub combined : List TypeDef → Place → BinaryOp → Constant → Constant → Judgement Constant

@@ -2,7 +2,7 @@
 
 ghost use Rattle.std.specs.Prelude.{◌≡◌, Ok, Some, IfOk};
 ghost use Rattle.typing_rules.specs.Judgements.{Gives};
-ghost use Rattle.constant_checker.specs.constant_expressions.Values.{itself, text, bytes_of, taken, computed, compares, elements_of, base_in, elements_combined, sets_combined, is_equal, is_less, relates, sets_relate, values_relate, related, of_sort, numbered, combined_values, combined, signed, turned, negated};
+ghost use Rattle.constant_checker.specs.constant_expressions.Values.{itself, text, bytes_of, taken, computed, compares, elements_of, base_in, elements_combined, sets_combined, is_equal, is_less, relates, sets_relate, values_relate, related, of_sort, numbered, combined_values, allowed, combined, signed, turned, negated};
 ghost use Rattle.typing_rules.specs.Plans.{set_type};
 ghost use Rattle.common_values.specs.Strings.{joined, compared as order_of};
 
@@ -227,6 +227,7 @@ fn values_relate(
     }
 }
 
+#[tactic(auto, unfolding(crate::specs::constant_expressions::Values::related))]
 fn related(
     alloc: Global,
     operation: Operation,
@@ -264,6 +265,26 @@ fn combined_values(
     }
 }
 
+// What an operator makes whose operands are allowed.
+#[tactic(auto, unfolding(crate::specs::constant_expressions::Values::allowed))]
+fn allowed(
+    alloc: Global,
+    place: Place,
+    op: BinaryOp,
+    sort: Sort,
+    left: &Constant,
+    right: &Constant,
+) -> Result<Constant, Refusal>
+    ensures { Gives itself result (allowed place op sort left.now right.now).run }
+{
+    let operation = operation_of(op);
+    if compares(operation) {
+        let holds = related(alloc, operation, op, sort, &left.value, &right.value)?;
+        return Ok(truth(if holds { 1 } else { 0 }));
+    }
+    combined_values(alloc, place, op, sort, left, right)
+}
+
 /// An operator at a place with two constants.
 #[tactic(auto, unfolding(crate::specs::constant_expressions::Values::combined))]
 pub(crate) fn combined(
@@ -283,11 +304,7 @@ pub(crate) fn combined(
         let rule = rule_of(operation, first, second);
         return Err(Refusal::Because(broken(place, rule)));
     }
-    if compares(operation) {
-        let holds = related(alloc, operation, op, first, &left.value, &right.value)?;
-        return Ok(truth(if holds { 1 } else { 0 }));
-    }
-    combined_values(alloc, place, op, first, &left, &right)
+    allowed(alloc, place, op, first, &left, &right)
 }
 
 /// A sign at a place.

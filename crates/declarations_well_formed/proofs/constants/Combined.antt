@@ -251,7 +251,7 @@ module _ (types : List TypeDef) (sound : IsSound types) (place : Place) where
     by_base one s t left right None is h e = by_text one s t a b c ga gb (is_text s) refl is h e
 
     pub combined_good : (one : BinaryOp) → (combined types place one a b).holds c → IsGood types c
-    unfolding combined
+    unfolding combined values.allowed
     combined_good one e =
         let s = sort_of_constant types a.ty a.value in
         let t = sort_of_constant types b.ty b.value in

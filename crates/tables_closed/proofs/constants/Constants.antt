@@ -150,6 +150,7 @@ module _ (n : ℕ) where
         (λ same. same_constant c all same (omega arith)) (λ held. numbered_below place s m c held) e
 
     by_below : (place : Place) (one : BinaryOp) (s t : Sort) (a b c : Constant) → IsBelow a → IsBelow b → (combined_by place one s t a b).holds c → IsBelow c
+    unfolding values.allowed
     by_below place one s t a b c h k e =
         let holds = values.truth (cond (values.related (operation_of one) one s a.value b.value) (pos 1) (pos 0)) in
         either_way (compares (operation_of one)) (makes holds) (combined_values place one s (base_in s) a b)
