@@ -1,8 +1,0 @@
-use Rattle.std.proofs.Common.{◌≡◌, take}
-use Rattle.std.specs.List.{sum_by}
-use Rattle.typed_tree.specs.Frames.{even_size}
-use Rattle.lower_places.specs.Slots.{few}
-use Rattle.lower_places.proofs.frames.variables_bytes.Given as goal
-
-abbrev pub invariant-loop-ty : goal.invariant-loop-ty
-invariant-loop-ty l = l.sum ≡ few (sum_by (even_size l.types.types) (take l.ty-index l.variables))
