@@ -78,7 +78,10 @@ fn takes_its_options_in_any_order_and_once(rt: HostRuntime) -> Result<(), Fail> 
 }
 
 /// The number of the output's call that fails, the exit status, and what the output and the errors took.
-const TEXT_ROWS: [FaultRow; 2] = [(0, 0, "tp 0.1, proved and built by rattle-kit-13f\n", ""), (1, 254, "", "tp: OutputFault\n")];
+const TEXT_ROWS: [FaultRow; 2] = [
+    (0, 0, "tp 0.1, proved and built by rattle-kit-13f\n", ""),
+    (1, 254, "", "tp: OutputFault\n"),
+];
 
 fn is_told(alloc: Global, row: &FaultRow) -> Result<bool, AllocError> {
     let (output, status, taken, told) = *row;

@@ -158,6 +158,7 @@ module _ (unit : List ℕ) (site : Site) (s : Stage) (frames : List Frame) (at :
 
     same_type : (ty : TypeId) → ty.0 < length before.scope.types.types → definition q.scope.types.types ty ≡ definition before.scope.types.types ty
     same_type ty low = ap (λ (types : List TypeDef). definition types ty) types_are ∙ slice_get-append before.scope.types.types back ty.0 low
+
     owner_kept : (o : Option TypeId) → IsOwner old o → IsOwner new o
     owner_kept None h = tt
     owner_kept (Some ty) h =
@@ -290,6 +291,7 @@ module _ (unit : List ℕ) (site : Site) (s : Stage) (frames : List Frame) (at :
             let top : level ≡ suc (length (numbers_of rest)) = (let c = length-map rest (λ (x : Frame). x.number) in let l = k.0 in omega (arith, c, l, depth_is)) in
             subst (λ (n : ℕ). IsVariableIn (scope_of after (frame one.number q.locals ∷ rest)) (one.number ∷ numbers_of rest) n 0 number ty) (sym top)
             (record { routine = one.number; opened = at_top one.number (numbers_of rest); one = having q.locals bare.0; is = there; variable = variable })
+
     variable_known : (level number : ℕ) (ty : TypeId) → ((level ≡ 0) × IsGlobalOf q.globals number ty) ⊎ IsOwnOf site.home q.locals level number ty → IsVariableIn new around level 0 number ty
     variable_known level number ty (inl h) = subst (λ (n : ℕ). IsVariableIn new around n 0 number ty) (sym h.0) (global_known number ty h.1)
     variable_known level number ty (inr h) = local_known level number ty h
