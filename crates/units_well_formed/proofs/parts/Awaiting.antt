@@ -52,7 +52,7 @@ pub record Awaits (unit : List ℕ) (number : ℕ) (g h : Environment) (news : L
 
 pub nothing_at : {A : Type 0} → (place : ℕ) (one : A) → slice_get [] place ≡ Some one → ⊥
 nothing_at zero one e = let bad : ⊥ = cc in bad
-pub nothing_at (suc place) one e = let bad : ⊥ = cc in bad
+nothing_at (suc place) one e = let bad : ⊥ = cc in bad
 
 -- ---- no object types
 
