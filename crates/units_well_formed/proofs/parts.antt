@@ -1,10 +1,12 @@
 pub mod Tables
 pub mod Methods
+pub mod Awaiting
 pub mod Objects
 pub mod Rows
 pub mod Closed
 pub mod Trees
 pub mod Names
+pub mod Steps
 pub mod Joined
 pub mod Kept
 pub mod Below

@@ -1,9 +1,6 @@
 -- What is known stays known behind a part, where what it declares is well formed.
-use Rattle.std.proofs.Common.{◌≡◌, ◌⊎◌, inl, inr, ℕ, zero, suc, ◌+◌, ◌<◌, ◌≤◌, Bool, true, cond, All, List, [], ◌∷◌, ◌++◌, length, map, get_or, Option, Some, None, refl, sym, subst, ap, ◌∙◌, arith, length-append, append-nil}
+use Rattle.std.proofs.Common.{◌≡◌, ◌⊎◌, inl, inr, ℕ, zero, suc, ◌+◌, ◌<◌, ◌≤◌, List, [], ◌∷◌, ◌++◌, length, map, Option, Some, None, refl, sym, subst, ap, ◌∙◌, arith, length-append, append-nil}
 use Rattle.std.specs.Prelude.{ℤ, slice_get, ◌^◌, option_map}
-use Rattle.std.specs.Cmp.Lexicographic.{bytes_decides}
-use Rattle.std.proofs.lemmas.Bool.{lt-ltb}
-use Rattle.std.proofs.Math.Nat.{min-eq_left}
 use Rattle.std.proofs.lemmas.List.{length-map}
 use Rattle.std.proofs.lemmas.Option.{slice_get_within}
 use Rattle.std.proofs.lemmas.List.Elements.{All-weaker}
@@ -15,18 +12,17 @@ use Rattle.declarations_well_formed.specs.type_layout.declared.definitions.Heade
 use Rattle.declarations_well_formed.specs.type_layout.declared.definitions.Method.{Method}
 use Rattle.declarations_well_formed.specs.type_layout.declared.definitions.TypeDef.{TypeDef}
 use Rattle.declarations_well_formed.specs.type_layout.declared.definitions.TypeDef.TheVariants as type
-use Rattle.declarations_well_formed.specs.type_layout.Words.{same_bytes}
+use Rattle.declarations_well_formed.proofs.type_layout_proofs.Local.{slice_get-append}
 use Rattle.declarations_well_formed.specs.typed_tree.declared.units.Global.{Global}
 use Rattle.declarations_well_formed.specs.typed_tree.declared.units.Routine.{Routine}
 use Rattle.declarations_well_formed.specs.typed_tree.type_fits.Fits.{definition, IsSome, IsObject, shape_of}
 use Rattle.declarations_well_formed.specs.typed_tree.type_fits.Routines.{listed, variables_of}
-use Rattle.declarations_well_formed.specs.well_formed.Scopes.{prototype, Scope, HasRoutine, IsRoutineAt}
+use Rattle.declarations_well_formed.specs.well_formed.Scopes.{Scope, HasRoutine, IsRoutineAt}
 use Rattle.declarations_well_formed.specs.well_formed.WellFormed.{IsOwner}
 use Rattle.declarations_well_formed.specs.scopes.declared.entries.Entry.{Entry}
 use Rattle.declarations_well_formed.specs.scopes.declared.entries.Entry.TheVariants as entry
-use Rattle.declarations_well_formed.specs.scopes.Symbols.{SymbolList}
 use Rattle.declarations_well_formed.specs.scopes.Members.{narrow}
-use Rattle.declarations_well_formed.specs.scopes.Environment.{Environment, with_name}
+use Rattle.declarations_well_formed.specs.scopes.Environment.{Environment}
 use Rattle.declarations_well_formed.specs.unit_interface.Exports.{with_type}
 use Rattle.declarations_well_formed.specs.call_rules.method_rules.Slots.{methods_of}
 use Rattle.declarations_well_formed.specs.call_rules.method_rules.Methods.{unit_at, routine_of, routine_in}
@@ -38,7 +34,7 @@ use Rattle.declarations_well_formed.specs.tp_check_decl.routines.Drafts.{Done, N
 use Rattle.declarations_well_formed.specs.tp_check_decl.routines.Methods.{method_announced, awaiting}
 use Rattle.declarations_well_formed.specs.rules_well_formed.nodes.Tables.{IsInTable, IsResultIn, IsHeaderIn, NamesWithin}
 use Rattle.declarations_well_formed.specs.rules_well_formed.methods.Declared.{IsMethod, HasMethods}
-use Rattle.declarations_well_formed.specs.well_formed.weakening.Weakening.{IsSame, AreAmong}
+use Rattle.declarations_well_formed.specs.well_formed.weakening.Weakening.{AreAmong}
 use Rattle.declarations_well_formed.specs.tables_closed.constants.Ordered.{IsOrdered}
 use Rattle.declarations_well_formed.specs.tables_closed.constants.Bounds.{AreBelow}
 use Rattle.declarations_well_formed.specs.bodies_well_formed.other_units.Known.{open_in, AreNested, IsVariableIn, IsEntry, EachIn, IsPlaced, AreKnown}
@@ -55,24 +51,11 @@ use Rattle.units_well_formed.proofs.routines.Steps.{extends_itself, extends_on, 
 use Rattle.units_well_formed.proofs.routines.Kept.{behind_kept}
 use Rattle.declarations_well_formed.specs.values.Values.{IsGivenIn, Gives}
 use Rattle.units_well_formed.proofs.parts.Methods.{some_at}
-use Rattle.units_well_formed.proofs.parts.Objects.{Awaits, nothing_at, joined_at, behind_at, some_object}
+use Rattle.units_well_formed.proofs.parts.Awaiting.{Awaits, nothing_at, joined_at, behind_at, some_object}
+use Rattle.units_well_formed.proofs.parts.Steps.{all_at, exact, where_class, few_listed, units_same, used_same, own_unit, method_same, own_kept}
 use Rattle.units_well_formed.proofs.parts.Rows.{in_more, global_more, globals_at, types_at, HasRows}
 use Rattle.units_well_formed.proofs.parts.Trees.{get_front, global_at, trees_more, trees_back, extends_inner, extends_part, at_top, local_at}
 use Rattle.units_well_formed.proofs.parts.Names.{names_open, names_known, names_each, names_bottom, each_for}
-
--- ---- lists
-
-get_some : {A : Type 0} → (xs : List A) (k : ℕ) (x d : A) → slice_get xs k ≡ Some x → get_or xs k d ≡ x
-get_some [] zero x d e = let bad : ⊥ = cc in absurd bad
-get_some [] (suc k) x d e = let bad : ⊥ = cc in absurd bad
-get_some (y ∷ xs) zero x d e = cc
-get_some (y ∷ xs) (suc k) x d e = get_some xs k x d e
-
-all_at : {A : Type 0} → (P : A → Type 0) (xs : List A) (k : ℕ) (x : A) → All P xs → slice_get xs k ≡ Some x → P x
-all_at P xs k x h e = subst P (get_some xs k x x e) (h k x (slice_get_within xs k x e))
-
-exact : (n : ℕ) → n < 2 ^ 32 → narrow n ≡ n
-exact n h = let low : n ≤ 4294967295 = omega (arith, h) in min-eq_left low
 
 -- ---- one part
 
@@ -111,16 +94,8 @@ module _ (unit : List ℕ) (site : Site) (s : Stage) (frames : List Frame) (at :
     old_types : old.types ≡ before.scope.types.types
     old_types = read.known.has.types
 
-    units_same : (g : Environment) (names : SymbolList) → (with_names g names).units ≡ g.units
-    units_same g [] = refl
-    units_same g (one ∷ rest) = units_same (with_name g one.0 one.1) rest
-
     units_are : q.scope.units ≡ before.scope.units
     units_are = ap (λ (g : Environment). g.units) gives.whole ∙ units_same (typing before.scope q.scope.types) gives.names
-
-    used_same : (g : Environment) (names : SymbolList) → (with_names g names).used ≡ g.used
-    used_same g [] = refl
-    used_same g (one ∷ rest) = used_same (with_name g one.0 one.1) rest
 
     -- what is supposed of other units
     others_more : AreAmong (others_of before.scope) (others_of q.scope)
@@ -182,12 +157,7 @@ module _ (unit : List ℕ) (site : Site) (s : Stage) (frames : List Frame) (at :
     }
 
     same_type : (ty : TypeId) → ty.0 < length before.scope.types.types → definition q.scope.types.types ty ≡ definition before.scope.types.types ty
-    same_type ty low = ap (λ (types : List TypeDef). definition types ty) types_are ∙ front_at before.scope.types.types ty.0 low
-      where
-        front_at : (types : List TypeDef) (k : ℕ) → k < length types → slice_get (types ++ back) k ≡ slice_get types k
-        front_at [] k h = absurd (omega (arith, h))
-        front_at (one ∷ types) zero h = refl
-        front_at (one ∷ types) (suc k) h = front_at types k (omega (arith, h))
+    same_type ty low = ap (λ (types : List TypeDef). definition types ty) types_are ∙ slice_get-append before.scope.types.types back ty.0 low
 
     owner_kept : (o : Option TypeId) → IsOwner old o → IsOwner new o
     owner_kept None h = tt
@@ -208,35 +178,11 @@ module _ (unit : List ℕ) (site : Site) (s : Stage) (frames : List Frame) (at :
 
     -- ---- methods
 
-    where_class : (n m : ℕ) → (n < m) ⊎ (m ≤ n)
-    where_class n zero = inr (omega arith)
-    where_class zero (suc m) = inl (omega arith)
-    where_class (suc n) (suc m) = next (where_class n m)
-      where
-        next : (n < m) ⊎ (m ≤ n) → (suc n < suc m) ⊎ (suc m ≤ suc n)
-        next (inl f) = inl (omega (arith, f))
-        next (inr f) = inr (omega (arith, f))
-
-    method_same : (class : TypeId) (header : Header) (one other : Routine) → IsSame one other → IsMethod class header (prototype one) → IsMethod class header (prototype other)
-    method_same class header one other k h = record {
-      owned = sym k.owner ∙ h.owned;
-      same = record { kind = h.same.kind ∙ ap (λ (x : Header). x.kind) k.header; params = h.same.params ∙ ap (λ (x : Header). map shape_of x.params) k.header; result = h.same.result ∙ ap (λ (x : Header). x.result) k.header };
-    }
-
     routine_kept : (class : TypeId) (header : Header) (u number : ℕ) → IsRoutineAt (IsMethod class header) old u number → IsRoutineAt (IsMethod class header) new u number
     routine_kept class header zero number h =
         let it = grows.routines number h.0 h.1 in
         (it.0, it.1, method_same class header h.0 it.0 it.2.same h.2)
     routine_kept class header (suc u) number h = (h.0, grows.others.routines _ h.1, h.2)
-
-    -- the unit itself is the first that is named
-    own_unit : (units : List (List ℕ)) → slice_get units 0 ≡ Some unit → unit_at units (Some unit) ≡ Some 0
-    own_unit [] e = let bad : ⊥ = cc in absurd bad
-    own_unit (first ∷ rest) e =
-        let same : first ≡ unit = cc in
-        let yes : same_bytes unit first ≡ true = (bytes_decides unit first).1 (sym same) in
-        let some = lt-ltb 0 (suc (length rest)) (omega arith) in
-        rw yes (ap (λ (b : Bool). option_map narrow (cond b (Some 0) None)) some)
 
     has_methods : HasMethods (typing before.scope q.scope.types) new
     has_methods = record {
@@ -265,7 +211,7 @@ module _ (unit : List ℕ) (site : Site) (s : Stage) (frames : List Frame) (at :
                 let await = it.0 in
                 let none : routine_in (typing before.scope q.scope.types) method.routine ≡ Some (routine_of method.routine.number 0) =
                 ap (λ (o : Option (List ℕ)). option_map (routine_of method.routine.number) (unit_at before.scope.units o)) it.1
-                ∙ ap (λ (o : Option ℕ). option_map (routine_of method.routine.number) o) (own_unit before.scope.units at.named) in
+                ∙ ap (λ (o : Option ℕ). option_map (routine_of method.routine.number) o) (own_unit unit before.scope.units at.named) in
                 let is : routine_of method.routine.number 0 ≡ routine = (let f = r in let g = none in cc) in
                 let where_it : method.routine.number ≡ length before.routines + await.place = await.number_is ∙ new_exact await.place (slice_get_within news await.place _ await.is) in
                 let tree = trees_at (before.routines ++ news) new_frames (length before.routines + await.place) (awaiting (method_announced class await.at method)) (new_routine await.place _ await.is) in
@@ -345,10 +291,6 @@ module _ (unit : List ℕ) (site : Site) (s : Stage) (frames : List Frame) (at :
             let top : level ≡ suc (length (numbers_of rest)) = (let c = length-map rest (λ (x : Frame). x.number) in let l = k.0 in omega (arith, c, l, depth_is)) in
             subst (λ (n : ℕ). IsVariableIn (scope_of after (frame one.number q.locals ∷ rest)) (one.number ∷ numbers_of rest) n 0 number ty) (sym top)
             (record { routine = one.number; opened = at_top one.number (numbers_of rest); one = having q.locals bare.0; is = there; variable = variable })
-          where
-            few_listed : (x : Option TypeId) → length (listed x) ≤ 1
-            few_listed None = omega arith
-            few_listed (Some t) = omega arith
 
     variable_known : (level number : ℕ) (ty : TypeId) → ((level ≡ 0) × IsGlobalOf q.globals number ty) ⊎ IsOwnOf site.home q.locals level number ty → IsVariableIn new around level 0 number ty
     variable_known level number ty (inl h) = subst (λ (n : ℕ). IsVariableIn new around n 0 number ty) (sym h.0) (global_known number ty h.1)
@@ -367,14 +309,6 @@ module _ (unit : List ℕ) (site : Site) (s : Stage) (frames : List Frame) (at :
     own_known (entry.Var u level number ty) h = h.1
     own_known (entry.Code routine level header far) h = absurd h
     own_known (entry.Std number) h = absurd h
-
-    own_kept : (o : List ℕ) (one : Entry) → IsOwn before.routines o one → IsOwn (before.routines ++ news) o one
-    own_kept o (entry.Code routine level header far) h =
-        (h.0, record { one = h.1.one; is = get_front before.routines news routine.number h.1.one h.1.is; first = h.1.first; outer = h.1.outer; free = h.1.free })
-    own_kept o (entry.Const ty v) h = tt
-    own_kept o (entry.Ty ty) h = tt
-    own_kept o (entry.Var u level number ty) h = h
-    own_kept o (entry.Std number) h = tt
 
     -- ---- the whole
 
@@ -479,7 +413,7 @@ module _ (unit : List ℕ) (site : Site) (s : Stage) (frames : List Frame) (at :
     joined =
         let g : Environment = typing before.scope q.scope.types in
         let known = names_known g new gives.names further (each_for (IsGivenIn site.home q) (IsEntry new around) entry_known gives.names gives.known) in
-        let own = names_each (IsOwn (before.routines ++ news)) g gives.names (each_weaker (IsOwn before.routines) (IsOwn (before.routines ++ news)) own_kept [] before.scope.blocks read.own)
+        let own = names_each (IsOwn (before.routines ++ news)) g gives.names (each_weaker (IsOwn before.routines) (IsOwn (before.routines ++ news)) (own_kept before.routines news) [] before.scope.blocks read.own)
         (each_for (IsGivenIn site.home q) (IsOwn (before.routines ++ news) around) own_known gives.names gives.known) in
         let open_same : open_in (with_names g gives.names) ≡ numbers_of old_frames = names_open g gives.names ∙ read.around in
         record {

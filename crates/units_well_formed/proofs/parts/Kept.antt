@@ -28,7 +28,8 @@ use Rattle.units_well_formed.proofs.routines.Kept.{part_locals}
 use Rattle.declarations_well_formed.specs.tables.Laws.{HasPredeclared}
 use Rattle.declarations_well_formed.specs.values.Laws.{ValueLaw}
 use Rattle.units_well_formed.proofs.parts.Closed.{known_closed}
-use Rattle.units_well_formed.proofs.parts.Objects.{Awaits, plain_awaits, types_await, plain_types}
+use Rattle.units_well_formed.proofs.parts.Awaiting.{Awaits, plain_awaits}
+use Rattle.units_well_formed.proofs.parts.Objects.{types_await, plain_types}
 use Rattle.units_well_formed.proofs.parts.Rows.{part_rows, constants_plain_part, variables_plain_part}
 use Rattle.units_well_formed.proofs.parts.Joined.{grows, joined}
 

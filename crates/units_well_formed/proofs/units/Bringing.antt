@@ -33,7 +33,7 @@ use Rattle.declarations_well_formed.specs.tp_check_decl.routines.Drafts.{Done, N
 use Rattle.declarations_well_formed.specs.tp_check_decl.Programs.{empty_draft}
 use Rattle.units_well_formed.specs.parts.Below.{open_from, open_in, IsEntry, EachOf, EachIn, AreKnown, Extends, others_of, IsConstantIn, HasValues, scope_of, IsOwn, IsAnnounced, IsBlock, IsBottom, IsTabled, IsGlobalIn, IsRead}
 use Rattle.units_well_formed.proofs.parts.Below.{unit_told_from, method_among, others_grow, nested_kept, entry_kept, further_itself, extends_on, each_weaker}
-use Rattle.units_well_formed.proofs.parts.Objects.{some_object}
+use Rattle.units_well_formed.proofs.parts.Awaiting.{some_object}
 use Rattle.units_well_formed.proofs.parts.Names.{each_for}
 use Rattle.units_well_formed.proofs.parts.Rows.{in_more, global_more}
 use Rattle.units_well_formed.proofs.parts.Tables.{found_at}
