@@ -6,3 +6,4 @@ pub mod Seen
 pub mod Texts
 pub mod Steps
 pub mod Instances
+pub mod Sets

@@ -1,10 +1,10 @@
 -- Operators on values of their types.
 use Rattle.std.proofs.Common.{◌≡◌, ℕ, zero, suc, ◌+◌, ◌<◌, ◌≤◌, Bool, true, false, List, [], ◌∷◌, ◌++◌, length, take, Some, None, refl, sym, ap, subst, ◌∙◌, arith}
 use Rattle.std.proofs.Common.{⊎_elim}
-use Rattle.std.specs.Prelude.{◌⊎◌, ℤ, neg_ℤ, ◌-ℤ◌, pos, negsuc, ◌==◌, not, nat_lt, int_lt, Option, Ok, Err, if◌then◌else◌}
+use Rattle.std.specs.Prelude.{◌⊎◌, ℤ, neg_ℤ, ◌-ℤ◌, pos, negsuc, ◌==◌, not, nat_lt, int_lt, filter, All, Option, Ok, Err, if◌then◌else◌}
 use Rattle.std.specs.declared.cmp.Ordering.{Ordering}
 use Rattle.std.specs.Ordering.{int_eq, int_cmp}
-use Rattle.std.proofs.lemmas.List.Elements.{All-nil, All-cons, All-append, All-take}
+use Rattle.std.proofs.lemmas.List.Elements.{All-nil, All-cons, All-append, All-filter, All-take}
 use Rattle.std.proofs.lemmas.Bool.Decides.{nat_tests}
 use Rattle.std.proofs.lemmas.Option.{same_Some}
 use Rattle.tp_meaning.specs.common_values.integers.Words.{word_of}
@@ -19,7 +19,7 @@ use Rattle.tp_meaning.specs.typed_tree.declared.expressions.BinaryOp.{BinaryOp}
 use Rattle.tp_meaning.specs.typed_tree.declared.expressions.BinaryOp.TheVariants.{Add, Subtract, Multiply, Divide, Modulo, ShiftLeft, ShiftRight, And, Or, Xor, Equal, NotEqual, Less, LessOrEqual, Greater, GreaterOrEqual, In}
 use Rattle.tp_meaning.specs.common_values.Ordinals.{width_of, quotient, remainder, shift_count}
 use Rattle.tp_meaning.specs.common_values.Strings.{longest, joined}
-use Rattle.tp_meaning.specs.common_values.Sets.{is_member, union, difference, intersection, with_range}
+use Rattle.tp_meaning.specs.common_values.Sets.{contains, is_member, union, difference, intersection, with_range}
 use Rattle.tp_meaning.specs.typed_tree.type_fits.Fits.{stored_as, family_of, IsSome, IsBoolean, IsChar, AreStoredAlike, IsString, IsSet, IsPointer}
 use Rattle.tp_meaning.specs.typed_tree.type_fits.Operators.{IsArithmetic, FitsUnary, AreNumbers, AreSets, AreStrings, AreTruths, IsShift, AreOrdered, AreSetsBoth, ArePointers, FitsBinary, MayBeEarly, IsConversion}
 use Rattle.tp_meaning.specs.Trees.{Key, Value, Ordinal, Text, Elements, Nil, Block}
@@ -28,14 +28,15 @@ use Rattle.tp_meaning.specs.Shapes.{stored_among}
 use Rattle.tp_meaning.specs.Store.{Object, Store, object_at, if_there}
 use Rattle.tp_meaning.specs.Programs.{Sort, definition}
 use Rattle.tp_meaning.specs.Operators.{truth, is_true, is_boolean, unary_number, unary, arithmetic, logic, computed_as, computed, relation, related_or, on_ordinals, on_texts, on_sets, same_pointer, equality, binary, decided, converted, is_between, within, ranged, element_of, spanned}
-use Rattle.store_typing.specs.types.Forms.{Number, Members, Link}
-use Rattle.store_typing.specs.stores.Worlds.{World, IsHeld}
+use Rattle.store_typing.specs.types.Forms.{Number, all_members, Link}
+use Rattle.store_typing.specs.stores.Worlds.{World, LiesWithin, IsHeld}
 use Rattle.store_typing.specs.stores.Places.{IsText, IsValueBy, IsValueOf}
 use Rattle.store_typing.specs.stores.Stores.{Finds}
 use Rattle.store_typing.proofs.stores.Paths.{finds_bind}
 use Rattle.store_typing.proofs.stores.Steps.{as_ordinal, of_ordinal}
 use Rattle.store_typing.proofs.operators.Ranges.{kept_held, meant_held, and_word, or_word, xor_word, shifted_word, number_word}
 use Rattle.store_typing.specs.operators.Laws.{OperatorLaws}
+use Rattle.store_typing.proofs.stores.Sets.{more_lies}
 use Rattle.store_typing.proofs.operators.Stored.{wide, some_stored, ordinal_of_family, ordinal_if_integer}
 
 module _ (w : World) where
@@ -86,20 +87,24 @@ module _ (w : World) where
   pub of_text : (sort : Sort) (bytes : List ℕ) → IsString (definition sort) → IsText bytes → IsValueOf w sort (Text bytes)
   of_text sort bytes string is = as_text sort (definition sort) bytes string is
 
-  set_by : (v : Value) → IsHeld w Members v → (set : List ℕ) × (v ≡ Elements set)
-  set_by (Elements set) is = (set, refl)
+  -- a set, whose elements are below 256
+  abbrev IsAny : List ℕ → Type 0
+  IsAny set = All (LiesWithin 0 32) set
+
+  set_by : (v : Value) → IsHeld w all_members v → (set : List ℕ) × (v ≡ Elements set) × IsAny set
+  set_by (Elements set) is = (set, refl, is)
   set_by v is = absurd is
 
-  set_at : (sort : Sort) (o : Option TypeDef) (v : Value) → IsSet o → IsValueBy w sort o v → (set : List ℕ) × (v ≡ Elements set)
+  set_at : (sort : Sort) (o : Option TypeDef) (v : Value) → IsSet o → IsValueBy w sort o v → (set : List ℕ) × (v ≡ Elements set) × IsAny set
   set_at sort (Some (type.SetOf base)) v s is = set_by v is
   set_at sort o v s is = absurd s
 
-  set_value : (sort : Sort) (v : Value) → IsSet (definition sort) → IsValueOf w sort v → (set : List ℕ) × (v ≡ Elements set)
+  set_value : (sort : Sort) (v : Value) → IsSet (definition sort) → IsValueOf w sort v → (set : List ℕ) × (v ≡ Elements set) × IsAny set
   set_value sort v s is = set_at sort (definition sort) v s is
 
-  as_set : (sort : Sort) (o : Option TypeDef) (set : List ℕ) → IsSet o → IsValueBy w sort o (Elements set)
-  as_set sort (Some (type.SetOf base)) set s = tt
-  as_set sort o set s = absurd s
+  as_set : (sort : Sort) (o : Option TypeDef) (set : List ℕ) → IsSet o → IsAny set → IsValueBy w sort o (Elements set)
+  as_set sort (Some (type.SetOf base)) set s is = is
+  as_set sort o set s is = absurd s
 
   -- ---- one operand
 
@@ -221,12 +226,21 @@ module _ (w : World) where
         (let c = decides (is_true x) (is_true y) in
         subst (λ (f : Found Bool). Finds (IsValueOf w sort) (f >>= λ d. Ok (truth d))) (sym c.1) (truth_value sort c.0 e)))
 
-    sets : (op : BinaryOp) → ((x y : List ℕ) → (set : List ℕ) × (on_sets op x y ≡ Ok (Elements set))) → AreSets (definition sort) (definition left) (definition right) → Goal op
+    sets : (op : BinaryOp) → ((x y : List ℕ) → IsAny x → IsAny y → (set : List ℕ) × (on_sets op x y ≡ Ok (Elements set)) × IsAny set) → AreSets (definition sort) (definition left) (definition right) → Goal op
     sets op gives fits =
         let x = set_value left a fits.1 is_a in
         let y = set_value right b fits.2 is_b in
-        let c = gives x.0 y.0 in
-        with_both op (Elements x.0) (Elements y.0) x.1 y.1 (subst (Finds (IsValueOf w sort)) (sym c.1) (as_set sort (definition sort) c.0 fits.0))
+        let c = gives x.0 y.0 x.2 y.2 in
+        with_both op (Elements x.0) (Elements y.0) x.1 y.1 (subst (Finds (IsValueOf w sort)) (sym c.1) (as_set sort (definition sort) c.0 fits.0 c.2))
+
+    either_set : (x y : List ℕ) → IsAny x → IsAny y → IsAny (union x y)
+    either_set x y p q = All-append (LiesWithin 0 32) x (filter (λ e. not (contains x e)) y) p (All-filter (λ e. not (contains x e)) (LiesWithin 0 32) y q)
+
+    without_set : (x y : List ℕ) → IsAny x → IsAny (difference x y)
+    without_set x y p = All-filter (λ e. not (contains y e)) (LiesWithin 0 32) x p
+
+    both_set : (x y : List ℕ) → IsAny x → IsAny (intersection x y)
+    both_set x y p = All-filter (λ e. contains y e) (LiesWithin 0 32) x p
 
     length_taken : (k : ℕ) (bytes : List ℕ) → length (take k bytes) ≤ k
     length_taken zero [] = omega arith
@@ -321,9 +335,9 @@ module _ (w : World) where
     -- ---- each operator
 
     binary_finds : (op : BinaryOp) → FitsBinary op (definition sort) (definition left) (definition right) → Goal op
-    binary_finds Add fits = ⊎_elim (numbers Add add (λ o. refl)) (⊎_elim (sets Add (λ x y. (union x y, refl))) strings) fits
-    binary_finds Subtract fits = ⊎_elim (numbers Subtract subtract (λ o. refl)) (sets Subtract (λ x y. (difference x y, refl))) fits
-    binary_finds Multiply fits = ⊎_elim (numbers Multiply multiply (λ o. refl)) (sets Multiply (λ x y. (intersection x y, refl))) fits
+    binary_finds Add fits = ⊎_elim (numbers Add add (λ o. refl)) (⊎_elim (sets Add (λ x y p q. (union x y, refl, either_set x y p q))) strings) fits
+    binary_finds Subtract fits = ⊎_elim (numbers Subtract subtract (λ o. refl)) (sets Subtract (λ x y p q. (difference x y, refl, without_set x y p))) fits
+    binary_finds Multiply fits = ⊎_elim (numbers Multiply multiply (λ o. refl)) (sets Multiply (λ x y p q. (intersection x y, refl, both_set x y p))) fits
     binary_finds Divide fits = numbers Divide divide (λ o. refl) fits
     binary_finds Modulo fits = numbers Modulo modulo (λ o. refl) fits
     binary_finds ShiftLeft fits = shifts ShiftLeft shift_left (λ o. refl) fits
@@ -396,35 +410,41 @@ module _ (w : World) where
       subst (λ (x : Value). Finds (IsValueOf w sort) (ranged low high x)) (sym n.is)
       (finds_bind (IsNumber h.0) (IsValueOf w sort) (within low high n.z) (λ z. Ok (Ordinal z)) (within_finds (IsNumber h.0) low high n.z n.held) (λ z held. ordinal_value sort h.0 z h.1 held))
 
-  element_number : (z : ℤ) → Finds (λ (n : ℕ). Unit {0}) (element_of (Ordinal z))
+  element_number : (z : ℤ) → Finds (λ (n : ℕ). n < 256) (element_of (Ordinal z))
   element_number (negsuc n) = tt
-  element_number (pos n) = tested (nat_lt n 256) where
-    tested : (t : Bool) → Finds (λ (n : ℕ). Unit {0}) (if t then Ok n else Err (Act 3))
-    tested true = tt
-    tested false = tt
+  element_number (pos n) = tested (nat_lt n 256) refl where
+    small : nat_lt n 256 ≡ true → n < 256
+    small e = grind (arith, nat_tests, e)
 
-  element_finds : (of : Sort) (v : Value) → IsSome (family_of (definition of)) → IsValueOf w of v → Finds (λ (n : ℕ). Unit {0}) (element_of v)
+    tested : (t : Bool) → nat_lt n 256 ≡ t → Finds (λ (n : ℕ). n < 256) (if t then Ok n else Err (Act 3))
+    tested true e = small e
+    tested false e = tt
+
+  element_finds : (of : Sort) (v : Value) → IsSome (family_of (definition of)) → IsValueOf w of v → Finds (λ (n : ℕ). n < 256) (element_of v)
   element_finds of v s is =
       let h = ordinal_of_family (definition of) s in
       let n = number_value of h.0 v h.1 is in
-      subst (λ (x : Value). Finds (λ (n : ℕ). Unit {0}) (element_of x)) (sym n.is) (element_number n.z)
+      subst (λ (x : Value). Finds (λ (n : ℕ). n < 256) (element_of x)) (sym n.is) (element_number n.z)
 
-  spanned_numbers : (set : List ℕ) (first last : ℤ) → Finds (λ (more : List ℕ). Unit {0}) (spanned set (Ordinal first) (Ordinal last))
-  spanned_numbers set first last = tested (int_lt last first) where
-    tested : (t : Bool) → Finds (λ (more : List ℕ). Unit {0}) (if t then Ok set else (element_of (Ordinal first) >>= λ m. element_of (Ordinal last) >>= λ n. Ok (with_range set m n)))
-    tested true = tt
+  abbrev AreSmall : List ℕ → Type 0
+  AreSmall more = All (LiesWithin 0 32) more
+
+  spanned_numbers : (set : List ℕ) (first last : ℤ) → AreSmall set → Finds AreSmall (spanned set (Ordinal first) (Ordinal last))
+  spanned_numbers set first last are = tested (int_lt last first) where
+    tested : (t : Bool) → Finds AreSmall (if t then Ok set else (element_of (Ordinal first) >>= λ m. element_of (Ordinal last) >>= λ n. Ok (with_range set m n)))
+    tested true = are
     tested false =
-        finds_bind (λ (m : ℕ). Unit {0}) (λ (more : List ℕ). Unit {0}) (element_of (Ordinal first)) (λ m. element_of (Ordinal last) >>= λ n. Ok (with_range set m n)) (element_number first) (λ m h.
-        finds_bind (λ (n : ℕ). Unit {0}) (λ (more : List ℕ). Unit {0}) (element_of (Ordinal last)) (λ n. Ok (with_range set m n)) (element_number last) (λ n h'. tt))
+        finds_bind (λ (m : ℕ). m < 256) AreSmall (element_of (Ordinal first)) (λ m. element_of (Ordinal last) >>= λ n. Ok (with_range set m n)) (element_number first) (λ m h.
+        finds_bind (λ (n : ℕ). n < 256) AreSmall (element_of (Ordinal last)) (λ n. Ok (with_range set m n)) (element_number last) (λ n h'. more_lies set m n are h'))
 
-  spanned_finds : (of to : Sort) (set : List ℕ) (v x : Value) → IsSome (family_of (definition of)) → IsSome (family_of (definition to)) → IsValueOf w of v → IsValueOf w to x → Finds (λ (more : List ℕ). Unit {0}) (spanned set v x)
-  spanned_finds of to set v x s t is is' =
+  spanned_finds : (of to : Sort) (set : List ℕ) (v x : Value) → AreSmall set → IsSome (family_of (definition of)) → IsSome (family_of (definition to)) → IsValueOf w of v → IsValueOf w to x → Finds AreSmall (spanned set v x)
+  spanned_finds of to set v x are s t is is' =
       let h = ordinal_of_family (definition of) s in
       let k = ordinal_of_family (definition to) t in
       let m = number_value of h.0 v h.1 is in
       let n = number_value to k.0 x k.1 is' in
-      subst (λ (y : Value). Finds (λ (more : List ℕ). Unit {0}) (spanned set y x)) (sym m.is)
-      (subst (λ (y : Value). Finds (λ (more : List ℕ). Unit {0}) (spanned set (Ordinal m.z) y)) (sym n.is) (spanned_numbers set m.z n.z))
+      subst (λ (y : Value). Finds AreSmall (spanned set y x)) (sym m.is)
+      (subst (λ (y : Value). Finds AreSmall (spanned set (Ordinal m.z) y)) (sym n.is) (spanned_numbers set m.z n.z are))
 
   pub operator_laws : OperatorLaws w
   operator_laws = record {

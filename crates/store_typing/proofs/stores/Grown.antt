@@ -44,6 +44,17 @@ module _ (w : World) (more : List Made) where
     number (Class class) h = h
     number (At spot) h = h
     number Void h = h
+  held_in (Members first count) v h = members v h where
+    members : (v : Value) → IsHeld w (Members first count) v → IsHeld (grown w more) (Members first count) v
+    members (Ordinal z) h = h
+    members (Text bytes) h = h
+    members (Elements set) h = h
+    members Nil h = h
+    members (Block serial) h = h
+    members (Code routine) h = h
+    members (Class class) h = h
+    members (At spot) h = h
+    members Void h = h
   held_in held v h = h
 
   cell_in : (held : Held) (cell : Option Value) → IsCell w held cell → IsCell (grown w more) held cell
@@ -80,7 +91,7 @@ module _ (w : World) (more : List Made) where
 
   value_in_by : (sort : Sort) (one : Option TypeDef) (v : Value) → IsValueBy w sort one v → IsValueBy (grown w more) sort one v
   value_in_by sort (Some (type.Ordinal host low high)) v h = held_in (Number _) v h
-  value_in_by sort (Some (type.SetOf base)) v h = held_in Members v h
+  value_in_by sort (Some (type.SetOf base)) v h = held_in (Members 0 32) v h
   value_in_by sort (Some (type.PointerTo target)) v h = held_in (Link _) v h
   value_in_by sort (Some (type.Procedural header)) v h = held_in (Routine _) v h
   value_in_by sort (Some (type.ArrayOf index element)) (At spot) h = place_in spot sort h

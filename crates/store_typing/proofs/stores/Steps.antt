@@ -20,9 +20,11 @@ use Rattle.tp_meaning.specs.Store.{Store, tree_at, value_in, value_at, text_in, 
 use Rattle.tp_meaning.specs.Activations.{Reached, loaded_as, loaded, assigned, copied, passed}
 use Rattle.store_typing.specs.types.Declared.{declared, declared_header, AreAlike}
 use Rattle.store_typing.specs.types.Agreement.{IsKnown, IsShort, AreConsistent, IsOfLine}
-use Rattle.store_typing.specs.types.Forms.{Held, Number, Members, Link, Routine, Form, Cell, letter, repeated, line, part_forms, form_of, form_at, form_beside}
+use Rattle.store_typing.specs.types.Forms.{Held, Number, members_between, all_members, Link, Routine, Form, Cell, letter, repeated, line, part_forms, form_of, form_at, form_beside}
 use Rattle.store_typing.specs.types.Laws.{AgreementLaws}
-use Rattle.store_typing.proofs.types.Agreed.{lawful}
+use Rattle.store_typing.proofs.types.Agreed.{lawful, defined}
+use Rattle.store_typing.proofs.types.Whole.{base_bounds}
+use Rattle.store_typing.proofs.stores.Sets.{assigned-lies, held-wide}
 use Rattle.store_typing.proofs.types.SameForms.{whole}
 use Rattle.store_typing.proofs.types.Lines.{agreement_laws}
 use Rattle.store_typing.specs.stores.Worlds.{World, IsHeld, HasForm}
@@ -44,8 +46,8 @@ module _ (w : World) where
   ordinal_held h (Ordinal z) is = is
   ordinal_held h v is = absurd is
 
-  set_held : (bounds : ℤ × ℤ) (v : Value) → IsHeld w Members v → Finds (HasForm w (Cell Members)) (set_over bounds v)
-  set_held bounds (Elements set) is = tt
+  set_held : (bounds : ℤ × ℤ) (v : Value) → IsHeld w all_members v → Finds (HasForm w (Cell (members_between bounds))) (set_over bounds v)
+  set_held bounds (Elements set) is = assigned-lies bounds.0 bounds.1 set
   set_held bounds v is = absurd is
 
   pointer_held : (target : Option Key) (v : Value) → IsHeld w (Link target) v → Finds (HasForm w (Cell (Link target))) (pointer_of v >>= λ p. Ok (holding p))
@@ -238,7 +240,10 @@ module _ (w : World) (agreed : AreConsistent w.program) (store : Store) (typed :
 
   load_by : (spot : Spot) (sort : Sort) (one : TypeDef) → IsKnown w.program sort → IsPlaceOf w spot sort → definition sort ≡ Some one → Finds (IsValueBy w sort (Some one)) (loaded_as (Some one) spot store)
   load_by spot sort (type.Ordinal host low high) ks place e = cell_found spot sort (Number (storage_of host low high)) place (λ o. subst IsObject e o) (whole w.program agreed sort (type.Ordinal host low high) ks e)
-  load_by spot sort (type.SetOf base) ks place e = cell_found spot sort Members place (λ o. subst IsObject e o) (whole w.program agreed sort (type.SetOf base) ks e)
+  load_by spot sort (type.SetOf base) ks place e =
+      let bounds = bounds_at sort.table.types base in
+      finds_more (IsHeld w (members_between bounds)) (IsHeld w all_members) (value_at store spot) (held-wide w bounds (base_bounds sort.table.types (defined w.program agreed sort ks) sort.ty base e))
+      (cell_found spot sort (members_between bounds) place (λ o. subst IsObject e o) (whole w.program agreed sort (type.SetOf base) ks e))
   load_by spot sort (type.PointerTo target) ks place e = cell_found spot sort (Link (declared sort.table target)) place (λ o. subst IsObject e o) (whole w.program agreed sort (type.PointerTo target) ks e)
   load_by spot sort (type.Procedural header) ks place e = cell_found spot sort (Routine (declared_header sort.table header)) place (λ o. subst IsObject e o) (whole w.program agreed sort (type.Procedural header) ks e)
   load_by spot sort (type.Str max) ks place e =

@@ -16,8 +16,8 @@ use Rattle.tp_meaning.specs.Shapes.{Part, FieldPart, ClassPart, field_parts, par
 use Rattle.tp_meaning.specs.Programs.{Sort, definition, class_key, beside}
 use Rattle.store_typing.specs.types.Declared.{DeclaredHeader, declared, AreAlike}
 use Rattle.store_typing.specs.types.Agreement.{IsKnown, AreConsistent}
-use Rattle.store_typing.specs.types.Forms.{Form, Cell, Number, Link, Routine, letter, repeated, line, part_form, part_forms, form_of, form_at, form_beside}
-use Rattle.store_typing.proofs.types.Whole.{PartsBelow, parts_of_object, parts_below, record_below, index_below, element_below, form_whole}
+use Rattle.store_typing.specs.types.Forms.{Form, Cell, Number, members_between, Link, Routine, letter, repeated, line, part_form, part_forms, form_of, form_at, form_beside}
+use Rattle.store_typing.proofs.types.Whole.{PartsBelow, parts_of_object, parts_below, record_below, base_below, index_below, element_below, form_whole}
 use Rattle.store_typing.proofs.types.Agreed.{keyed, keyed_fields, defined, known_within, known_at, parts_agree}
 
 bounds_pair : (a b : Table) (one other : TypeDef) → AreAlike a one b other → bounds_of (Some one) ≡ bounds_of (Some other)
@@ -88,7 +88,13 @@ module _ (program : Program) (agreed : AreConsistent program) where
         ∙ ap (λ (x : Host). Cell (Number (storage_of x low high))) is.0 ∙ ap (λ (x : ℤ). Cell (Number (storage_of host' x high))) is.1 ∙ ap (λ (x : ℤ). Cell (Number (storage_of host' low' x))) is.2
         ∙ sym (whole b (type.Ordinal host' low' high') kb eb)
     form_pair (type.Str max) (type.Str max') ea eb is = whole a (type.Str max) ka ea ∙ ap (λ (x : ℕ). repeated (x + 1) letter) is ∙ sym (whole b (type.Str max') kb eb)
-    form_pair (type.SetOf base) (type.SetOf base') ea eb is = whole a (type.SetOf base) ka ea ∙ sym (whole b (type.SetOf base') kb eb)
+    form_pair (type.SetOf base) (type.SetOf base') ea eb is =
+        let i = base_below a.table.types (defined program agreed a ka) a.ty base ea in
+        let i' = base_below b.table.types (defined program agreed b kb) b.ty base' eb in
+        let in_a = known_at program agreed a ka in
+        let in_b = known_at program agreed b kb in
+        let bounds = bounds_agree (beside a base) (beside b base') (known_within program agreed a base ka (omega (arith, i, in_a))) (known_within program agreed b base' kb (omega (arith, i', in_b))) is in
+        whole a (type.SetOf base) ka ea ∙ ap (λ (x : ℤ × ℤ). Cell (members_between x)) bounds ∙ sym (whole b (type.SetOf base') kb eb)
     form_pair (type.PointerTo target) (type.PointerTo target') ea eb is = whole a (type.PointerTo target) ka ea ∙ ap (λ (x : Option Key). Cell (Link x)) is ∙ sym (whole b (type.PointerTo target') kb eb)
     form_pair (type.Procedural header) (type.Procedural header') ea eb is = whole a (type.Procedural header) ka ea ∙ ap (λ (x : DeclaredHeader). Cell (Routine x)) is ∙ sym (whole b (type.Procedural header') kb eb)
     form_pair (type.ArrayOf index element) (type.ArrayOf index' element') ea eb is =

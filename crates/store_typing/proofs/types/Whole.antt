@@ -10,7 +10,7 @@ use Rattle.tp_meaning.specs.type_layout.declared.definitions.TypeDef.{TypeDef}
 use Rattle.tp_meaning.specs.type_layout.declared.definitions.TypeDef.TheVariants as type
 use Rattle.tp_meaning.specs.type_layout.Layouts.{bounds_of, bounds_at, given_by}
 use Rattle.tp_meaning.specs.type_layout.Storage.{count_between}
-use Rattle.tp_meaning.specs.type_layout.Table.{Table, IsOrdinal, IsObject, IsAncestor, AllDefined}
+use Rattle.tp_meaning.specs.type_layout.Table.{Table, IsOrdinal, IsByteRange, IsObject, IsAncestor, AllDefined}
 use Rattle.tp_meaning.proofs.type_layout_proofs.Given.{length-given_by, get_or-given_by-middle, get_or-given_by-front}
 use Rattle.tp_meaning.proofs.type_layout_proofs.Local.{slice_get-append, within_if_object}
 use Rattle.tp_meaning.proofs.type_layout_proofs.Measured.{Round, round}
@@ -18,7 +18,8 @@ use Rattle.tp_meaning.specs.typed_tree.type_fits.Fits.{types_in, fields_by, fiel
 use Rattle.tp_meaning.specs.Trees.{Key}
 use Rattle.tp_meaning.specs.Shapes.{Part, FieldPart, ClassPart, has_class_part, field_parts, class_parts, object_parts, parts_in, parts_by, parts_of, parts_at}
 use Rattle.store_typing.specs.types.Declared.{declared}
-use Rattle.store_typing.specs.types.Forms.{Form, End, repeated, line, part_form, part_forms, form_of, form_in, form_by}
+use Rattle.store_typing.proofs.stores.Sets.{AreByteBounds}
+use Rattle.store_typing.specs.types.Forms.{Form, Cell, End, members_between, repeated, line, part_form, part_forms, form_of, form_in, form_by}
 
 -- ---- the numbers of the types of parts
 
@@ -161,6 +162,35 @@ module _ (types : List TypeDef) (all : AllDefined [] types) (ty index element : 
   pub element_below : element.0 < ty.0
   element_below = let r = round types ty.0 (type.ArrayOf index element) all e in omega (arith, r.defined.1, r.at)
 
+byte_within : (front : List TypeDef) (k : ℕ) → IsByteRange (slice_get front k) → k < length front
+byte_within [] k is = absurd is
+byte_within (one ∷ front) zero is = omega arith
+byte_within (one ∷ front) (suc k) is = let rec = byte_within front k is in omega arith
+
+byte_bounds : (front : List TypeDef) (k : ℕ) (rest : List TypeDef) → IsByteRange (slice_get front k) → IsByteRange (slice_get (front ++ rest) k)
+byte_bounds [] k rest is = absurd is
+byte_bounds (one ∷ front) zero rest is = is
+byte_bounds (one ∷ front) (suc k) rest is = byte_bounds front k rest is
+
+-- the type that a set is over stands before it, and lies within a byte
+module _ (types : List TypeDef) (all : AllDefined [] types) (ty base : TypeId) (e : slice_get types ty.0 ≡ Some (type.SetOf base)) where
+  pub base_below : base.0 < ty.0
+  base_below = let r = round types ty.0 (type.SetOf base) all e in omega (arith, byte_within r.front base.0 r.defined, r.at)
+
+  base_range : IsByteRange (slice_get types base.0)
+  base_range =
+      let r = round types ty.0 (type.SetOf base) all e in
+      subst (λ (l : List TypeDef). IsByteRange (slice_get l base.0)) (sym r.is) (byte_bounds r.front base.0 (type.SetOf base ∷ r.back) r.defined)
+
+  range_bounds : (o : Option TypeDef) → slice_get types base.0 ≡ o → IsByteRange o → AreByteBounds (bounds_of o)
+  range_bounds (Some (type.Ordinal host low high)) f is =
+      let r = round types base.0 (type.Ordinal host low high) all f in
+      record { least = is.0; order = r.defined.1; most = is.1 }
+  range_bounds o f is = absurd is
+
+  pub base_bounds : AreByteBounds (bounds_at types base)
+  base_bounds = range_bounds (slice_get types base.0) refl base_range
+
 -- ---- the fields of a type, over the whole table
 
 abbrev pub fields_at : List TypeDef → Option TypeId → List TypeId
@@ -218,22 +248,25 @@ module _ (table : Table) where
     within_if_ordinal (one ∷ front) zero is = omega arith
     within_if_ordinal (one ∷ front) (suc k) is = let rec = within_if_ordinal front k is in omega arith
 
-    bounds_front : (one : TypeDef) (r : Round types ty.0 one) (index : TypeId) → IsOrdinal (slice_get r.front index.0) → bounds_at r.front index ≡ bounds_at types index
-    bounds_front one r index is =
-        sym (ap (λ (types : List TypeDef). bounds_at types index) r.is ∙ ap bounds_of (slice_get-append r.front (one ∷ r.back) index.0 (within_if_ordinal r.front index.0 is)))
+    bounds_front : (one : TypeDef) (r : Round types ty.0 one) (index : TypeId) → index.0 < length r.front → bounds_at r.front index ≡ bounds_at types index
+    bounds_front one r index within =
+        sym (ap (λ (types : List TypeDef). bounds_at types index) r.is ∙ ap bounds_of (slice_get-append r.front (one ∷ r.back) index.0 within))
 
     -- what the form of a type is made of
     pub form_whole : (one : TypeDef) → slice_get types ty.0 ≡ Some one → form_in (forms_over types) ty ≡ form_of table types ty.0 (form_in (forms_over types)) one
     form_whole (type.Ordinal host low high) e = form_round (type.Ordinal host low high) (round types ty.0 (type.Ordinal host low high) all e)
     form_whole (type.Str max) e = form_round (type.Str max) (round types ty.0 (type.Str max) all e)
-    form_whole (type.SetOf base) e = form_round (type.SetOf base) (round types ty.0 (type.SetOf base) all e)
+    form_whole (type.SetOf base) e =
+        let one : TypeDef = type.SetOf base in
+        let r = round types ty.0 one all e in
+        form_round one r ∙ ap (λ (b : ℤ × ℤ). Cell (members_between b)) (bounds_front one r base (byte_within r.front base.0 r.defined))
     form_whole (type.PointerTo target) e = form_round (type.PointerTo target) (round types ty.0 (type.PointerTo target) all e)
     form_whole (type.Procedural header) e = form_round (type.Procedural header) (round types ty.0 (type.Procedural header) all e)
     form_whole (type.ArrayOf index element) e =
         let one : TypeDef = type.ArrayOf index element in
         let r = round types ty.0 one all e in
         form_round one r
-        ∙ ap (λ (b : ℤ × ℤ). repeated (count_between b.0 b.1) (form_in (forms_over r.front) element)) (bounds_front one r index r.defined.0)
+        ∙ ap (λ (b : ℤ × ℤ). repeated (count_between b.0 b.1) (form_in (forms_over r.front) element)) (bounds_front one r index (within_if_ordinal r.front index.0 r.defined.0))
         ∙ ap (repeated (count_between (bounds_at types index).0 (bounds_at types index).1)) (form_front one r element (omega (arith, r.defined.1, r.at)))
     form_whole (type.RecordOf fields) e =
         let one : TypeDef = type.RecordOf fields in

@@ -12,7 +12,7 @@ use Rattle.tp_meaning.specs.Programs.{Sort, definition, class_key, integer_sort,
 use Rattle.tp_meaning.specs.Activations.{Reached}
 use Rattle.store_typing.specs.types.Declared.{declared, declared_header}
 use Rattle.store_typing.specs.types.Agreement.{IsKnown, IsOfLine}
-use Rattle.store_typing.specs.types.Forms.{Number, Members, Link, Routine, Form, Cell, End, Pair, form_at}
+use Rattle.store_typing.specs.types.Forms.{Number, all_members, Link, Routine, Form, Cell, End, Pair, form_at}
 use Rattle.store_typing.specs.stores.Worlds.{Own, World, IsHeld}
 
 -- the form of what a path leads to, if it leads anywhere
@@ -61,7 +61,7 @@ pub record IsText (bytes : List ℕ) : Type 0 where
 -- a value of a type; of a record, an array or an object it is a place
 abbrev pub IsValueBy : World → Sort → Option TypeDef → Value → Type 0
 IsValueBy w sort (Some (type.Ordinal host low high)) v = IsHeld w (Number (storage_of host low high)) v
-IsValueBy w sort (Some (type.SetOf base)) v = IsHeld w Members v
+IsValueBy w sort (Some (type.SetOf base)) v = IsHeld w all_members v
 IsValueBy w sort (Some (type.PointerTo target)) v = IsHeld w (Link (declared sort.table target)) v
 IsValueBy w sort (Some (type.Procedural header)) v = IsHeld w (Routine (declared_header sort.table header)) v
 IsValueBy w sort (Some (type.Str max)) (Text bytes) = IsText bytes

@@ -1,8 +1,9 @@
 -- What the cells of variables and blocks hold in a run of a program.
-use Rattle.std.specs.Prelude.{◌≡◌, ℕ, List, ◌++◌, IsTrue, slice_get, Option, Some, None, Ok}
+use Rattle.std.specs.Prelude.{◌≡◌, ℕ, ◌+◌, ◌≤◌, ◌<◌, All, List, ◌++◌, IsTrue, slice_get, Option, Some, None, Ok}
 use Rattle.tp_meaning.specs.type_layout.Storage.{holds}
 use Rattle.tp_meaning.specs.typed_tree.declared.units.Program.{Program}
 use Rattle.tp_meaning.specs.typed_tree.type_fits.Fits.{held_as}
+use Rattle.tp_meaning.specs.common_values.Sets.{byte_of}
 use Rattle.tp_meaning.specs.Trees.{Key, Value, Ordinal, Elements, Nil, Block, Code, Class, Tree, Leaf, Tip, Fork}
 use Rattle.tp_meaning.specs.Programs.{Sort, class_key}
 use Rattle.tp_meaning.specs.Activations.{Callee, callee_of}
@@ -50,9 +51,13 @@ pub record IsClassOf (program : Program) (own : Option Key) (class : Key) : Type
   pub is : class_key sort ≡ own
   pub line : IsOfLine sort (Some class)
 
+-- an element whose byte is one of so many from the first on
+abbrev pub LiesWithin : ℕ → ℕ → ℕ → Type 0
+LiesWithin first count element = (first ≤ byte_of element) × (byte_of element < first + count)
+
 abbrev pub IsHeld : World → Held → Value → Type 0
 IsHeld w (Number stored) (Ordinal z) = IsTrue (holds (held_as stored) z z)
-IsHeld w Members (Elements set) = Unit {0}
+IsHeld w (Members first count) (Elements set) = All (LiesWithin first count) set
 IsHeld w (Link target) Nil = Unit {0}
 IsHeld w (Link target) (Block serial) = LeadsTo w serial target
 IsHeld w (Routine header) (Code routine) = IsCode w.program header routine

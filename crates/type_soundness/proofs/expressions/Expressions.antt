@@ -1,7 +1,8 @@
 -- Expressions and places of a body.
 use Rattle.std.proofs.Common.{◌≡◌, ℕ, ◌==◌, Bool, true, false, if◌then◌else◌, List, [], ◌∷◌, ◌++◌, Some, None, refl, sym, ap, subst, ◌∙◌, arith}
 use Rattle.std.proofs.Common.{inl, inr}
-use Rattle.std.specs.Prelude.{Option, option_and_then}
+use Rattle.std.specs.Prelude.{Option, All, option_and_then}
+use Rattle.std.proofs.lemmas.List.Elements.{All-nil}
 use Rattle.std.specs.Option.{option_map}
 use Rattle.std.proofs.lemmas.Option.{same_Some}
 use Rattle.std.proofs.lemmas.Bool.Decides.{nat_tests}
@@ -30,9 +31,10 @@ use Rattle.program_typing.specs.tp_meaning.Standard.{standard}
 use Rattle.program_typing.specs.tp_meaning.Calls.{Runs}
 use Rattle.program_typing.specs.tp_meaning.Expressions.{constant_value, standard_done, value, measured, place, receiver, elements, operands, sort_of, no_instance}
 use Rattle.program_typing.specs.store_typing.types.Agreement.{IsKnown}
-use Rattle.program_typing.specs.store_typing.stores.Worlds.{Made, World}
+use Rattle.program_typing.specs.store_typing.stores.Worlds.{Made, World, LiesWithin}
 use Rattle.program_typing.specs.store_typing.stores.Places.{IsValueOf}
 use Rattle.program_typing.proofs.store_typing_proofs.stores.Grown.{grows_by, value_grows}
+use Rattle.program_typing.proofs.store_typing_proofs.stores.Sets.{more_lies}
 use Rattle.program_typing.specs.lvalues.Frames.{IsActive, NamesGlobal}
 use Rattle.program_typing.proofs.lvalues.Variables.{variable_place}
 use Rattle.program_typing.specs.programs.Outcomes.{IsTypedState, world, Ends}
@@ -197,7 +199,7 @@ module _ (program : Program) (well : IsWellTyped program) (again : Runs) (sound 
         (as_sort made operand of.ty (value program again f operand s) of.is (value_ends made operand h.0 r s k typed))
     value_ends made (Range ty operand low high) h r s k typed =
         ranged_ends (world program made) (sort_at ty) low high (value program again f operand s) h.2 (as_sort made operand ty (value program again f operand s) h.1 (value_ends made operand h.0 r s k typed))
-    value_ends made (SetOf ty listed) h r s k typed = elements_ends made ty h.0 h.1 listed h.2 r [] s k typed
+    value_ends made (SetOf ty listed) h r s k typed = elements_ends made ty h.0 h.1 listed h.2 r [] (All-nil (LiesWithin 0 32)) s k typed
     value_ends made (Call ty routine own args) h (inl n) s k typed =
         subst (λ (t : Option TypeId). Ends (world program made) (GivesAs f.unit t) (value program again f (Call ty routine own args) s)) n.calls.takes.0
         (call_ends program well.agreed again sound f number withs made routine n (receiver program again f own s) (operands program again f args) k
@@ -264,20 +266,20 @@ module _ (program : Program) (well : IsWellTyped program) (again : Runs) (sound 
     instance_ends made (Own at) callee r s k typed =
         own_ends program well.agreed made f site r.0 callee at (place program again f at s) r.1 (place_ends made at r.0 r.2.0 r.2.1 s k typed)
 
-    elements_ends : (made : List Made) (ty base : TypeId) → definition (sort_at ty) ≡ Some (type.SetOf base) → (listed : Elements) (h : AreTypedElements scope base listed) → RefersElements site scope base listed h → (set : List ℕ) (s : State)
+    elements_ends : (made : List Made) (ty base : TypeId) → definition (sort_at ty) ≡ Some (type.SetOf base) → (listed : Elements) (h : AreTypedElements scope base listed) → RefersElements site scope base listed h → (set : List ℕ) → All (LiesWithin 0 32) set → (s : State)
         → Body made → IsTyped' made s → Ends (world program made) (ValueAt (sort_at ty)) (elements program again f listed set s)
-    elements_ends made ty base e NoElements h r set s k typed = set_done (world program made) (sort_at ty) base set s e typed
-    elements_ends made ty base e (One one rest) h r set s k typed =
+    elements_ends made ty base e NoElements h r set are s k typed = set_done (world program made) (sort_at ty) base set s e are typed
+    elements_ends made ty base e (One one rest) h r set are s k typed =
         let a = member_sort made k base one h.1 in
         element_ends program active (ValueAt (sort_at ty)) made (sort_at a.0.ty) (value program again f one s) (λ n. elements program again f rest (with_range set n n)) a.1 k
-        (as_sort made one a.0.ty (value program again f one s) a.0.is (value_ends made one h.0 r.0 s k typed)) (λ made' n t k' typed'. elements_ends made' ty base e rest h.2 r.1 (with_range set n n) t k' typed')
-    elements_ends made ty base e (Span low high rest) h r set s k typed =
+        (as_sort made one a.0.ty (value program again f one s) a.0.is (value_ends made one h.0 r.0 s k typed)) (λ made' n t small k' typed'. elements_ends made' ty base e rest h.2 r.1 (with_range set n n) (more_lies set n n are small) t k' typed')
+    elements_ends made ty base e (Span low high rest) h r set are s k typed =
         let a = member_sort made k base low h.1 in
         let b = member_sort made k base high h.3 in
-        span_ends program active (ValueAt (sort_at ty)) made (sort_at a.0.ty) (sort_at b.0.ty) set (value program again f low s) (value program again f high) (λ more. elements program again f rest more) a.1 b.1 k
+        span_ends program active (ValueAt (sort_at ty)) made (sort_at a.0.ty) (sort_at b.0.ty) set are (value program again f low s) (value program again f high) (λ more. elements program again f rest more) a.1 b.1 k
         (as_sort made low a.0.ty (value program again f low s) a.0.is (value_ends made low h.0 r.0 s k typed))
         (λ made' t k' typed'. as_sort made' high b.0.ty (value program again f high t) b.0.is (value_ends made' high h.2 r.1 t k' typed'))
-        (λ made' more t k' typed'. elements_ends made' ty base e rest h.4 r.2 more t k' typed')
+        (λ made' more t lies k' typed'. elements_ends made' ty base e rest h.4 r.2 more lies t k' typed')
 
     -- arguments are as the parameters take them
     pub taken_ends : (made : List Made) (params : List Param) (args : Arguments) (h : TakeEach scope params args) → RefersTaken site scope params args h → (s : State) → Body made → IsTyped' made s

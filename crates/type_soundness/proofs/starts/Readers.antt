@@ -1,15 +1,16 @@
 -- What is read of the bytes of a first value has the form of its type.
-use Rattle.std.proofs.Common.{ℕ, zero, suc, ◌*◌, ◌<◌, List, [], ◌∷◌, take, arith}
-use Rattle.std.specs.Prelude.{ℤ, All}
-use Rattle.std.proofs.lemmas.List.Elements.{All-head, All-tail, All-drop}
+use Rattle.std.proofs.Common.{◌≡◌, ℕ, zero, suc, ◌+◌, ◌*◌, ◌/◌, ◌%◌, ◌<◌, ◌≤◌, Bool, true, false, List, [], ◌∷◌, length, take, sym, subst, arith}
+use Rattle.std.specs.Prelude.{ℤ, unsigned_abs, ◌==◌, if◌then◌else◌, All}
+use Rattle.std.proofs.lemmas.List.Elements.{All-nil, All-cons, All-append, All-head, All-tail, All-drop}
 use Rattle.program_typing.specs.common_values.integers.Words.{IsWord}
 use Rattle.program_typing.specs.type_layout.declared.definitions.Host.{Host}
 use Rattle.program_typing.specs.type_layout.declared.definitions.Host.TheVariants as host
 use Rattle.program_typing.specs.type_layout.Storage.{width_of, set_bytes}
 use Rattle.program_typing.specs.common_values.Ordinals.{width_of as word_width}
-use Rattle.program_typing.specs.tp_meaning.Shapes.{stored_among, Reader, before, read_many, word_of_bytes, read_ordinal, read_set, read_nothing}
-use Rattle.program_typing.specs.store_typing.types.Forms.{Held, Number, Members, Form, Cell, Pair, repeated}
-use Rattle.program_typing.specs.store_typing.stores.Worlds.{World, HasForm}
+use Rattle.program_typing.specs.common_values.Sets.{byte_of}
+use Rattle.program_typing.specs.tp_meaning.Shapes.{stored_among, Reader, before, read_many, word_of_bytes, elements_in, elements_from, read_ordinal, read_set, read_nothing}
+use Rattle.program_typing.specs.store_typing.types.Forms.{Held, Number, members_between, Form, Cell, Pair, repeated}
+use Rattle.program_typing.specs.store_typing.stores.Worlds.{World, LiesWithin, HasForm}
 use Rattle.program_typing.proofs.store_typing_proofs.operators.Ranges.{meant_held}
 
 abbrev pub AreBytes : List ℕ → Type 0
@@ -44,6 +45,35 @@ word_of_host host.Char bytes each = word_below 1 bytes each
 word_of_host host.Boolean bytes each = word_below 1 bytes each
 word_of_host host.Enumeration bytes each = word_below 1 bytes each
 
+-- the elements that a byte holds lie in it
+bits_lie : (first count byte n element bits : ℕ) → 8 * byte ≤ element → element + n ≤ 8 * byte + 8 → first ≤ byte → byte < first + count → All (LiesWithin first count) (elements_in n element bits)
+bits_lie first count byte zero element bits p q r s = All-nil (LiesWithin first count)
+bits_lie first count byte (suc n) element bits p q r s =
+    All-append (LiesWithin first count) (if bits % 2 == 1 then element ∷ [] else []) (elements_in n (element + 1) (bits / 2)) (one (bits % 2 == 1)) (bits_lie first count byte n (element + 1) (bits / 2) (omega (arith, p)) (omega (arith, q)) r s)
+  where
+    here : byte_of element ≡ byte
+    here = omega (arith, p, q)
+
+    one : (t : Bool) → All (LiesWithin first count) (if t then element ∷ [] else [])
+    one true = All-cons (LiesWithin first count) element [] (omega (arith, here, r), omega (arith, here, s)) (All-nil (LiesWithin first count))
+    one false = All-nil (LiesWithin first count)
+
+bytes_lie : (first count byte : ℕ) (bytes : List ℕ) → first ≤ byte → byte + length bytes ≤ first + count → All (LiesWithin first count) (elements_from (8 * byte) bytes)
+bytes_lie first count byte [] p q = All-nil (LiesWithin first count)
+bytes_lie first count byte (bits ∷ bytes) p q =
+    let next : 8 * byte + 8 ≡ 8 * (byte + 1) = omega arith in
+    All-append (LiesWithin first count) (elements_in 8 (8 * byte) bits) (elements_from (8 * byte + 8) bytes) (bits_lie first count byte 8 (8 * byte) bits (omega arith) (omega arith) p (omega (arith, q)))
+    (subst (λ e. All (LiesWithin first count) (elements_from e bytes)) (sym next) (bytes_lie first count (byte + 1) bytes (omega (arith, p)) (omega (arith, q))))
+
+length-short : (count : ℕ) (bytes : List ℕ) → length (take count bytes) ≤ count
+length-short zero [] = omega arith
+length-short zero (byte ∷ bytes) = omega arith
+length-short (suc count) [] = omega arith
+length-short (suc count) (byte ∷ bytes) = omega (arith, length-short count bytes)
+
+set_lies : (first count : ℕ) (bytes : List ℕ) → All (LiesWithin first count) (elements_from (8 * first) (take count bytes))
+set_lies first count bytes = let few = length-short count bytes in bytes_lie first count first (take count bytes) (omega arith) (omega (arith, few))
+
 module _ (w : World) where
   -- what is read of bytes has a form, and bytes are left
   abbrev pub Reads : Form → Reader → Type 0
@@ -53,8 +83,8 @@ module _ (w : World) where
   ordinal_reads h bytes each =
       (meant_held h (word_of_bytes (take (width_of h) bytes)) (word_of_host h bytes each), All-drop (λ byte. byte < 256) (width_of h) bytes each)
 
-  pub set_reads : (low high : ℤ) → Reads (Cell Members) (read_set low high)
-  set_reads low high bytes each = (tt, All-drop (λ byte. byte < 256) (set_bytes low high) bytes each)
+  pub set_reads : (low high : ℤ) → Reads (Cell (members_between (low, high))) (read_set low high)
+  set_reads low high bytes each = (set_lies (byte_of (unsigned_abs low)) (set_bytes low high) bytes, All-drop (λ byte. byte < 256) (set_bytes low high) bytes each)
 
   pub nothing_reads : (held : Held) → Reads (Cell held) read_nothing
   nothing_reads held bytes each = (tt, each)
