@@ -9,6 +9,7 @@ use Rattle.runtime_proofs.specs.strings_in_memory.Strings.{IsOffStack, place}
 use Rattle.heap_runtime.specs.overlay.Data.{ovr_result_key, ovr_result_datum, ovr_name_datum, HasOverlay}
 use Rattle.heap_runtime.specs.heap.HeapMemory.{HeapPlaces, HoldsHeapData, ReachesHeapData}
 use Rattle.heap_runtime.proofs.heap.Places.{places-of}
+use Rattle.heap_runtime.specs.scratch.Data.{scratch_key, scratch_datum, HasScratch}
 use Rattle.heap_runtime.specs.Unit.{heap_code, heap_segment_datum, heap_bytes_datum, heap_state_datum, HoldsHeapUnit}
 use Rattle.heap_runtime.specs.Specifications.{ReachesOverlay}
 
@@ -66,3 +67,13 @@ module _ (program : FlatProgram) (choice : Choice) (R : Mention → Type 0) (leg
 
   pub heap-places : ReachesHeapData R → program.heap ≤ 196608 → HeapPlaces program choice
   heap-places reaches small = places-of program choice R legal heap-data reaches small
+
+  pub has-scratch : R (ToDatum scratch_key) → (scratch : ℕ) × HasScratch program choice scratch
+  has-scratch reaches =
+      let one = some-offset (choice.datum scratch_key) ((legal.datum scratch_key).1 reaches) in
+      let scratch = one.0 in
+      let takes : TakesData program choice (ToDatum scratch_key) scratch 8 = (heap_code, scratch_datum, holds.is_there, refl, one.1, refl) in
+      let within = legal.inside (ToDatum scratch_key) scratch 8 takes in (
+        scratch,
+        record { scratch_is = one.1; scratch_small = omega (arith, within, legal.data_small); scratch_off = off-stack scratch 8 within },
+      )

@@ -5,7 +5,8 @@ use Rattle.common_values.specs.integers.Words.{low_byte, high_byte}
 use Rattle.flat_code.specs.declared.memory.Cell.TheVariants.{Known, Outside}
 use Rattle.flat_code.specs.Memory.{Cells, address_of, region, laid, word_bytes}
 use Rattle.flat_code.specs.Program.{Key, FlatProgram, Choice, overlay_unit, heap_segment_key, heap_bytes_key, ovr_name_key}
-use Rattle.flat_code.specs.Meaning.{number_bytes, laid_at, with_units, start_cells}
+use Rattle.flat_code.specs.declared.memory.Place.{Place}
+use Rattle.flat_code.specs.Meaning.{number_bytes, filled, laid_at, with_units, start_cells}
 use Rattle.flat_code.specs.Legal.{Mention, ToDatum, TakesData, IsApart, IsLegal}
 use Rattle.runtime_proofs.specs.routine_proofs.Activation.{HoldsWord}
 use Rattle.runtime_proofs.specs.strings_in_memory.Strings.{HasBytes, place}
@@ -14,6 +15,7 @@ use Rattle.runtime_proofs.specs.start_data.Start.{FitsRuntime, FirstsFit, IsOthe
 use Rattle.runtime_proofs.proofs.start_data.Start.{start}
 use Rattle.heap_runtime.specs.overlay.Data.{ovr_result_key, ovr_result_datum, ovr_name_datum, HasOverlay}
 use Rattle.heap_runtime.specs.heap.HeapMemory.{heap_state_key, HeapPlaces}
+use Rattle.heap_runtime.specs.scratch.Data.{scratch_key, scratch_datum, HasScratch, ScratchReached}
 use Rattle.heap_runtime.specs.Unit.{heap_code, heap_segment_datum, heap_bytes_datum, heap_state_datum, HoldsHeapUnit}
 use Rattle.heap_runtime.specs.Specifications.{IsFileName, StartsHeap}
 use Rattle.heap_runtime.proofs.Reached.{heap-reached}
@@ -67,6 +69,9 @@ is-state = record { segment = key-differs heap_state_key heap_segment_key (λ e.
 
 is-result : IsOther ovr_result_key
 is-result = record { segment = key-differs ovr_result_key heap_segment_key (λ e. omega (arith, e)); bytes = key-differs ovr_result_key heap_bytes_key (λ e. omega (arith, e)); name = key-differs ovr_result_key ovr_name_key (λ e. omega (arith, e)) }
+
+is-scratch : IsOther scratch_key
+is-scratch = record { segment = key-differs scratch_key heap_segment_key (λ e. omega (arith, e)); bytes = key-differs scratch_key heap_bytes_key (λ e. omega (arith, e)); name = key-differs scratch_key ovr_name_key (λ e. omega (arith, e)) }
 
 no-first : (k : ℕ) → k < length {A = ℕ} [] → get_or {A = ℕ} [] k 0 < 256
 no-first k h = absurd (omega (arith, h))
@@ -202,3 +207,16 @@ starts program choice R places result name legal firsts holds listed file word t
     answer-reached m ds at p q zero h out = let r = sym p ∙ out in absurd (cc)
     answer-reached m ds at p q (suc zero) h out = let r = sym q ∙ out in absurd (cc)
     answer-reached m ds at p q (suc (suc i)) h out = absurd (omega (arith, h))
+
+-- bytes that stand somewhere can be reached
+bytes-reached : (m : Cells) (p : Place) (j : ℕ) (bytes : List ℕ) → HasBytes m p j bytes → (i : ℕ) → i < length bytes → m (address_of p (j + i)) ≡ Outside → ⊥
+bytes-reached m p j [] has i h out = omega (arith, h)
+bytes-reached m p j (b ∷ bytes) has zero h out = let first : j + 0 ≡ j = omega arith in let r = sym has.0 ∙ ap m (ap (address_of p) (sym first)) ∙ out in absurd (cc)
+bytes-reached m p j (b ∷ bytes) has (suc i) h out = let e : j + 1 + i ≡ j + suc i = omega arith in bytes-reached m p (j + 1) bytes has.2 i (omega (arith, h)) (ap m (ap (address_of p) e) ∙ out)
+
+pub scratch-starts : (program : FlatProgram) (choice : Choice) (R : Mention → Type 0) (scratch : ℕ) → IsLegal program choice R → FirstsFit program → HoldsHeapUnit program → Contains program.order overlay_unit → length program.ovr_name ≤ 80 → HasScratch program choice scratch → ScratchReached choice scratch (start_cells program choice)
+scratch-starts program choice R scratch legal firsts holds listed few there i h out =
+    let fits = fits-runtime program choice holds few in
+    let zeros = start program choice R legal firsts scratch_key heap_code scratch_datum scratch (record { listed = listed; unit_is = holds.is_there; datum_is = refl; placed = there.scratch_is; fits = omega arith; small = no-first }) fits is-scratch in
+    let e : i ≡ 0 + i = omega arith in
+    bytes-reached (start_cells program choice) (place choice.data_segment scratch) 0 (filled 8 []) zeros i h (ap (start_cells program choice) (ap (address_of (place choice.data_segment scratch)) (sym e)) ∙ out)

@@ -5,6 +5,7 @@ use Rattle.heap_runtime.specs.overlay.Data.{ovr_result_datum, ovr_name_datum}
 use Rattle.heap_runtime.specs.overlay.Routines.{init_routine, set_buffer_routine, clear_buffer_routine}
 use Rattle.heap_runtime.specs.heap.Routines.{new_routine, dispose_routine}
 use Rattle.heap_runtime.specs.clear.Routines.{clear_routine}
+use Rattle.heap_runtime.specs.scratch.Data.{scratch_datum}
 
 -- the heap's segment and its bytes, which the program gets as it starts
 abbrev pub heap_segment_datum : Datum
@@ -22,7 +23,7 @@ abbrev pub heap_codes : List Routine
 heap_codes = init_routine ∷ set_buffer_routine ∷ clear_buffer_routine ∷ new_routine ∷ dispose_routine ∷ clear_routine ∷ []
 
 abbrev pub heap_data : List Datum
-heap_data = ovr_result_datum ∷ heap_segment_datum ∷ heap_bytes_datum ∷ ovr_name_datum ∷ heap_state_datum ∷ []
+heap_data = ovr_result_datum ∷ heap_segment_datum ∷ heap_bytes_datum ∷ ovr_name_datum ∷ heap_state_datum ∷ scratch_datum ∷ []
 
 abbrev pub heap_code : UnitCode
 heap_code = record {

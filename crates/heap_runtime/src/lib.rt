@@ -7,13 +7,15 @@ pub mod overlay;
 
 ghost use Rattle.std.specs.Prelude.{◌≡◌, ◌≤◌, ◌<◌, IfOk, ℕ, [], length, Bool, IsTrue, Contains};
 ghost use Rattle.flat_code.specs.Program.{FlatProgram, Choice, Datum, overlay_unit};
-ghost use Rattle.flat_code.specs.Legal.{StackFits, Mention, IsLegal};
+ghost use Rattle.flat_code.specs.Legal.{StackFits, Mention, ToDatum, IsLegal};
+ghost use Rattle.flat_code.specs.Meaning.{start_cells};
 ghost use Rattle.flat_code.specs.Plain.{view_unit, view_datum};
 ghost use Rattle.flat_code.specs.Weights.{unit_weight};
 ghost use Rattle.runtime_proofs.specs.start_data.Start.{FirstsFit, FitsRuntime};
 ghost use Rattle.flat_code.specs.leaf_routines.Leaves.{AreLeaves};
 ghost use Rattle.heap_runtime.specs.overlay.Data.{HasOverlay};
 ghost use Rattle.heap_runtime.specs.heap.HeapMemory.{HeapPlaces, ReachesHeapData};
+ghost use Rattle.heap_runtime.specs.scratch.Data.{scratch_key, HasScratch, ScratchReached};
 ghost use Rattle.heap_runtime.specs.Unit.{heap_code, HoldsHeapUnit};
 ghost use Rattle.heap_runtime.specs.Specifications.{HeapWorks, ReachesOverlay, IsFileName, StartsHeap};
 
@@ -51,6 +53,7 @@ fn whole_unit(alloc: Global) -> Result<FlatUnit, AllocError>
         zeros(alloc, 4),
         zeros(alloc, 81),
         zeros(alloc, 4),
+        zeros(alloc, 8),
     ]?;
     Ok(FlatUnit {
         names: Names::from_vec(names),
@@ -80,6 +83,8 @@ pub fn heap_unit_laws()
     ensures places { (program : FlatProgram) (choice : Choice) (reached : Mention → Bool) → IsLegal program choice (λ mention. IsTrue (reached mention)) → HoldsHeapUnit program → ReachesHeapData (λ mention. IsTrue (reached mention)) → program.heap ≤ 196608 → HeapPlaces program choice }
     ensures overlay { (program : FlatProgram) (choice : Choice) (reached : Mention → Bool) → IsLegal program choice (λ mention. IsTrue (reached mention)) → HoldsHeapUnit program → ReachesOverlay (λ mention. IsTrue (reached mention)) → (at : ℕ) × (file : ℕ) × HasOverlay program choice at file }
     ensures starts { (program : FlatProgram) (choice : Choice) (reached : Mention → Bool) (places : HeapPlaces program choice) (at file : ℕ) → IsLegal program choice (λ mention. IsTrue (reached mention)) → FirstsFit program → HoldsHeapUnit program → Contains program.order overlay_unit → IsFileName program.ovr_name → choice.heap_segment < 65536 → HasOverlay program choice at file → StartsHeap program choice places at file }
+    ensures scratch { (program : FlatProgram) (choice : Choice) (reached : Mention → Bool) → IsLegal program choice (λ mention. IsTrue (reached mention)) → HoldsHeapUnit program → IsTrue (reached (ToDatum scratch_key)) → (at : ℕ) × HasScratch program choice at }
+    ensures scratch_starts { (program : FlatProgram) (choice : Choice) (reached : Mention → Bool) (at : ℕ) → IsLegal program choice (λ mention. IsTrue (reached mention)) → FirstsFit program → HoldsHeapUnit program → Contains program.order overlay_unit → length program.ovr_name ≤ 80 → HasScratch program choice at → ScratchReached choice at (start_cells program choice) }
     ensures fits { (program : FlatProgram) (choice : Choice) → HoldsHeapUnit program → length program.ovr_name ≤ 80 → FitsRuntime program choice }
     ensures leaves { AreLeaves 24 heap_code.routines }
 {}

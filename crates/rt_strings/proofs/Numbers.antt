@@ -21,6 +21,7 @@ module _ (program : FlatProgram) (choice : Choice) (fits : StackFits program cho
     left_shift = law.left_shift program choice strings_code fits (record { unit_is = sym holds.is_there; routine_is = refl; resident = holds.resident; untested = refl; far = refl; locals = refl });
     right_shift = law.right_shift program choice strings_code fits (record { unit_is = sym holds.is_there; routine_is = refl; resident = holds.resident; untested = refl; far = refl; locals = refl });
     range = law.range program choice strings_code fits (record { unit_is = sym holds.is_there; routine_is = refl; resident = holds.resident; untested = refl; far = refl; locals = refl });
+    between = law.between program choice strings_code fits (record { unit_is = sym holds.is_there; routine_is = refl; resident = holds.resident; untested = refl; far = refl; locals = refl });
   }
 
   pub is-runtime : IsRuntime program choice

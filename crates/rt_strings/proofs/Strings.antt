@@ -1,4 +1,4 @@
--- The routines on strings and sets, as they stand in the unit.
+-- The routines on strings and sets, those that load and move, and those on classes, as they stand in the unit.
 use Rattle.std.proofs.Common.{refl, sym}
 use Rattle.flat_code.specs.Program.{FlatProgram, Choice}
 use Rattle.flat_code.specs.Legal.{StackFits}
@@ -14,8 +14,12 @@ use Rattle.rt_strings.proofs.sets.Combining.{unites, takes-away, intersects}
 use Rattle.rt_strings.proofs.set_relations.Relating.{tells-same, tells-subset}
 use Rattle.rt_strings.proofs.set_relations.Members.{tells-member}
 use Rattle.rt_strings.proofs.set_constructors.Including.{includes}
+use Rattle.rt_strings.proofs.memory.Loading.{loads-byte, loads-short, loads-word}
+use Rattle.rt_strings.proofs.memory.Moving.{moves-bytes}
+use Rattle.rt_strings.proofs.objects.Finding.{finds-method}
+use Rattle.rt_strings.proofs.objects.Classes.{tells-size}
 use Rattle.rt_strings.specs.Unit.{strings_code, HoldsStrings}
-use Rattle.rt_strings.specs.Specifications.{StringsWork, SetsWork}
+use Rattle.rt_strings.specs.Specifications.{StringsWork, SetsWork, AccessWorks}
 
 module _ (program : FlatProgram) (choice : Choice) (fits : StackFits program choice) (holds : HoldsStrings program) where
   pub strings-work : StringsWork program choice
@@ -39,4 +43,14 @@ module _ (program : FlatProgram) (choice : Choice) (fits : StackFits program cho
     subset = tells-subset program choice strings_code fits (record { unit_is = sym holds.is_there; routine_is = refl; resident = holds.resident; untested = refl; far = refl; locals = refl });
     member = tells-member program choice strings_code fits (record { unit_is = sym holds.is_there; routine_is = refl; resident = holds.resident; untested = refl; far = refl; locals = refl });
     include = includes program choice strings_code fits (record { unit_is = sym holds.is_there; routine_is = refl; resident = holds.resident; untested = refl; far = refl; locals = refl });
+  }
+
+  pub access-works : AccessWorks program choice
+  access-works = record {
+    byte = loads-byte program choice strings_code fits (record { unit_is = sym holds.is_there; routine_is = refl; resident = holds.resident; untested = refl; far = refl; locals = refl });
+    short = loads-short program choice strings_code fits (record { unit_is = sym holds.is_there; routine_is = refl; resident = holds.resident; untested = refl; far = refl; locals = refl });
+    word = loads-word program choice strings_code fits (record { unit_is = sym holds.is_there; routine_is = refl; resident = holds.resident; untested = refl; far = refl; locals = refl });
+    moves = moves-bytes program choice strings_code fits (record { unit_is = sym holds.is_there; routine_is = refl; resident = holds.resident; untested = refl; far = refl; locals = refl });
+    method = finds-method program choice strings_code fits (record { unit_is = sym holds.is_there; routine_is = refl; resident = holds.resident; untested = refl; far = refl; locals = refl });
+    size = tells-size program choice strings_code fits (record { unit_is = sym holds.is_there; routine_is = refl; resident = holds.resident; untested = refl; far = refl; locals = refl });
   }

@@ -1,6 +1,8 @@
 pub mod Unit
 pub mod Specifications
+pub mod memory
 pub mod long_integers
+pub mod objects
 pub mod set_constructors
 pub mod set_relations
 pub mod sets

@@ -1,4 +1,4 @@
--- What the runtime promises of its routines on strings and sets.
+-- What the runtime promises of its routines on strings, sets, memory and classes.
 use Rattle.flat_code.specs.Program.{FlatProgram, Choice}
 use Rattle.rt_strings.specs.short_strings.Specifications.{Assigns}
 use Rattle.rt_strings.specs.string_joins.Specifications.{Joins, Inserts}
@@ -8,6 +8,8 @@ use Rattle.rt_strings.specs.string_search.Specifications.{Searches}
 use Rattle.rt_strings.specs.sets.Specifications.{Unites, TakesAway, Intersects}
 use Rattle.rt_strings.specs.set_relations.Specifications.{TellsSame, TellsSubset, TellsMember}
 use Rattle.rt_strings.specs.set_constructors.Specifications.{Includes}
+use Rattle.rt_strings.specs.memory.Specifications.{LoadsByte, LoadsShort, LoadsWord, MovesBytes}
+use Rattle.rt_strings.specs.objects.Specifications.{FindsMethod, TellsClassSize}
 
 -- all on strings
 pub record StringsWork (program : FlatProgram) (choice : Choice) : Type 0 where
@@ -29,3 +31,12 @@ pub record SetsWork (program : FlatProgram) (choice : Choice) : Type 0 where
   pub subset : TellsSubset program choice
   pub member : TellsMember program choice
   pub include : Includes program choice
+
+-- those that load and move through pointers, and those that find what the class of an instance has
+pub record AccessWorks (program : FlatProgram) (choice : Choice) : Type 0 where
+  pub byte : LoadsByte program choice
+  pub short : LoadsShort program choice
+  pub word : LoadsWord program choice
+  pub moves : MovesBytes program choice
+  pub method : FindsMethod program choice
+  pub size : TellsClassSize program choice

@@ -2,6 +2,8 @@
 #![tactic(auto)]
 
 pub mod long_integers;
+pub mod memory;
+pub mod objects;
 pub mod set_constructors;
 pub mod set_relations;
 pub mod sets;
@@ -20,12 +22,14 @@ ghost use Rattle.flat_code.specs.Weights.{unit_weight};
 ghost use Rattle.flat_code.specs.leaf_routines.Leaves.{AreLeaves};
 ghost use Rattle.rt_strings.specs.long_integers.Specifications.{NumbersWork};
 ghost use Rattle.rt_strings.specs.Unit.{strings_code, HoldsStrings};
-ghost use Rattle.rt_strings.specs.Specifications.{StringsWork, SetsWork};
+ghost use Rattle.rt_strings.specs.Specifications.{StringsWork, SetsWork, AccessWorks};
 
 use crate::long_integers::{
-    difference, equal, left_shift, less, negation, product, quotient, range, remainder,
+    between, difference, equal, left_shift, less, negation, product, quotient, range, remainder,
     right_shift, sum,
 };
+use crate::memory::{load_byte, load_short, load_word, move_bytes};
+use crate::objects::{class_size, method};
 use crate::set_constructors::include;
 use crate::set_relations::{member, same, subset};
 use crate::sets::{difference as set_difference, intersection, union};
@@ -70,6 +74,13 @@ fn whole_unit(alloc: Global) -> Result<FlatUnit, AllocError>
         subset(alloc)?,
         member(alloc)?,
         include(alloc)?,
+        load_byte(alloc)?,
+        load_short(alloc)?,
+        load_word(alloc)?,
+        move_bytes(alloc)?,
+        between(alloc)?,
+        method(alloc)?,
+        class_size(alloc)?,
     ]?;
     Ok(FlatUnit {
         names: Names::from_vec(names),
@@ -96,6 +107,7 @@ pub fn routine_laws()
     ensures numbers { (program : FlatProgram) (choice : Choice) → StackFits program choice → HoldsStrings program → NumbersWork program choice }
     ensures strings { (program : FlatProgram) (choice : Choice) → StackFits program choice → HoldsStrings program → StringsWork program choice }
     ensures sets { (program : FlatProgram) (choice : Choice) → StackFits program choice → HoldsStrings program → SetsWork program choice }
+    ensures access { (program : FlatProgram) (choice : Choice) → StackFits program choice → HoldsStrings program → AccessWorks program choice }
     ensures leaves { AreLeaves 64 strings_code.routines }
     ensures runtime { (program : FlatProgram) (choice : Choice) → StackFits program choice → HoldsStrings program → IsRuntime program choice }
 {}

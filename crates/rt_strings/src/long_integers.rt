@@ -5,17 +5,17 @@ ghost use Rattle.flat_code.specs.Program.{FlatProgram, Choice, UnitCode, runtime
 ghost use Rattle.flat_code.specs.Legal.{StackFits};
 ghost use Rattle.flat_code.specs.Runtime.{negation_number, product_number, less_number, quotient_number, remainder_number, negation_routine};
 ghost use Rattle.runtime_proofs.specs.routine_proofs.Specifications.{IsHeld};
-ghost use Rattle.rt_strings.specs.long_integers.Routines.{product_routine, less_routine, sum_routine, difference_routine, equal_routine, left_shift_routine, right_shift_routine, range_routine};
+ghost use Rattle.rt_strings.specs.long_integers.Routines.{product_routine, less_routine, sum_routine, difference_routine, equal_routine, left_shift_routine, right_shift_routine, range_routine, between_routine};
 ghost use Rattle.rt_strings.specs.long_integers.Division.{quotient_routine, remainder_routine};
-ghost use Rattle.rt_strings.specs.long_integers.Numbers.{sum_number, difference_number, equal_number, left_shift_number, right_shift_number, range_number};
-ghost use Rattle.rt_strings.specs.long_integers.Specifications.{Negates, Multiplies, Compares, Divides, TakesRemainder, Adds, Subtracts, TestsEqual, ShiftsLeft, ShiftsRight, TestsRange};
+ghost use Rattle.rt_strings.specs.long_integers.Numbers.{sum_number, difference_number, equal_number, left_shift_number, right_shift_number, range_number, between_number};
+ghost use Rattle.rt_strings.specs.long_integers.Specifications.{Negates, Multiplies, Compares, Divides, TakesRemainder, Adds, Subtracts, TestsEqual, ShiftsLeft, ShiftsRight, TestsRange, TestsBetween};
 
 mod division;
 mod shifts;
 mod words;
 
 pub use division::{quotient, remainder};
-pub use shifts::{left_shift, range, right_shift};
+pub use shifts::{between, left_shift, range, right_shift};
 pub use words::{difference, equal, less, negation, product, sum};
 
 /// The laws of the routines: in each program whose unit of strings holds the routine under its number,
@@ -32,4 +32,5 @@ pub fn number_laws()
     ensures left_shift { (program : FlatProgram) (choice : Choice) (unit : UnitCode) → StackFits program choice → IsHeld program (runtime_key left_shift_number) unit left_shift_routine → ShiftsLeft program choice }
     ensures right_shift { (program : FlatProgram) (choice : Choice) (unit : UnitCode) → StackFits program choice → IsHeld program (runtime_key right_shift_number) unit right_shift_routine → ShiftsRight program choice }
     ensures range { (program : FlatProgram) (choice : Choice) (unit : UnitCode) → StackFits program choice → IsHeld program (runtime_key range_number) unit range_routine → TestsRange program choice }
+    ensures between { (program : FlatProgram) (choice : Choice) (unit : UnitCode) → StackFits program choice → IsHeld program (runtime_key between_number) unit between_routine → TestsBetween program choice }
 {}

@@ -1,3 +1,4 @@
 pub mod Together
 pub mod Chains
 pub mod First
+pub mod PlainCode

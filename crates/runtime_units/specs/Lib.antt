@@ -1,4 +1,5 @@
 pub mod Units
 pub mod Specifications
 pub mod Bounds
+pub mod PlainCode
 pub mod numbers

@@ -8,6 +8,7 @@ use Rattle.heap_runtime.specs.overlay.Data.{HasOverlay}
 use Rattle.heap_runtime.specs.heap.HeapMemory.{HeapPlaces, ReachesHeapData}
 use Rattle.rt_text.specs.Unit.{text_code, HoldsTextUnit}
 use Rattle.rt_strings.specs.Unit.{strings_code, HoldsStrings}
+use Rattle.heap_runtime.specs.scratch.Data.{scratch_key, HasScratch}
 use Rattle.heap_runtime.specs.Unit.{heap_code, HoldsHeapUnit}
 use Rattle.heap_runtime.specs.Specifications.{ReachesOverlay, IsFileName}
 
@@ -30,6 +31,7 @@ pub record ReachesRuntimeData (R : Mention → Type 0) : Type 0 where
   pub ahead : R (ToDatum ahead_key)
   pub overlay : ReachesOverlay R
   pub heap : ReachesHeapData R
+  pub scratch : R (ToDatum scratch_key)
 
 -- where they lie
 pub record RuntimePlaces (program : FlatProgram) (choice : Choice) : Type 0 where
@@ -40,6 +42,8 @@ pub record RuntimePlaces (program : FlatProgram) (choice : Choice) : Type 0 wher
   pub text : HasText program choice item ahead
   pub overlay : HasOverlay program choice result name
   pub heap : HeapPlaces program choice
+  pub scratch : ℕ
+  pub scratch_there : HasScratch program choice scratch
 
 -- the units with data stand in the program's order, and what the runtime is given has room
 pub record CanStart (program : FlatProgram) (choice : Choice) : Type 0 where

@@ -5,14 +5,14 @@ use Rattle.flat_code.specs.Legal.{StackFits}
 use Rattle.runtime_proofs.specs.routine_proofs.Specifications.{IsHeld}
 use Rattle.flat_code.specs.Runtime.{negation_number, product_number, less_number, quotient_number, remainder_number, negation_of, product_of, less_of, quotient_of, remainder_of, negation_routine}
 use Rattle.runtime_proofs.proofs.routine_proofs.Calls.{computes-so}
-use Rattle.rt_strings.specs.long_integers.Routines.{product_routine, less_routine, sum_routine, difference_routine, equal_routine, left_shift_routine, right_shift_routine, range_routine}
+use Rattle.rt_strings.specs.long_integers.Routines.{product_routine, less_routine, sum_routine, difference_routine, equal_routine, left_shift_routine, right_shift_routine, range_routine, between_routine}
 use Rattle.rt_strings.specs.long_integers.Division.{quotient_routine, remainder_routine}
-use Rattle.rt_strings.specs.long_integers.Numbers.{sum_number, difference_number, equal_number, left_shift_number, right_shift_number, range_number, sum_of, difference_of, equal_of, left_shift_of, right_shift_of, range_of}
+use Rattle.rt_strings.specs.long_integers.Numbers.{sum_number, difference_number, equal_number, left_shift_number, right_shift_number, range_number, between_number, sum_of, difference_of, equal_of, left_shift_of, right_shift_of, range_of, between_of}
 use Rattle.rt_strings.proofs.long_integers.WordReplies.{negation-replies, product-replies, less-replies, sum-replies, difference-replies, equal-replies}
 use Rattle.rt_strings.proofs.long_integers.ShiftReplies.{left-replies, right-replies}
-use Rattle.rt_strings.proofs.long_integers.RangeReplies.{range-replies}
+use Rattle.rt_strings.proofs.long_integers.RangeReplies.{range-replies, between-replies}
 use Rattle.rt_strings.proofs.long_integers.DivisionReplies.{quotient-replies, remainder-replies}
-use Rattle.rt_strings.specs.long_integers.Specifications.{Negates, Multiplies, Compares, Divides, TakesRemainder, Adds, Subtracts, TestsEqual, ShiftsLeft, ShiftsRight, TestsRange}
+use Rattle.rt_strings.specs.long_integers.Specifications.{Negates, Multiplies, Compares, Divides, TakesRemainder, Adds, Subtracts, TestsEqual, ShiftsLeft, ShiftsRight, TestsRange, TestsBetween}
 
 pub negation : (program : FlatProgram) (choice : Choice) (unit : UnitCode) → StackFits program choice → IsHeld program (runtime_key negation_number) unit negation_routine → Negates program choice
 negation program choice unit fits held_so = computes-so program choice (runtime_key negation_number) unit negation_routine 32 2 0 64 negation_of held_so fits refl (omega arith) (λ args own sp s are placed. negation-replies program choice own sp s placed args are)
@@ -46,3 +46,6 @@ right_shift program choice unit fits held_so = computes-so program choice (runti
 
 pub range : (program : FlatProgram) (choice : Choice) (unit : UnitCode) → StackFits program choice → IsHeld program (runtime_key range_number) unit range_routine → TestsRange program choice
 range program choice unit fits held_so = computes-so program choice (runtime_key range_number) unit range_routine 64 6 0 128 range_of held_so fits refl (omega arith) (λ args own sp s are placed. range-replies program choice own sp s placed args are)
+
+pub between : (program : FlatProgram) (choice : Choice) (unit : UnitCode) → StackFits program choice → IsHeld program (runtime_key between_number) unit between_routine → TestsBetween program choice
+between program choice unit fits held_so = computes-so program choice (runtime_key between_number) unit between_routine 64 6 0 64 between_of held_so fits refl (omega arith) (λ args own sp s are placed. between-replies program choice own sp s placed args are)

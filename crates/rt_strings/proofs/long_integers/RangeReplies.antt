@@ -1,7 +1,8 @@
--- The routine that tests a LongInt against a range.
+-- The routines that test a LongInt against a range.
 use Rattle.std.proofs.Common.{◌≡◌, ℕ, ◌<◌, List, [], ◌∷◌, Ok, Err, Bool, true, false, refl, sym, ap, ◌∙◌, arith}
-use Rattle.std.specs.Prelude.{◌||◌, bit_or, if◌then◌else◌}
+use Rattle.std.specs.Prelude.{◌||◌, ◌==◌, not, bit_or, if◌then◌else◌}
 use Rattle.common_values.specs.integers.Words.{w32, is_signed_less}
+use Rattle.flat_code.specs.Memory.{Found, word_bytes}
 use Rattle.flat_code.specs.Meaning.{Frame, State, truth}
 use Rattle.flat_code.specs.Program.{FlatProgram, Choice}
 use Rattle.flat_code.specs.Gives.{AreWords}
@@ -11,8 +12,8 @@ use Rattle.runtime_proofs.specs.routine_proofs.Straight.{Onward}
 use Rattle.runtime_proofs.specs.routine_proofs.Entry.{entered}
 use Rattle.runtime_proofs.specs.routine_proofs.Specifications.{Replies}
 use Rattle.runtime_proofs.proofs.routine_proofs.Replies.{answers-straight, fails-straight, taken-so, other-so, six-words}
-use Rattle.rt_strings.specs.long_integers.Routines.{range_routine}
-use Rattle.rt_strings.specs.long_integers.Numbers.{range_of}
+use Rattle.rt_strings.specs.long_integers.Routines.{range_routine, between_routine}
+use Rattle.rt_strings.specs.long_integers.Numbers.{range_of, between_of}
 use Rattle.rt_strings.proofs.long_integers.Bytes.{long-bytes}
 use Rattle.rt_strings.proofs.long_integers.Comparing.{less_word, less-is, either-bit}
 
@@ -36,3 +37,17 @@ module _ (program : FlatProgram) (choice : Choice) (own : Frame) (sp : ℕ) (s :
   pub range-replies : (args : List ℕ) → AreWords 6 args → Replies program choice own sp range_routine 0 128 (entered choice sp 4 args s) (range_of args)
   range-replies = six-words (λ args. Replies program choice own sp range_routine 0 128 (entered choice sp 4 args s) (range_of args)) (λ a b c d e g p q r t u v.
       by-test a b c d e g p q (is_signed_less w32 (long_word a b) (long_word c d) || is_signed_less w32 (long_word e g) (long_word a b)) (test-is a b c d e g p q r t u v))
+
+-- ---- whether it is in the range
+
+denied : (x : Bool) → truth (truth x == 0) ≡ truth (not x)
+denied true = refl
+denied false = refl
+
+module _ (program : FlatProgram) (choice : Choice) (own : Frame) (sp : ℕ) (s : State) (placed : IsPlaced choice own sp 18) where
+  pub between-replies : (args : List ℕ) → AreWords 6 args → Replies program choice own sp between_routine 0 64 (entered choice sp 2 args s) (between_of args)
+  between-replies = six-words (λ args. Replies program choice own sp between_routine 0 64 (entered choice sp 2 args s) (between_of args)) (λ a b c d e g p q r t u v.
+      let out = is_signed_less w32 (long_word a b) (long_word c d) || is_signed_less w32 (long_word e g) (long_word a b) in
+      answers-straight program choice own sp between_routine 0 64 _ Onward _ _ placed refl tt
+      (ap (λ n. let r : Found (List ℕ) = Ok (word_bytes (truth (n == 0))) in r) (test-is program choice own sp s placed a b c d e g p q r t u v) ∙ ap (λ n. let r : Found (List ℕ) = Ok (word_bytes n) in r) (denied out))
+      (record { memory = refl; flag = refl; input = refl; out = refl; err = refl }) (omega arith))

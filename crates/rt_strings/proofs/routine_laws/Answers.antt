@@ -1,5 +1,5 @@
 use Rattle.rt_strings.proofs.Numbers.{numbers-work, is-runtime}
-use Rattle.rt_strings.proofs.Strings.{strings-work, sets-work}
+use Rattle.rt_strings.proofs.Strings.{strings-work, sets-work, access-works}
 use Rattle.rt_strings.proofs.Leaves.{leaves}
 use Rattle.rt_strings.proofs.routine_laws.Goals as goal
 
@@ -14,6 +14,9 @@ returns-clause-strings c = strings-work
 
 pub returns-clause-sets : goal.returns-clause-sets
 returns-clause-sets c = sets-work
+
+pub returns-clause-access : goal.returns-clause-access
+returns-clause-access c = access-works
 
 pub returns-clause-leaves : goal.returns-clause-leaves
 returns-clause-leaves c = leaves

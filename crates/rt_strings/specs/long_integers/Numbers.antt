@@ -1,5 +1,5 @@
 -- What the routines compute from the words of LongInts, each the lower word first, and the numbers by which programs call them.
-use Rattle.std.specs.Prelude.{ℕ, ◌==◌, if◌then◌else◌, ◌||◌, List, [], ◌∷◌, Result, Ok, Err}
+use Rattle.std.specs.Prelude.{ℕ, ◌==◌, if◌then◌else◌, ◌||◌, Bool, not, List, [], ◌∷◌, Result, Ok, Err}
 use Rattle.common_values.specs.integers.Words.{w32, wrapping_add, wrapping_sub, is_signed_less, shifted_left, shifted_right, low_byte}
 use Rattle.flat_code.specs.Memory.{word_bytes}
 use Rattle.flat_code.specs.Meaning.{truth}
@@ -22,6 +22,9 @@ right_shift_number = 521
 
 abbrev pub range_number : ℕ
 range_number = 522
+
+abbrev pub between_number : ℕ
+between_number = 542
 
 abbrev pub sum_of : List ℕ → Result (List ℕ) ℕ
 sum_of = from_two (λ x y. Ok (long_bytes (wrapping_add w32 x y)))
@@ -52,3 +55,11 @@ in_range value lowest greatest = if is_signed_less w32 value lowest || is_signed
 abbrev pub range_of : List ℕ → Result (List ℕ) ℕ
 range_of (a ∷ b ∷ c ∷ d ∷ e ∷ f ∷ []) = in_range (long_word a b) (long_word c d) (long_word e f)
 range_of words = Ok []
+
+abbrev pub is_between : ℕ → ℕ → ℕ → Bool
+is_between value lowest greatest = not (is_signed_less w32 value lowest || is_signed_less w32 greatest value)
+
+-- a word that is 1 where the value lies in the range, else 0
+abbrev pub between_of : List ℕ → Result (List ℕ) ℕ
+between_of (a ∷ b ∷ c ∷ d ∷ e ∷ f ∷ []) = Ok (word_bytes (truth (is_between (long_word a b) (long_word c d) (long_word e f))))
+between_of words = Ok []

@@ -125,3 +125,7 @@ range_routine =
     (Do (StoreWord (Local (negsuc 3)) (word (pos 16)))
     (Do (StoreWord (Local (negsuc 1)) (word (pos 14)))
     End)))
+
+-- whether it lies in the range
+abbrev pub between_routine : Routine
+between_routine = routine_of 12 2 (negsuc 1) 2 (Do (StoreWord (Local (negsuc 1)) (Op op.Equal out_of_range (Number 0))) End)

@@ -2,7 +2,7 @@
 use Rattle.flat_code.specs.Program.{FlatProgram, Choice, runtime_key}
 use Rattle.flat_code.specs.Gives.{Computes}
 use Rattle.flat_code.specs.Runtime.{negation_number, product_number, less_number, quotient_number, remainder_number, negation_of, product_of, less_of, quotient_of, remainder_of}
-use Rattle.rt_strings.specs.long_integers.Numbers.{sum_number, difference_number, equal_number, left_shift_number, right_shift_number, range_number, sum_of, difference_of, equal_of, left_shift_of, right_shift_of, range_of}
+use Rattle.rt_strings.specs.long_integers.Numbers.{sum_number, difference_number, equal_number, left_shift_number, right_shift_number, range_number, between_number, sum_of, difference_of, equal_of, left_shift_of, right_shift_of, range_of, between_of}
 
 abbrev pub Negates : FlatProgram → Choice → Type 0
 Negates program choice = Computes program choice (runtime_key negation_number) 32 2 negation_of 0 64
@@ -37,6 +37,9 @@ ShiftsRight program choice = Computes program choice (runtime_key right_shift_nu
 abbrev pub TestsRange : FlatProgram → Choice → Type 0
 TestsRange program choice = Computes program choice (runtime_key range_number) 64 6 range_of 0 128
 
+abbrev pub TestsBetween : FlatProgram → Choice → Type 0
+TestsBetween program choice = Computes program choice (runtime_key between_number) 64 6 between_of 0 64
+
 -- all of them
 pub record NumbersWork (program : FlatProgram) (choice : Choice) : Type 0 where
   pub negation : Negates program choice
@@ -50,3 +53,4 @@ pub record NumbersWork (program : FlatProgram) (choice : Choice) : Type 0 where
   pub left_shift : ShiftsLeft program choice
   pub right_shift : ShiftsRight program choice
   pub range : TestsRange program choice
+  pub between : TestsBetween program choice

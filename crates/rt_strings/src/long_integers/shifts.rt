@@ -1,10 +1,10 @@
-//! Shifts, and the test of a range.
+//! Shifts, and the tests of a range.
 
 ghost use Rattle.std.specs.Prelude.{◌≡◌, IfOk};
 ghost use Rattle.flat_code.specs.View.{view_expr, view_list};
 ghost use Rattle.flat_code.specs.Plain.{view_routine};
 ghost use Rattle.flat_code.specs.Tree.{Op, If, End};
-ghost use Rattle.rt_strings.specs.long_integers.Routines.{places, few_places, left_few, left_many, right_few, right_many, out_of_range, left_shift_routine, right_shift_routine, range_routine};
+ghost use Rattle.rt_strings.specs.long_integers.Routines.{places, few_places, left_few, left_many, right_few, right_many, out_of_range, left_shift_routine, right_shift_routine, range_routine, between_routine};
 
 use crate::long_integers::words::is_less;
 use flat_code::flat_builders::{name, op, routine, set, when, word};
@@ -104,4 +104,14 @@ pub fn range(alloc: Global) -> Result<FlatRoutine, AllocError>
         set(-2, word(14)),
     ]?;
     Ok(routine(name(b"RANGE"), 12, 4, -4, 4, body))
+}
+
+/// Whether a LongInt lies in a range.
+pub fn between(alloc: Global) -> Result<FlatRoutine, AllocError>
+    ensures { IfOk result (λ routine. view_routine routine ≡ between_routine) }
+{
+    let outside = out_of_range(alloc)?;
+    let inside = op(alloc, FlatOp::Equal, outside, FlatExpr::Number(0))?;
+    let body = vec![in alloc; set(-2, inside)]?;
+    Ok(routine(name(b"BETWEEN"), 12, 2, -2, 2, body))
 }

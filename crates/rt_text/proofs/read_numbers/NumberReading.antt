@@ -30,7 +30,7 @@ use Rattle.rt_text.specs.numeral_steps.Step.{is_number, is_byte, begin_numeral, 
 use Rattle.rt_text.proofs.numeral_steps.Signing.{signs}
 use Rattle.rt_text.specs.read_numbers.Routines.{gap_round, word_round, end_word, read_word, read_number_code, read_number_routine}
 use Rattle.rt_text.specs.read_numbers.Specifications.{read_number_number, number_turns, RefusesNumber, ReadsSo, ReadsNumber}
-use Rattle.rt_text.proofs.read_numbers.Words.{ends_word, word_of, behind_word, word-is, rest-is, next_of_stage, stage_behind, value_behind, BoundedStage, stays-bounded, value-is}
+use Rattle.rt_text.proofs.read_numbers.Words.{ends_word, word_of, behind_word, word-is, rest-is, behind-shorter, next_of_stage, stage_behind, value_behind, BoundedStage, stays-bounded, value-is}
 use Rattle.rt_text.proofs.read_numbers.Reading.{front, st, skip, read-word}
 
 -- the bytes of a LongInt from its words
@@ -166,25 +166,29 @@ module _ (program : FlatProgram) (choice : Choice) (own : Frame) (sp : ℕ) (is_
             (weaker test_end (2 * n + 2 + 0) (4 + (200 * (n + 1) + 40)) (2 * n + 2) (200 * (n + 1) + 44) a r.memory r.input (value_behind (stage_behind (Some stages.Start) (word_of l))) (omega arith) (omega arith) done);
       }
 
-  read-so : (l : List ℕ) (m : Cells) (i : List ℕ) → HasInput choice ahead m i l → is_separator (next_byte l) ≡ false → Read l (2 * length l + 2) (200 * (length l + 1) + 44) test_end (spot (first_words (next_byte l)) m i) m
-  read-so [] m i has stops = looser [] 0 4 m i (omega arith) (omega arith) (no-word [] m i has refl refl refl)
-    where
-      looser : (l : List ℕ) (t w : ℕ) (m : Cells) (i : List ℕ) → t ≤ 2 * length l + 2 → w ≤ 200 * (length l + 1) + 44 → Read l t w test_end (spot (first_words (next_byte l)) m i) m → Read l (2 * length l + 2) (200 * (length l + 1) + 44) test_end (spot (first_words (next_byte l)) m i) m
-      looser l t w m i p q r = record { memory = r.memory; input = r.input; input_is = r.input_is; others = r.others; is = weaker test_end t w (2 * length l + 2) (200 * (length l + 1) + 44) (spot (first_words (next_byte l)) m i) r.memory r.input (number_of (word_read l).0) p q r.is }
+  -- at most so much, by the bytes of the word
+  abbrev word_turns : List ℕ → ℕ
+  word_turns l = 2 * many l + 2
+
+  abbrev word_work : List ℕ → ℕ
+  word_work l = 200 * (many l + 1) + 44
+
+  looser : (l : List ℕ) (m : Cells) (i : List ℕ) → Read l 0 4 test_end (spot (first_words (next_byte l)) m i) m → Read l (word_turns l) (word_work l) test_end (spot (first_words (next_byte l)) m i) m
+  looser l m i r = record { memory = r.memory; input = r.input; input_is = r.input_is; others = r.others; is = weaker test_end 0 4 (word_turns l) (word_work l) (spot (first_words (next_byte l)) m i) r.memory r.input (number_of (word_read l).0) (omega arith) (omega arith) r.is }
+
+  read-so : (l : List ℕ) (m : Cells) (i : List ℕ) → HasInput choice ahead m i l → is_separator (next_byte l) ≡ false → Read l (word_turns l) (word_work l) test_end (spot (first_words (next_byte l)) m i) m
+  read-so [] m i has stops = looser [] m i (no-word [] m i has refl refl refl)
   read-so (b ∷ rest) m i has stops = by (b == 26) refl
     where
-      looser : (t w : ℕ) → t ≤ 2 * length (b ∷ rest) + 2 → w ≤ 200 * (length (b ∷ rest) + 1) + 44 → Read (b ∷ rest) t w test_end (spot (first_words b) m i) m → Read (b ∷ rest) (2 * length (b ∷ rest) + 2) (200 * (length (b ∷ rest) + 1) + 44) test_end (spot (first_words b) m i) m
-      looser t w p q r = record { memory = r.memory; input = r.input; input_is = r.input_is; others = r.others; is = weaker test_end t w (2 * length (b ∷ rest) + 2) (200 * (length (b ∷ rest) + 1) + 44) (spot (first_words b) m i) r.memory r.input (number_of (word_read (b ∷ rest)).0) p q r.is }
-
       ends-so : (t : Bool) → (b == 26) ≡ t → ends_word b ≡ t
       ends-so t e = ap (λ s. s || (b == 26)) stops ∙ e
 
-      by : (t : Bool) → (b == 26) ≡ t → Read (b ∷ rest) (2 * length (b ∷ rest) + 2) (200 * (length (b ∷ rest) + 1) + 44) test_end (spot (first_words b) m i) m
+      by : (t : Bool) → (b == 26) ≡ t → Read (b ∷ rest) (word_turns (b ∷ rest)) (word_work (b ∷ rest)) test_end (spot (first_words b) m i) m
       by true e =
           let ends = ends-so true e in
-          looser 0 4 (omega arith) (omega arith)
+          looser (b ∷ rest) m i
           (no-word (b ∷ rest) m i has (eqb-true b 26 e) (sym (ap (λ t. cond t [] (b ∷ word_of rest)) ends) ∙ word-is (b ∷ rest)) (sym (ap (λ t. cond t (b ∷ rest) (behind_word rest)) ends) ∙ rest-is (b ∷ rest)))
-      by false e = looser (2 * many (b ∷ rest) + 2) (200 * (many (b ∷ rest) + 1) + 44) (omega arith) (omega arith) (a-word b rest m i has (ends-so false e) (ap truth e))
+      by false e = a-word b rest m i has (ends-so false e) (ap truth e)
 
   -- ---- the whole routine
 
@@ -209,14 +213,16 @@ module _ (program : FlatProgram) (choice : Choice) (own : Frame) (sp : ℕ) (is_
       let a1 = spot (first_words 0) m i in
       let a2 = spot (first_words (next_byte l)) g.memory g.input in
       let o = number_of (word_read l).0 in
-      let rest = after (Loop gap_round End) test_end (2 * n + 2) (100 * (n + 1)) (2 * length l + 2) (200 * (length l + 1) + 44) a1 a2 r.memory r.input o g.does r.is in
-      let whole = after begin_numeral ((Loop gap_round End) then test_end) 0 (code_size begin_numeral) (2 * n + 2 + (2 * length l + 2)) (100 * (n + 1) + (200 * (length l + 1) + 44)) a0 a1 r.memory r.input o (straight-does program choice own sp 6 is_placed begin_numeral a0 Onward a1 refl) rest in
+      let rest = after (Loop gap_round End) test_end (2 * n + 2) (100 * (n + 1)) (word_turns l) (word_work l) a1 a2 r.memory r.input o g.does r.is in
+      let whole = after begin_numeral ((Loop gap_round End) then test_end) 0 (code_size begin_numeral) (2 * n + 2 + word_turns l) (100 * (n + 1) + word_work l) a0 a1 r.memory r.input o (straight-does program choice own sp 6 is_placed begin_numeral a0 Onward a1 refl) rest in
+      let same = ap (λ (k : List ℕ). length k) (rest-is l) in
+      let shorter = behind-shorter l in
       record {
         memory = r.memory;
         input = r.input;
         input_is = r.input_is;
         others = λ x free. r.others x free ∙ g.others x free;
-        is = weaker read_number_code (0 + (2 * n + 2 + (2 * length l + 2))) (code_size begin_numeral + (100 * (n + 1) + (200 * (length l + 1) + 44))) (number_turns left) (100 * (number_turns left + 1)) a0 r.memory r.input o (omega (arith, few)) (omega (arith, few)) whole;
+        is = weaker read_number_code (0 + (2 * n + 2 + word_turns l)) (code_size begin_numeral + (100 * (n + 1) + word_work l)) (number_turns left) (100 * (number_turns left + 1)) a0 r.memory r.input o (omega (arith, few, same, shorter)) (omega (arith, few, same, shorter)) whole;
       }
 
 -- ---- the promise

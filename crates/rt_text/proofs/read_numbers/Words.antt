@@ -1,5 +1,5 @@
 -- What a number takes of an input, byte by byte, and where its numeral stands then.
-use Rattle.std.proofs.Common.{◌≡◌, ℕ, suc, ◌+◌, Bool, true, false, cond, List, [], ◌∷◌, take, drop, Option, Some, None, Err, ℤ, refl, sym, ap, ◌∙◌, arith}
+use Rattle.std.proofs.Common.{◌≡◌, ℕ, suc, ◌+◌, ◌≤◌, Bool, true, false, cond, List, [], ◌∷◌, length, take, drop, Option, Some, None, Err, ℤ, refl, sym, ap, subst, ◌∙◌, arith}
 use Rattle.std.specs.Prelude.{◌==◌, ◌||◌, not, bit_or}
 use Rattle.std.specs.List.{prefix_len}
 use Rattle.std.specs.Option.{ok_or, option_map_or}
@@ -68,6 +68,14 @@ rest-is (b ∷ rest) = by (ends_word b) refl (rest-is rest)
     by : (t : Bool) → ends_word b ≡ t → behind_word rest ≡ (word_read rest).1 → cond (ends_word b) (b ∷ rest) (behind_word rest) ≡ drop (word_length (b ∷ rest)) (b ∷ rest)
     by true e h = ap (λ t. cond t (b ∷ rest) (behind_word rest)) e ∙ sym (ap (λ n. drop n (b ∷ rest)) (length-ended b rest e))
     by false e h = ap (λ t. cond t (b ∷ rest) (behind_word rest)) e ∙ h ∙ sym (ap (λ n. drop n (b ∷ rest)) (length-more b rest e))
+
+pub behind-shorter : (left : List ℕ) → length (behind_word left) ≤ length left
+behind-shorter [] = omega arith
+behind-shorter (b ∷ rest) = by (ends_word b) refl (behind-shorter rest)
+  where
+    by : (t : Bool) → ends_word b ≡ t → length (behind_word rest) ≤ length rest → length (cond (ends_word b) (b ∷ rest) (behind_word rest)) ≤ suc (length rest)
+    by true e h = subst (λ l. length l ≤ suc (length rest)) (sym (ap (λ t. cond t (b ∷ rest) (behind_word rest)) e)) (omega arith)
+    by false e h = subst (λ l. length l ≤ suc (length rest)) (sym (ap (λ t. cond t (b ∷ rest) (behind_word rest)) e)) (omega (arith, h))
 
 -- ---- where the numeral stands behind a word; None where no numeral went on
 

@@ -21,12 +21,30 @@ use Rattle.runtime_proofs.specs.text_memory.Data.{HasText, IsLeft, none, ahead_p
 use Rattle.runtime_proofs.proofs.text_memory.Effects.{taken-does, other-does}
 use Rattle.rt_text.specs.read_text.Ahead.{peek, take}
 use Rattle.rt_text.specs.read_text.Routines.{is_byte, after_return, after_byte, line_round, read_line_routine}
-use Rattle.rt_text.specs.read_text.Specifications.{read_line_number, AreBytes, HasInput, Reads, IsAhead, ReadsLine}
+use Rattle.rt_text.specs.read_text.Specifications.{read_line_number, AreBytes, HasInput, Reads, IsAhead, line_turns, ReadsLine}
 use Rattle.rt_text.proofs.read_text.InputLemmas.{left-rest, same-byte, other-byte, is-one, input-inside, input-left}
 use Rattle.rt_text.proofs.read_text.Peeking.{next_byte, with_ahead, with-ahead-has, with-ahead-other, Peeking, Peeked, peeked}
 use Rattle.rt_text.proofs.read_text.InputReading.{start, at, peeking, peeking-again, take-does}
 
 -- ---- what is left of a line
+
+line-shorter : (left : List ℕ) → length (after_line left) ≤ length left
+line-shorter [] = omega arith
+line-shorter (b ∷ rest) = by (b == 26) (b == 13) (b == 10) (line-shorter rest)
+  where
+    feed-shorter : (rest : List ℕ) → length (after_13 rest) ≤ length rest
+    feed-shorter [] = omega arith
+    feed-shorter (c ∷ r) = by-feed (c == 10)
+      where
+        by-feed : (t : Bool) → length (cond t r (c ∷ r)) ≤ suc (length r)
+        by-feed true = omega arith
+        by-feed false = omega arith
+
+    by : (t u v : Bool) → length (after_line rest) ≤ length rest → length (cond t (b ∷ rest) (cond u (after_13 rest) (cond v rest (after_line rest)))) ≤ suc (length rest)
+    by true u v more = omega arith
+    by false true v more = let h = feed-shorter rest in omega (arith, h)
+    by false false true more = omega arith
+    by false false false more = omega (arith, more)
 
 line-26 : (b : ℕ) (rest : List ℕ) → b ≡ 26 → after_line (b ∷ rest) ≡ b ∷ rest
 line-26 b rest e = ap (λ t. cond t (b ∷ rest) (cond (b == 13) (after_13 rest) (cond (b == 10) rest (after_line rest)))) (same-byte b 26 e)
@@ -241,7 +259,10 @@ module _ (program : FlatProgram) (choice : Choice) (own : Frame) (sp : ℕ) (is_
   loop = Loop line_round End
 
   abbrev due : List ℕ → ℕ
-  due left = 2 * length left + 3
+  due left = line_turns left
+
+  due-more : (b : ℕ) (rest : List ℕ) → after_line (b ∷ rest) ≡ after_line rest → due (b ∷ rest) ≡ due rest + 2
+  due-more b rest e = let same = ap (λ (l : List ℕ). length l) e in let shorter = line-shorter rest in omega (arith, same, shorter)
 
   -- the last round leaves the loop
   over : (from : Cells → List ℕ → Activation) (m : Cells) (i left goal : List ℕ) → Read line_round 2 100 (from m i) (Leaving 0) m goal → Read loop (due left) (64 * due left) (from m i) Onward m goal
@@ -266,7 +287,7 @@ module _ (program : FlatProgram) (choice : Choice) (own : Frame) (sp : ℕ) (is_
             | inl is ↦ subst (λ l. Goal l) (sym (line-10 b rest ne nf is)) (over from m i (b ∷ rest) rest (next-round from peeks m i b rest rest (Leaving 0) 1 has ne (behind-10 b rest nf is)))
             | inr ng ↦ (let r = next-round from peeks m i b rest rest Onward 0 has ne (behind-other b rest nf ng) in
                 let more = line-read rest (st r.value) (peeking-again program choice own sp is_placed is_text item ahead there e r.value) r.memory r.input r.input_is in
-                subst (λ l. Goal l) (sym (line-other b rest ne nf ng)) (further r.value r.memory r.input r.does r.others more))
+                subst (λ l. Goal l) (sym (line-other b rest ne nf ng)) (further (line-other b rest ne nf ng) r.value r.memory r.input r.does r.others more))
           ]
         ]
       ]
@@ -274,12 +295,12 @@ module _ (program : FlatProgram) (choice : Choice) (own : Frame) (sp : ℕ) (is_
       Goal : List ℕ → Type 0
       Goal l = Read loop (due (b ∷ rest)) (64 * due (b ∷ rest)) (from m i) Onward m l
 
-      further : (v : ℕ) (n : Cells) (j : List ℕ) → Goes line_round 1 100 (from m i) Onward (st v n j) → ((x : ℕ) → (IsAhead choice ahead x → ⊥) → n x ≡ m x) → Read loop (due rest) (64 * due rest) (st v n j) Onward n (after_line rest) → Goal (after_line rest)
-      further v n j does others more = record {
+      further : after_line (b ∷ rest) ≡ after_line rest → (v : ℕ) (n : Cells) (j : List ℕ) → Goes line_round 1 100 (from m i) Onward (st v n j) → ((x : ℕ) → (IsAhead choice ahead x → ⊥) → n x ≡ m x) → Read loop (due rest) (64 * due rest) (st v n j) Onward n (after_line rest) → Goal (after_line rest)
+      further e v n j does others more = let more_due = due-more b rest e in record {
         value = more.value;
         memory = more.memory;
         input = more.input;
-        does = weaker-does program choice own sp loop (1 + 1 + due rest) (2 + 100 + 64 * due rest) (due (b ∷ rest)) (64 * due (b ∷ rest)) (from m i) Onward (st more.value more.memory more.input) (omega arith) (omega arith)
+        does = weaker-does program choice own sp loop (1 + 1 + due rest) (2 + 100 + 64 * due rest) (due (b ∷ rest)) (64 * due (b ∷ rest)) (from m i) Onward (st more.value more.memory more.input) (omega (arith, more_due)) (omega (arith, more_due))
             (round-does program choice own sp line_round 1 100 (due rest) (64 * due rest) (from m i) (st v n j) Onward (st more.value more.memory more.input) does more.does);
         input_is = more.input_is;
         others = λ x free. more.others x free ∙ others x free;
@@ -297,7 +318,7 @@ reads-line program choice item ahead unit fits there held_so left f s stack has 
     let m = memory_without choice f.sp s.cells in
     let inside = input-inside choice ahead f.sp (stack_top program) stack.inside there.ahead_off s.cells s.input left has in
     let r = line-read program choice own f.sp here refl item ahead there begin left (start program choice own f.sp here refl item ahead there begin) (peeking program choice own f.sp here refl item ahead there begin) m s.input inside in
-    call-ends program choice key unit read_line_routine held_so fits [] f s refl room stack.inside (IsAhead choice ahead) (Reads choice ahead [] (after_line left) s) (2 * length left + 3) (64 * (2 * length left + 3)) Onward
+    call-ends program choice key unit read_line_routine held_so fits [] f s refl room stack.inside (IsAhead choice ahead) (Reads choice ahead [] (after_line left) s) (line_turns left) (64 * line_turns left) Onward
     (at program choice own f.sp here refl item ahead there begin r.value r.memory r.input) [] tt
     (r.does _ (starts program choice key unit read_line_routine held_so fits [] f s refl room stack.inside 0 tt))
     refl r.others

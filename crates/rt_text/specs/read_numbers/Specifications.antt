@@ -1,19 +1,19 @@
 -- What the runtime promises of the routine that reads an integer.
-use Rattle.std.specs.Prelude.{◌≡◌, ℕ, ◌+◌, ◌*◌, ℤ, List, [], length, Option, Some, None}
+use Rattle.std.specs.Prelude.{◌≡◌, ℕ, ◌+◌, ◌*◌, ℤ, List, [], Option, Some, None}
 use Rattle.common_values.specs.integers.Words.{w32, cast_unsigned}
 use Rattle.common_values.specs.Input.{number_read}
 use Rattle.flat_code.specs.Program.{FlatProgram, Choice, runtime_key}
 use Rattle.flat_code.specs.Meaning.{Frame, State}
 use Rattle.flat_code.specs.Gives.{HasStack, Ends, Raises}
 use Rattle.flat_code.specs.Runtime.{long_bytes}
-use Rattle.rt_text.specs.read_text.Specifications.{HasInput, Reads, IsAhead}
+use Rattle.rt_text.specs.read_text.Specifications.{HasInput, Reads, IsAhead, bytes_taken}
 
 abbrev pub read_number_number : ℕ
 read_number_number = 268
 
--- at most so many turns, where so much of the input is left
+-- at most so many turns, by the bytes that are taken
 abbrev pub number_turns : List ℕ → ℕ
-number_turns left = 2 * length left + 4
+number_turns left = 2 * bytes_taken left (number_read left).1 + 4
 
 -- error 106, and nothing is written
 pub record RefusesNumber (s after : State) (code : ℕ) : Type 0 where

@@ -1,5 +1,5 @@
 -- What the runtime promises of the routines that read: what they give and leave of the program's input, as values says it.
-use Rattle.std.specs.Prelude.{◌≡◌, ℕ, ◌+◌, ◌*◌, ◌<◌, List, [], length}
+use Rattle.std.specs.Prelude.{◌≡◌, ℕ, ◌+◌, ◌-◌, ◌*◌, ◌<◌, List, [], length}
 use Rattle.std.specs.List.{AllByRecursion}
 use Rattle.common_values.specs.Input.{is_eof, is_eoln, char_read, after_line}
 use Rattle.flat_code.specs.Memory.{Cells, word_bytes}
@@ -42,6 +42,10 @@ pub record Reads (choice : Choice) (ahead : ℕ) (given left : List ℕ) (s afte
 abbrev pub IsAhead : Choice → ℕ → ℕ → Type 0
 IsAhead choice ahead x = IsIn (ahead_place choice ahead) 2 x
 
+-- how many bytes of the input were taken, where this is left of it
+abbrev pub bytes_taken : List ℕ → List ℕ → ℕ
+bytes_taken input left = length input - length left
+
 -- what a call promises that takes no arguments
 abbrev pub CallReads : FlatProgram → Choice → ℕ → ℕ → (List ℕ → List ℕ) → (List ℕ → List ℕ) → (List ℕ → ℕ) → Type 0
 CallReads program choice ahead number given rest turns =
@@ -57,5 +61,9 @@ TellsEoln program choice ahead = CallReads program choice ahead eoln_number (λ 
 abbrev pub ReadsChar : FlatProgram → Choice → ℕ → Type 0
 ReadsChar program choice ahead = CallReads program choice ahead read_char_number (λ left. word_bytes (char_read left).0) (λ left. (char_read left).1) (λ left. 1)
 
+-- at most so many turns, by the bytes that are taken
+abbrev pub line_turns : List ℕ → ℕ
+line_turns left = 2 * bytes_taken left (after_line left) + 3
+
 abbrev pub ReadsLine : FlatProgram → Choice → ℕ → Type 0
-ReadsLine program choice ahead = CallReads program choice ahead read_line_number (λ left. []) after_line (λ left. 2 * length left + 3)
+ReadsLine program choice ahead = CallReads program choice ahead read_line_number (λ left. []) after_line line_turns

@@ -1,7 +1,8 @@
 //! A program that calls routines of the runtime and writes what they leave.
 
 use flat_code::{
-    Address, FlatDatum, FlatExpr, FlatExprs, FlatList, FlatResult, FlatRoutine, FlatStmt, FlatUnit,
+    Address, FlatDatum, FlatExpr, FlatExprs, FlatList, FlatOp, FlatResult, FlatRoutine, FlatStmt,
+    FlatUnit,
 };
 use flat_run::{MeanEnd, Meaning, fits, flat_mean};
 use rt_strings::string_routines;
@@ -82,6 +83,40 @@ impl Program {
         };
         args.push(FlatExpr::SegmentOf(at))?;
         args.push(FlatExpr::AddressOf(at))?;
+        Ok(())
+    }
+
+    /// The segment of a variable.
+    pub fn segment(&self, args: &mut FlatExprs, number: u32) -> Result<(), Fail> {
+        let at = Address::Global {
+            unit: 0,
+            number,
+            plus: 0,
+        };
+        args.push(FlatExpr::SegmentOf(at))?;
+        Ok(())
+    }
+
+    /// The word so far in a variable becomes one more than the offset of another, as a class field has it.
+    pub fn name_class(&mut self, number: u32, plus: u16, table: u32) -> Result<(), Fail> {
+        let to = Address::Global {
+            unit: 0,
+            number,
+            plus,
+        };
+        let at = Address::Global {
+            unit: 0,
+            number: table,
+            plus: 0,
+        };
+        let a = Box::new(self.alloc, FlatExpr::AddressOf(at))?;
+        let b = Box::new(self.alloc, FlatExpr::Number(1))?;
+        let value = FlatExpr::Op {
+            op: FlatOp::Add,
+            a,
+            b,
+        };
+        self.body.push(FlatStmt::StoreWord { to, value })?;
         Ok(())
     }
 

@@ -2,6 +2,7 @@ use Rattle.std.specs.Prelude.{IsTrue}
 use Rattle.runtime_units.proofs.Together.{holds, places, works, starts}
 use Rattle.runtime_units.proofs.Chains.{shallow}
 use Rattle.runtime_units.proofs.First.{small, first}
+use Rattle.runtime_units.proofs.PlainCode.{all-plain, plain}
 use Rattle.runtime_units.proofs.runtime_laws.Goals as goal
 
 pub returns-clause-holds : goal.returns-clause-holds
@@ -24,3 +25,9 @@ returns-clause-data c = small
 
 pub returns-clause-first : goal.returns-clause-first
 returns-clause-first c = first
+
+pub returns-clause-all_plain : goal.returns-clause-all_plain
+returns-clause-all_plain c = all-plain
+
+pub returns-clause-plain : goal.returns-clause-plain
+returns-clause-plain c = plain

@@ -9,7 +9,7 @@ use Rattle.rt_text.specs.val_routines.Specifications.{val_value_number, val_plac
 use Rattle.rt_text.specs.read_numbers.Specifications.{read_number_number}
 use Rattle.rt_text.specs.str_routines.Specifications.{str_number}
 use Rattle.flat_code.specs.Runtime.{negation_number, product_number, less_number, quotient_number, remainder_number}
-use Rattle.rt_strings.specs.long_integers.Numbers.{sum_number, difference_number, equal_number, left_shift_number, right_shift_number, range_number}
+use Rattle.rt_strings.specs.long_integers.Numbers.{sum_number, difference_number, equal_number, left_shift_number, right_shift_number, range_number, between_number}
 use Rattle.rt_strings.specs.short_strings.Specifications.{assign_number}
 use Rattle.rt_strings.specs.string_joins.Specifications.{concat_number, insert_number}
 use Rattle.rt_strings.specs.string_parts.Specifications.{copy_number, delete_number, upper_number}
@@ -18,11 +18,14 @@ use Rattle.rt_strings.specs.string_search.Specifications.{position_number}
 use Rattle.rt_strings.specs.sets.Specifications.{union_number, intersection_number}
 use Rattle.rt_strings.specs.set_relations.Specifications.{same_number, subset_number, member_number}
 use Rattle.rt_strings.specs.set_constructors.Specifications.{include_number}
+use Rattle.rt_strings.specs.memory.Specifications.{load_byte_number, load_short_number, load_word_number, move_number}
+use Rattle.rt_strings.specs.objects.Specifications.{method_number, class_size_number}
 use Rattle.heap_runtime.specs.overlay.Specifications.{init_number, set_buffer_number, clear_buffer_number}
 use Rattle.heap_runtime.specs.heap.Specifications.{new_number, dispose_number}
 use Rattle.heap_runtime.specs.clear.Specifications.{clear_number}
 use Rattle.rt_strings.specs.sets.Specifications as sets
 use Rattle.heap_runtime.specs.overlay.Data.{ovr_result_key}
+use Rattle.heap_runtime.specs.scratch.Data.{scratch_key}
 use Rattle.runtime_units.specs.declared.numbers.numbers.RuntimeUnit.{RuntimeUnit}
 use Rattle.runtime_units.specs.declared.numbers.numbers.RuntimeUnit.TheVariants as unit
 use Rattle.runtime_units.specs.declared.numbers.numbers.RuntimeRoutine.{RuntimeRoutine}
@@ -72,6 +75,13 @@ number_of routine.SameSet = same_number
 number_of routine.Subset = subset_number
 number_of routine.Member = member_number
 number_of routine.Include = include_number
+number_of routine.LoadByte = load_byte_number
+number_of routine.LoadShort = load_short_number
+number_of routine.LoadWord = load_word_number
+number_of routine.Move = move_number
+number_of routine.Between = between_number
+number_of routine.Method = method_number
+number_of routine.ClassSize = class_size_number
 number_of routine.OvrInit = init_number
 number_of routine.OvrSetBuf = set_buffer_number
 number_of routine.OvrClearBuf = clear_buffer_number
@@ -121,6 +131,13 @@ unit_of routine.SameSet = unit.Strings
 unit_of routine.Subset = unit.Strings
 unit_of routine.Member = unit.Strings
 unit_of routine.Include = unit.Strings
+unit_of routine.LoadByte = unit.Strings
+unit_of routine.LoadShort = unit.Strings
+unit_of routine.LoadWord = unit.Strings
+unit_of routine.Move = unit.Strings
+unit_of routine.Between = unit.Strings
+unit_of routine.Method = unit.Strings
+unit_of routine.ClassSize = unit.Strings
 unit_of routine.OvrInit = unit.Overlay
 unit_of routine.OvrSetBuf = unit.Overlay
 unit_of routine.OvrClearBuf = unit.Overlay
@@ -139,6 +156,7 @@ key_of global.OvrResult = ovr_result_key
 key_of global.HeapSegment = heap_segment_key
 key_of global.HeapBytes = heap_bytes_key
 key_of global.OvrName = ovr_name_key
+key_of global.Scratch = scratch_key
 
 -- A routine's number leads to its unit.
 abbrev pub IsInUnit : RuntimeRoutine → Type 0

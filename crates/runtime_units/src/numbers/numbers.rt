@@ -8,7 +8,7 @@ ghost use Rattle.runtime_units.specs.numbers.Named.{number_of, unit_of, key_of};
 pub enum RuntimeUnit {
     /// Text: Write, Read, Str and Val.
     Text,
-    /// LongInts, strings and sets.
+    /// LongInts, strings, sets, loads through pointers and classes.
     Strings,
     /// Overlays and the heap.
     Overlay,
@@ -97,6 +97,20 @@ pub enum RuntimeRoutine {
     Member,
     /// Adds a range of elements to a set.
     Include,
+    /// The byte that a pointer leads to.
+    LoadByte,
+    /// The ShortInt that a pointer leads to, with its sign.
+    LoadShort,
+    /// The word that a pointer leads to.
+    LoadWord,
+    /// Moves bytes from one pointer to another.
+    Move,
+    /// Whether a LongInt is in a range.
+    Between,
+    /// The method that an instance's class has.
+    Method,
+    /// The size of an instance's class.
+    ClassSize,
     /// OvrInit.
     OvrInit,
     /// OvrSetBuf.
@@ -157,6 +171,13 @@ impl RuntimeRoutine {
             RuntimeRoutine::Subset => 535,
             RuntimeRoutine::Member => 536,
             RuntimeRoutine::Include => 537,
+            RuntimeRoutine::LoadByte => 538,
+            RuntimeRoutine::LoadShort => 539,
+            RuntimeRoutine::LoadWord => 540,
+            RuntimeRoutine::Move => 541,
+            RuntimeRoutine::Between => 542,
+            RuntimeRoutine::Method => 543,
+            RuntimeRoutine::ClassSize => 544,
             RuntimeRoutine::OvrInit => 768,
             RuntimeRoutine::OvrSetBuf => 769,
             RuntimeRoutine::OvrClearBuf => 770,
@@ -211,6 +232,13 @@ impl RuntimeRoutine {
             RuntimeRoutine::Subset => RuntimeUnit::Strings,
             RuntimeRoutine::Member => RuntimeUnit::Strings,
             RuntimeRoutine::Include => RuntimeUnit::Strings,
+            RuntimeRoutine::LoadByte => RuntimeUnit::Strings,
+            RuntimeRoutine::LoadShort => RuntimeUnit::Strings,
+            RuntimeRoutine::LoadWord => RuntimeUnit::Strings,
+            RuntimeRoutine::Move => RuntimeUnit::Strings,
+            RuntimeRoutine::Between => RuntimeUnit::Strings,
+            RuntimeRoutine::Method => RuntimeUnit::Strings,
+            RuntimeRoutine::ClassSize => RuntimeUnit::Strings,
             RuntimeRoutine::OvrInit => RuntimeUnit::Overlay,
             RuntimeRoutine::OvrSetBuf => RuntimeUnit::Overlay,
             RuntimeRoutine::OvrClearBuf => RuntimeUnit::Overlay,
@@ -232,6 +260,8 @@ pub enum RuntimeGlobal {
     HeapBytes,
     /// The name of the overlay file, a string that a program gets as it starts.
     OvrName,
+    /// 8 bytes for what a routine gives before it is stored.
+    Scratch,
 }
 
 impl RuntimeGlobal {
@@ -244,6 +274,7 @@ impl RuntimeGlobal {
             RuntimeGlobal::HeapSegment => 1,
             RuntimeGlobal::HeapBytes => 2,
             RuntimeGlobal::OvrName => 3,
+            RuntimeGlobal::Scratch => 5,
         }
     }
 }

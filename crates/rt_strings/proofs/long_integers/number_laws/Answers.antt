@@ -33,3 +33,6 @@ returns-clause-right_shift c = law.right_shift
 
 pub returns-clause-range : goal.returns-clause-range
 returns-clause-range c = law.range
+
+pub returns-clause-between : goal.returns-clause-between
+returns-clause-between c = law.between
