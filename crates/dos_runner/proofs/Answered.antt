@@ -131,6 +131,7 @@ progresses_so P Q end new over over' o o' so part = record {
 
 pub advances_so : (P Q : Progress → Type 0) (end : Option RunEnd) (new : State) (over over' : Bool) (o o' : Outside) → ((progress : Progress) → P progress → Q progress) → Advances P end new over over' o o' → Advances Q end new over over' o o'
 advances_so P Q (Some ends.InputFault) new over over' o o' so part = record {
+  not_over = part.not_over;
   would = part.would;
   is = so part.would part.is;
   lost = part.lost;

@@ -85,16 +85,17 @@ read_goes_on before t mid new segment offset count done over over' o o' function
     goes_reading (IsService before t 33 over') new (given t gained) gained over over' o o' same
     (reads_input before t over' gained function handle within (λ h. read.short (fewer h))) read.gave output errors
 
--- a read in which the source failed: with bytes enough it would take as many as it asks for
-pub read_fails : (before t : State) (count : ℕ) (over : Bool) (o o' : Outside) → t.registers.ax / 256 ≡ 63 → t.registers.bx ≡ 0 → count ≡ t.registers.cx → ReadLess count o.input o'.input → o'.output ≡ o.output → o'.errors ≡ o.errors
-    → HasRisen o.input_faults o'.input_faults → FailsReading (IsService before t 33 over) o o'
-read_fails before t count over o o' function handle cx less output errors rose =
+-- a read in which the source failed, which was not over: with bytes enough it would take as many as it asks for
+pub read_fails : (before t : State) (count : ℕ) (over over' : Bool) (o o' : Outside) → t.registers.ax / 256 ≡ 63 → t.registers.bx ≡ 0 → count ≡ t.registers.cx → ReadLess count o.input o'.input → o'.output ≡ o.output → o'.errors ≡ o.errors
+    → HasRisen o.input_faults o'.input_faults → over ≡ false → FailsReading (IsService before t 33 over') over o o'
+read_fails before t count over over' o o' function handle cx less output errors rose still =
     let zeros : List ℕ = replicate t.registers.cx 0 in
     let long : length zeros ≡ t.registers.cx = length-replicate t.registers.cx 0 in
     let fewer : length less.given < count = less.fewer in
     record {
+      not_over = still;
       would = record { machine = given t zeros; gained = zeros; out = []; err = []; status = Running };
-      is = reads_input before t over zeros function handle (omega (arith, long)) (λ h. absurd (omega (arith, long, h)));
+      is = reads_input before t over' zeros function handle (omega (arith, long)) (λ h. absurd (omega (arith, long, h)));
       lost = less.given;
       fewer = omega (arith, long, cx, fewer);
       gave = less.taken;

@@ -75,9 +75,10 @@ pub record Progresses (Is : Progress → Type 0) (end : Option RunEnd) (new : St
   pub told : Told end o.errors o'.errors progress.err
   pub rose : Rose end o o'
 
--- The source failed in an event that takes bytes from the input where there are any. The bytes that this took before the fault are lost, fewer
--- than it would take, and it did nothing else.
-pub record FailsReading (Is : Progress → Type 0) (o o' : Outside) : Type 0 where
+-- The source, which had not said that it is over, failed in an event that takes bytes from the input where there are any. The bytes that this
+-- took before the fault are lost, fewer than it would take, and it did nothing else.
+pub record FailsReading (Is : Progress → Type 0) (over : Bool) (o o' : Outside) : Type 0 where
+  pub not_over : over ≡ false
   pub would : Progress
   pub is : Is would
   pub lost : List ℕ
@@ -89,7 +90,7 @@ pub record FailsReading (Is : Progress → Type 0) (o o' : Outside) : Type 0 whe
 
 -- What an event or a service does. It knows no limit.
 abbrev pub Advances : (Progress → Type 0) → Option RunEnd → State → Bool → Bool → Outside → Outside → Type 0
-Advances Is (Some ends.InputFault) new over over' o o' = FailsReading Is o o'
+Advances Is (Some ends.InputFault) new over over' o o' = FailsReading Is over o o'
 Advances Is (Some (ends.Limit taken)) new over over' o o' = ⊥
 Advances Is end new over over' o o' = Progresses Is end new over over' o o'
 

@@ -1,6 +1,6 @@
 //! Bytes between the machine's memory and the outside.
 
-ghost use Rattle.std.specs.Prelude.{◌≡◌, ◌≤◌, ◌<◌, length, OnOk, OnErr, IfOk};
+ghost use Rattle.std.specs.Prelude.{◌≡◌, ◌≤◌, ◌<◌, false, length, OnOk, OnErr, IfOk};
 ghost use Rattle.std.specs.Io.KnownBytes.{append_known};
 ghost use Rattle.tp_outside.specs.Faults.{HasRisen};
 ghost use Rattle.tp_outside.specs.Streams.{TakesPrefix};
@@ -145,6 +145,7 @@ pub fn read_bytes<S: Source>(
     ensures read { IfOk result (λ done. ReadBytes segment offset count machine.old machine.new over.old over.new
         (S.remaining source.old) (S.remaining source.new) done) }
     ensures less { OnErr result (ReadLess count (S.remaining source.old) (S.remaining source.new)) }
+    ensures not_over { OnErr result (over.old ≡ false) }
     ensures counted { S.faults source.old ≤ S.faults source.new }
     ensures failed { OnErr result (HasRisen (S.faults source.old) (S.faults source.new)) }
 {

@@ -12,7 +12,7 @@ use Rattle.cpu_8086.specs.Step.{Steps}
 use Rattle.dos_runner.specs.declared.runner.RunEnd.{RunEnd}
 use Rattle.dos_runner.specs.declared.runner.RunEnd.TheVariants as ends
 use Rattle.dos_runner.specs.Run.{running, IsInput, Progress, advanced, IsFinish}
-use Rattle.dos_runner.specs.Outside.{Outside, Progresses, Advances}
+use Rattle.dos_runner.specs.Outside.{Outside, Progresses, FailsReading, Advances}
 use Rattle.dos_runner.proofs.Answered.{goes_quietly, stops_quietly, advances_so}
 use Rattle.dos_runner.proofs.Services.{quiet, finishes_running}
 use Rattle.overlay_manager.specs.Manager.{Manager}
@@ -129,7 +129,7 @@ managed-so : (P Q : Progress → Type 0) (F G : Type 0) (end : Option RunEnd) (o
 managed-so P Q F G (Some ends.FilesFault) old older new traps traps' o o' so found ovr over part =
     record { found = found part.found; tally = subst (λ (m : Manager). new.ovr.tally ≡ m.tally) ovr part.tally; served = part.served; streams = part.streams }
 managed-so P Q F G (Some ends.InputFault) old older new traps traps' o o' so found ovr over part =
-    record { fails = advances_so P Q (Some ends.InputFault) new.machine old.over new.over o o' so part.fails; manager = subst (λ (m : Manager). new.ovr ≡ m) ovr part.manager; served = part.served }
+    record { fails = subst (λ (b : Bool). FailsReading Q b o o') over (advances_so P Q (Some ends.InputFault) new.machine old.over new.over o o' so part.fails); manager = subst (λ (m : Manager). new.ovr ≡ m) ovr part.manager; served = part.served }
 managed-so P Q F G (Some (ends.Limit taken)) old older new traps traps' o o' so found ovr over part = part
 managed-so P Q F G (Some (ends.Ended code)) old older new traps traps' o o' so found ovr over part =
     subst (λ (b : Bool). Progresses Q (Some (ends.Ended code)) new.machine b new.over o o') over (advances_so P Q (Some (ends.Ended code)) new.machine old.over new.over o o' so part)

@@ -83,6 +83,7 @@ start_manager exe name overlays room = record {
   stubs = map loaded_segment exe.block.stubs;
   error_routine = loaded_far exe.block.error_routine;
   installed = loaded_far exe.block.installed;
+  marked = exe.block.marked;
   ring = record { sizes = map paragraphs_of overlays; room = room; seats = [] };
   retry = 0;
   tally = record { loads = 0; patched = 0 };

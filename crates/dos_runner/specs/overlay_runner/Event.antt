@@ -59,15 +59,15 @@ pub record FailsLoading (Found : Type 0) (m m' : Manager) (traps traps' : ℕ) (
   pub streams : o' ≡ o
 
 -- The source failed. The manager is as it was.
-pub record FailsManagedReading (Does : Progress → Type 0) (m m' : Manager) (traps traps' : ℕ) (o o' : Outside) : Type 0 where
-  pub fails : FailsReading Does o o'
+pub record FailsManagedReading (Does : Progress → Type 0) (over : Bool) (m m' : Manager) (traps traps' : ℕ) (o o' : Outside) : Type 0 where
+  pub fails : FailsReading Does over o o'
   pub manager : m' ≡ m
   pub served : traps' ≡ traps
 
 -- What an event of a program does, by its answer. It knows no limit. Found says that a trap is there.
 abbrev pub ManagedAdvances : (Progress → Type 0) → Type 0 → Option RunEnd → Course → Course → ℕ → ℕ → Outside → Outside → Type 0
 ManagedAdvances Does Found (Some ends.FilesFault) old new traps traps' o o' = FailsLoading Found old.ovr new.ovr traps traps' o o'
-ManagedAdvances Does Found (Some ends.InputFault) old new traps traps' o o' = FailsManagedReading Does old.ovr new.ovr traps traps' o o'
+ManagedAdvances Does Found (Some ends.InputFault) old new traps traps' o o' = FailsManagedReading Does old.over old.ovr new.ovr traps traps' o o'
 ManagedAdvances Does Found end old new traps traps' o o' = Advances Does end new.machine old.over new.over o o'
 
 -- A fault was counted by what it names.

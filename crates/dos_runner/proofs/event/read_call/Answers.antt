@@ -28,4 +28,4 @@ returns-in-Err-clause-served g c before rest =
     let o : Outside = outside (g.S.Source.remaining c.args.input.now) rest.output rest.errors (g.S.Source.faults c.args.input.now) rest.output_faults rest.errors_faults in
     let o' : Outside = outside (g.S.Source.remaining c.read_bytes.new.source) rest.output rest.errors (g.S.Source.faults c.read_bytes.new.source) rest.output_faults rest.errors_faults in
     let handle : c.args.machine.now.registers.bx ≡ 0 = cc (c.reg.ensures, c.if-reg-ne0.false) in
-    read_fails before c.args.machine.now c.reg-count.result c.read_bytes.new.over o o' c.requires handle c.reg-count.ensures c.in-Err.ensures.less refl refl c.in-Err.ensures.failed
+    read_fails before c.args.machine.now c.reg-count.result c.args.over.now c.read_bytes.new.over o o' c.requires handle c.reg-count.ensures c.in-Err.ensures.less refl refl c.in-Err.ensures.failed c.in-Err.ensures.not_over

@@ -1,4 +1,4 @@
-use Rattle.std.proofs.Common.{◌≤◌, ◌+◌, ◌%◌, refl, arith}
+use Rattle.std.proofs.Common.{◌≡◌, ◌≤◌, ◌+◌, ◌%◌, false, refl, arith}
 use Rattle.dos_runner.specs.Transfer.{ReadLess}
 use Rattle.dos_runner.proofs.Failed.{on_err}
 use Rattle.dos_runner.proofs.Reading.{read_more, all_read, read_less}
@@ -22,6 +22,9 @@ returns-in_err-part-clause-less g c =
     (read_less c.args.segment c.args.offset c.args.count c.args.machine.now c.loop-done.machine
     (g.S.Source.remaining c.args.source.now) (g.S.Source.remaining c.loop-done.source) (g.S.Source.remaining c.read_part.new.source)
     c.loop-done.done c.loop-done-test.true c.loop-done.invariant.read c.in_err-part.ensures.not_given)
+
+pub returns-in_err-part-clause-not_over : goal.returns-in_err-part-clause-not_over
+returns-in_err-part-clause-not_over g c = on_err c.from_residual.result (c.args.over.now ≡ false) c.if-over.false
 
 pub returns-clause-read : goal.returns-clause-read
 returns-clause-read g c =
