@@ -249,7 +249,7 @@ def unit(file):
     """What the file holds, in words."""
     for letter in b"TPW1":
         file.must(file.byte() == letter)
-    file.must(file.number(2) == 1)
+    file.must(file.number(2) in (1, 2))
     program = file.truth()
     file.truth()
     types, items, variables, routines = interface(file)

@@ -19,7 +19,7 @@ use Rattle.unit_file.specs.declared.error.UnitFileError.{UnitFileError}
 use Rattle.unit_file.specs.declared.tail.Tail.{Tail}
 use Rattle.unit_file.specs.declared.unit.UnitRecord.{UnitRecord}
 use Rattle.unit_file.specs.Format.{front, tail_text, spelling, IsNumbered, IsUnit}
-use Rattle.unit_file.specs.Reading.{letter, front_at, is_stack, is_heap, globals_asked, routines_asked, most, is_start, code_at, tail_of, tail_at, unit_of, unit_at, whole, reading, Gives}
+use Rattle.unit_file.specs.Reading.{letter, is_version, version_of, front_at, is_stack, is_heap, globals_asked, routines_asked, most, is_start, code_at, tail_of, tail_at, unit_of, unit_at, whole, reading, Gives}
 use Rattle.unit_file.proofs.AskedLaws.{numbered-from_counts, counts-from_numbered}
 
 -- the letters and the version
@@ -32,33 +32,48 @@ letter_meets code = ruled_meets (λ (byte : ℕ). byte == code) byte_meets
 abbrev Front : Type 0
 Front = ℕ × (ℕ × (ℕ × (ℕ × ℕ)))
 
+-- the versions that there are
+record IsVersion (version : ℕ) : Type 0 where
+  least : 1 ≤ version
+  most : version ≤ 2
+
+version_to : (version : ℕ) → IsTrue (is_version version) → IsVersion version
+version_to version holds =
+    let parts = both (nat_le 1 version) (nat_le version 2) holds in
+    record { least = grind (arith, nat_tests, parts.0); most = grind (arith, nat_tests, parts.1) }
+
+version_from : (version : ℕ) → IsVersion version → IsTrue (is_version version)
+version_from version fits =
+    let least : IsTrue (nat_le 1 version) = grind (arith, nat_tests, fits.least) in
+    let greatest : IsTrue (nat_le version 2) = grind (arith, nat_tests, fits.most) in
+    and (nat_le 1 version) (nat_le version 2) least greatest
+
 abbrev FitsFront : Front → Type 0
-FitsFront parts = IsLetter 0x54 parts.0 × (IsLetter 0x50 parts.1.0 × (IsLetter 0x57 parts.1.1.0 × (IsLetter 0x31 parts.1.1.1.0 × (IsWord parts.1.1.1.1 × IsTrue (parts.1.1.1.1 == 1)))))
+FitsFront parts = IsLetter 0x54 parts.0 × (IsLetter 0x50 parts.1.0 × (IsLetter 0x57 parts.1.1.0 × (IsLetter 0x31 parts.1.1.1.0 × (IsWord parts.1.1.1.1 × IsTrue (is_version parts.1.1.1.1)))))
 
 abbrev front_text : Front → List ℕ
 front_text parts = byte_text parts.0 ++ (byte_text parts.1.0 ++ (byte_text parts.1.1.0 ++ (byte_text parts.1.1.1.0 ++ word_text parts.1.1.1.1)))
 
-front_made : (parts : Front) → FitsFront parts → (front ≡ front_text parts) × Unit {0}
+front_made : (parts : Front) → FitsFront parts → (front (version_of parts) ≡ front_text parts) × IsVersion (version_of parts)
 front_made parts fits =
     let t = eqb-true parts.0 0x54 fits.0.1 in
     let p = eqb-true parts.1.0 0x50 fits.1.0.1 in
     let w = eqb-true parts.1.1.0 0x57 fits.1.1.0.1 in
     let one = eqb-true parts.1.1.1.0 0x31 fits.1.1.1.0.1 in
-    let version = eqb-true parts.1.1.1.1 1 fits.1.1.1.1.1 in
-    (rw (t, p, w, one, version) refl, tt)
+    (rw (t, p, w, one) refl, version_to parts.1.1.1.1 fits.1.1.1.1.1)
 
-front_parts : (none : Unit {0}) → Unit {0} → MadeOf (λ (_ : Front). tt) FitsFront none
-front_parts none fits = record {
-  parts = (0x54, (0x50, (0x57, (0x31, 1))));
+front_parts : (version : ℕ) → IsVersion version → MadeOf version_of FitsFront version
+front_parts version fits = record {
+  parts = (0x54, (0x50, (0x57, (0x31, version))));
   is_made = refl;
-  fits = ((omega arith, refl), ((omega arith, refl), ((omega arith, refl), ((omega arith, refl), (omega arith, refl)))));
+  fits = ((omega arith, refl), ((omega arith, refl), ((omega arith, refl), ((omega arith, refl), (omega (arith, fits.most), version_from version fits)))));
 }
 
-front_meets : Meets front_at (λ _. front) (λ _. Unit {0})
+front_meets : Meets front_at front IsVersion
 unfolding front_at
 front_meets =
-    made_meets (λ (_ : Front). tt) (λ _. front) (λ _. Unit {0})
-    (then_meets (letter_meets 0x54) (then_meets (letter_meets 0x50) (then_meets (letter_meets 0x57) (then_meets (letter_meets 0x31) (ruled_meets (λ (version : ℕ). version == 1) word_meets)))))
+    made_meets version_of front IsVersion
+    (then_meets (letter_meets 0x54) (then_meets (letter_meets 0x50) (then_meets (letter_meets 0x57) (then_meets (letter_meets 0x31) (ruled_meets is_version word_meets)))))
     front_made front_parts
 
 -- the object unit and the start
@@ -140,13 +155,13 @@ tail_meets program interface =
 
 -- the unit
 abbrev Parts : Type 0
-Parts = Unit {0} × (Bool × (Bool × (Interface × Tail)))
+Parts = ℕ × (Bool × (Bool × (Interface × Tail)))
 
 abbrev FitsParts : Parts → Type 0
-FitsParts parts = Unit {0} × (Unit {0} × (Unit {0} × (IsInterface parts.1.1.1.0 × IsTail parts.1.0 parts.1.1.1.0 parts.1.1.1.1)))
+FitsParts parts = IsVersion parts.0 × (Unit {0} × (Unit {0} × (IsInterface parts.1.1.1.0 × IsTail parts.1.0 parts.1.1.1.0 parts.1.1.1.1)))
 
 abbrev parts_text : Parts → List ℕ
-parts_text parts = front ++ (truth_text parts.1.0 ++ (truth_text parts.1.1.0 ++ (interface_text parts.1.1.1.0 ++ text_of_tail parts.1.1.1.1)))
+parts_text parts = front parts.0 ++ (truth_text parts.1.0 ++ (truth_text parts.1.1.0 ++ (interface_text parts.1.1.1.0 ++ text_of_tail parts.1.1.1.1)))
 
 unit_made : (parts : Parts) → FitsParts parts → (spelling (unit_of parts) ≡ parts_text parts) × IsUnit (unit_of parts)
 unfolding spelling tail_text text_of_tail
@@ -154,6 +169,8 @@ unit_made parts fits =
     let tail = fits.1.1.1.1 in (
       refl,
       record {
+        version_least = fits.0.least;
+        version_most = fits.0.most;
         name = refl;
         interface = fits.1.1.1.0;
         overlaid = tail.overlaid;
@@ -172,10 +189,11 @@ unit_made parts fits =
 
 abbrev parts_of : UnitRecord → Parts
 parts_of unit =
-    (tt, (unit.program, (unit.overlayable, (unit.interface, record { overlaid = unit.overlaid; stack = unit.stack; heap = unit.heap; imports = unit.imports; object = unit.object; start = unit.start }))))
+    (unit.version, (unit.program, (unit.overlayable, (unit.interface, record { overlaid = unit.overlaid; stack = unit.stack; heap = unit.heap; imports = unit.imports; object = unit.object; start = unit.start }))))
 
 named : UnitRecord → List ℕ → UnitRecord
 named unit name = record {
+  version = unit.version;
   name = name;
   program = unit.program;
   overlayable = unit.overlayable;
@@ -194,7 +212,7 @@ unit_parts unit fits = record {
   parts = parts_of unit;
   is_made = ap (named unit) (sym fits.name);
   fits = (
-    tt,
+    record { least = fits.version_least; most = fits.version_most },
     (
       tt,
       (

@@ -10,8 +10,8 @@ use Rattle.unit_file.specs.interface_file.Text.{interface_text, IsInterface}
 use Rattle.unit_file.specs.declared.unit.UnitRecord.{UnitRecord}
 
 -- TPW1, and the version
-abbrev pub front : List ℕ
-front = 0x54 ∷ 0x50 ∷ 0x57 ∷ 0x31 ∷ word_text 1
+abbrev pub front : ℕ → List ℕ
+front version = 0x54 ∷ 0x50 ∷ 0x57 ∷ 0x31 ∷ word_text version
 
 -- what stands behind the interface
 unfoldable pub tail_text : UnitRecord → List ℕ
@@ -21,7 +21,7 @@ tail_text unit =
 
 -- The bytes of the file. Nothing follows the start.
 unfoldable pub spelling : UnitRecord → List ℕ
-spelling unit = front ++ (truth_text unit.program ++ (truth_text unit.overlayable ++ (interface_text unit.interface ++ tail_text unit)))
+spelling unit = front unit.version ++ (truth_text unit.program ++ (truth_text unit.overlayable ++ (interface_text unit.interface ++ tail_text unit)))
 
 -- A variable of an interface is one of the globals of the object unit, and a routine one of its routines.
 abbrev pub IsNumbered : ObjectUnit → Item → Type 0
@@ -32,6 +32,8 @@ IsNumbered object (item.Ty name ty) = Unit {0}
 
 -- a unit that a file can hold
 pub record IsUnit (unit : UnitRecord) : Type 0 where
+  pub version_least : 1 ≤ unit.version
+  pub version_most : unit.version ≤ 2
   pub name : unit.name ≡ unit.interface.name
   pub interface : IsInterface unit.interface
   pub overlaid : IsLong (length unit.overlaid)

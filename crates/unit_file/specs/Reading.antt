@@ -16,8 +16,14 @@ use Rattle.unit_file.specs.declared.tail.Tail.{Tail}
 abbrev pub letter : ℕ → Reader ℕ
 letter code = ruled (λ byte. byte == code) byte_at
 
-unfoldable pub front_at : Reader (Unit {0})
-front_at bytes = made (λ _. tt) (letter 0x54 ▷ (letter 0x50 ▷ (letter 0x57 ▷ (letter 0x31 ▷ ruled (λ version. version == 1) word_at)))) bytes
+abbrev pub is_version : ℕ → Bool
+is_version version = nat_le 1 version && nat_le version 2
+
+abbrev pub version_of : ℕ × (ℕ × (ℕ × (ℕ × ℕ))) → ℕ
+version_of parts = parts.1.1.1.1
+
+unfoldable pub front_at : Reader ℕ
+front_at bytes = made version_of (letter 0x54 ▷ (letter 0x50 ▷ (letter 0x57 ▷ (letter 0x31 ▷ ruled is_version word_at)))) bytes
 
 -- the sizes of stack and heap
 abbrev pub is_stack : ℕ → Bool
@@ -64,8 +70,9 @@ unfoldable pub tail_at : Bool → Interface → Reader Tail
 tail_at program interface bytes =
     made tail_of (list_of name_at ▷ (ruled is_stack long_at ▷ (ruled is_heap long_at ▷ (list_of interface_at ▷ code_at program interface)))) bytes
 
-abbrev pub unit_of : Unit {0} × (Bool × (Bool × (Interface × Tail))) → UnitRecord
+abbrev pub unit_of : ℕ × (Bool × (Bool × (Interface × Tail))) → UnitRecord
 unit_of parts = record {
+  version = parts.0;
   name = parts.1.1.1.0.name;
   program = parts.1.0;
   overlayable = parts.1.1.0;

@@ -5,7 +5,7 @@ ghost use Rattle.object_file.specs.file_parts.Parts.{Gives as PartGives, ruled, 
 ghost use Rattle.unit_file.specs.interface_file.Reading.{interface_at};
 ghost use Rattle.unit_file.specs.declared.unit.UnitRecord.{UnitRecord};
 ghost use Rattle.unit_file.specs.Format.{IsUnit, spelling};
-ghost use Rattle.unit_file.specs.Reading.{letter, front_at, is_stack, is_heap, globals_asked, routines_asked, most, is_start, code_at, tail_at, unit_at, unit_of, reading, Gives};
+ghost use Rattle.unit_file.specs.Reading.{letter, is_version, front_at, is_stack, is_heap, globals_asked, routines_asked, most, is_start, code_at, tail_at, unit_at, unit_of, reading, Gives};
 ghost use Rattle.unit_file.specs.declared.error.UnitFileError.{UnitFileError};
 
 use crate::error::UnitFileError;
@@ -34,26 +34,25 @@ fn behind_letter(code: u8, bytes: &[u8]) -> Result<(u8, &[u8]), PartError>
 }
 
 fn version_of(bytes: &[u8]) -> Result<(u16, &[u8]), PartError>
-    ensures { PartGives (λ x. (x.0, x.1.now)) result (ruled (λ version. version == 1) word_at bytes.now) }
+    ensures { PartGives (λ x. (x.0, x.1.now)) result (ruled is_version word_at bytes.now) }
 {
     let (version, rest) = word_of(bytes)?;
-    if version != 1 {
+    if version < 1 || version > 2 {
         return damaged(bytes.len());
     }
     Ok((version, rest))
 }
 
-/// The bytes behind the four letters and the version.
+/// The version, and the bytes behind the four letters and it.
 #[tactic(auto, unfolding(crate::specs::Reading::front_at))]
-fn behind_front(bytes: &[u8]) -> Result<&[u8], PartError>
-    ensures { PartGives (λ rest. (tt, rest.now)) result (front_at bytes.now) }
+fn front_of(bytes: &[u8]) -> Result<(u16, &[u8]), PartError>
+    ensures { PartGives (λ x. (x.0, x.1.now)) result (front_at bytes.now) }
 {
     let (_, rest) = behind_letter(b'T', bytes)?;
     let (_, rest) = behind_letter(b'P', rest)?;
     let (_, rest) = behind_letter(b'W', rest)?;
     let (_, rest) = behind_letter(b'1', rest)?;
-    let (_, rest) = version_of(rest)?;
-    Ok(rest)
+    version_of(rest)
 }
 
 fn stack_of(bytes: &[u8]) -> Result<(u32, &[u8]), PartError>
@@ -220,10 +219,17 @@ fn tail_of<'a>(
     Ok((tail, rest))
 }
 
-fn unit_with(program: bool, overlayable: bool, interface: Interface, tail: Tail) -> UnitRecord
-    ensures { result ≡ unit_of (tt, (program, (overlayable, (interface, tail)))) }
+fn unit_with(
+    version: u16,
+    program: bool,
+    overlayable: bool,
+    interface: Interface,
+    tail: Tail,
+) -> UnitRecord
+    ensures { result ≡ unit_of (version, (program, (overlayable, (interface, tail)))) }
 {
     UnitRecord {
+        version,
         name: interface.name.copied(),
         program,
         overlayable,
@@ -241,12 +247,13 @@ fn unit_with(program: bool, overlayable: bool, interface: Interface, tail: Tail)
 fn unit_of(alloc: Global, bytes: &[u8]) -> Result<(UnitRecord, &[u8]), PartError>
     ensures { PartGives (λ x. (x.0, x.1.now)) result (unit_at bytes.now) }
 {
-    let rest = behind_front(bytes)?;
+    let (version, rest) = front_of(bytes)?;
     let (program, rest) = truth_of(rest)?;
     let (overlayable, rest) = truth_of(rest)?;
     let (interface, rest) = interface_of(alloc, rest)?;
     let (tail, rest) = tail_of(alloc, program, &interface, rest)?;
-    Ok((unit_with(program, overlayable, interface, tail), rest))
+    let unit = unit_with(version, program, overlayable, interface, tail);
+    Ok((unit, rest))
 }
 
 /// Damage where so many bytes of a file of this size are left.

@@ -10,6 +10,8 @@ pub type Interfaces = Sequence<Interface>;
 /// A compiled unit or program.
 #[derive(Debug, Drop)]
 pub struct UnitRecord {
+    /// The version of its file, 1 or 2. Only code of version 2 marks its frames.
+    pub version: u16,
     pub name: Name,
     pub program: bool,
     pub overlayable: bool,

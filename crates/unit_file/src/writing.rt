@@ -19,11 +19,11 @@ use type_layout::{Bytes, Name};
 use unit_interface::Interface;
 
 /// The four letters and the version.
-fn front_of(alloc: Global) -> Result<Bytes, AllocError>
-    ensures { IfOk result (λ bytes. bytes ≡ front) }
+fn front_of(alloc: Global, version: u16) -> Result<Bytes, AllocError>
+    ensures { IfOk result (λ bytes. bytes ≡ front version) }
 {
     let mut bytes = Bytes::from_slice(alloc, b"TPW1")?;
-    push_word(&mut bytes, 1)?;
+    push_word(&mut bytes, version)?;
     Ok(bytes)
 }
 
@@ -89,7 +89,7 @@ pub fn write_unit(alloc: Global, unit: &UnitRecord) -> Result<Bytes, AllocError>
     requires { IsUnit unit.now }
     ensures { IfOk result (λ bytes. bytes ≡ spelling unit.now) }
 {
-    let mut bytes = front_of(alloc)?;
+    let mut bytes = front_of(alloc, unit.version)?;
     push_truth(&mut bytes, unit.program)?;
     push_truth(&mut bytes, unit.overlayable)?;
     push_interface(&mut bytes, &unit.interface)?;
