@@ -45,7 +45,7 @@ class Executable:
             must(16 * segment + offset + 2 <= len(self.image), f"BadRelocation {number}")
         stubs = word(data, 0x20)
         end = 0x36 + 2 * stubs
-        must(data[0x1C:0x20] == b"TPX1" and stubs <= 256 and end <= 16 * header and end <= place, "NoBlock")
+        must(data[0x1C:0x20] in (b"TPX1", b"TPX2") and stubs <= 256 and end <= 16 * header and end <= place, "NoBlock")
         self.stubs = [word(data, 0x36 + 2 * number) for number in range(stubs)]
         self.paragraphs = 0x70 + paragraphs(len(self.image)) + word(data, 0x0A)
 

@@ -2,7 +2,7 @@
 use Rattle.std.proofs.Common.{ℕ, Bool, [], map, sym, subst}
 use Rattle.x86_table.specs.Lines.{ShortJumpsReach}
 use Rattle.flat_code.specs.Program.{UnitCode, Routine}
-use Rattle.code_templates.specs.code_lines.Addresses.{Plain, Context}
+use Rattle.code_templates.specs.code_lines.Addresses.{Context}
 use Rattle.code_templates.specs.code_lines.Lines.{within}
 use Rattle.code_templates.proofs.code_reach.Pieces.{routine_reaches}
 use Rattle.code_templates.specs.code_references.Marks.{placed_line, lines_of}
@@ -12,7 +12,7 @@ use Rattle.code_templates.proofs.code_references.Filled.{lines_filled, jumps_rea
 use Rattle.code_templates.proofs.code_references.Placed.{routine-makes}
 
 abbrev without_addresses : UnitCode → Bool → Context
-without_addresses unit far = record { style = Plain; addresses = unplaced; own = []; unit = unit; far = far }
+without_addresses unit far = record { addresses = unplaced; own = []; unit = unit; far = far }
 
 pub marked-reaches : (unit : UnitCode) (pointer : ℕ) (r : Routine) → ShortJumpsReach (lines_of (marked_routine unit pointer r))
 marked-reaches unit pointer r =

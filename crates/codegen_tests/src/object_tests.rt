@@ -14,17 +14,19 @@ fn near_jumps_are_short_where_they_reach(rt: HostRuntime) -> Result<(), Fail> {
     let own = unit(alloc, &[b"P"], vec![in alloc; far(0, 0, body)?]?)?;
     let object = generated(alloc, &own)??;
     let routine = object.routines.as_slice().first().ok_or("a routine")?;
-    // PUSH BP; MOV BP,SP; CMP SP,512; JAE +8; MOV AX,202; JMP FAR; SUB SP,0; JMP SHORT +0; MOV SP,BP; POP BP; RETF
+    // INC BP; PUSH BP; MOV BP,SP; CMP SP,512; JAE +8; MOV AX,202; JMP FAR; SUB SP,0; JMP SHORT +0; MOV SP,BP; POP BP; DEC BP;
+    // RETF
     assert_eq!(rt;
         routine.code.as_slice(),
         [
-            0x55, 0x8b, 0xec, 0x81, 0xfc, 0x00, 0x02, 0x73, 0x08, 0xb8, 0xca, 0x00, 0xea, 0x00,
-            0x00, 0x00, 0x00, 0x81, 0xec, 0x00, 0x00, 0xeb, 0x00, 0x8b, 0xe5, 0x5d, 0xcb,
+            0x45, 0x55, 0x8b, 0xec, 0x81, 0xfc, 0x00, 0x02, 0x73, 0x08, 0xb8, 0xca, 0x00, 0xea,
+            0x00, 0x00, 0x00, 0x00, 0x81, 0xec, 0x00, 0x00, 0xeb, 0x00, 0x8b, 0xe5, 0x5d, 0x4d,
+            0xcb,
         ]
         .as_slice()
     );
     let one = routine.refs.as_slice().first().ok_or("a reference")?;
-    assert_eq!(rt; one.offset, 13);
+    assert_eq!(rt; one.offset, 14);
     assert_eq!(rt; one.kind, RefKind::Runtime);
     assert_eq!(rt; one.number, 0);
     Ok(())
@@ -42,7 +44,7 @@ fn code_of_more_than_65520_bytes_is_too_large(rt: HostRuntime) -> Result<(), Fai
     let own = unit(alloc, &[b"P"], vec![in alloc; far(0, 2, body)?]?)?;
     match generated(alloc, &own)? {
         Err(GenError::CodeTooLarge { bytes }) => {
-            assert_eq!(rt; bytes, 66_034);
+            assert_eq!(rt; bytes, 66_036);
             Ok(())
         }
         _ => Err(Fail::from("code that is too large")),

@@ -10,3 +10,4 @@ pub mod Overlaid
 pub mod Compilers
 pub mod Slices
 pub mod SlicePlaces
+pub mod Expressible

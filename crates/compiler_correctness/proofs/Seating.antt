@@ -16,6 +16,7 @@ use Rattle.mz_file.specs.Load.{loaded_segment}
 use Rattle.overlay_file.specs.declared.overlay.OvrEntry.{OvrEntry}
 use Rattle.overlay_ring.specs.declared.seat.Seat.{Seat}
 use Rattle.overlay_ring.specs.Table.{Table, is_legal_table}
+use Rattle.frame_links.specs.Links.{Link}
 use Rattle.return_repair.specs.Chain.{chain_of}
 use Rattle.overlay_manager.specs.declared.traps.Trap.{Trap}
 use Rattle.overlay_manager.specs.Manager as manager
@@ -51,7 +52,7 @@ takes_if : (bytes : List ℕ) (p : Managed) (t : State) (b : Bool) (f g : List T
 takes_if bytes p t true f g first second = first
 takes_if bytes p t false f g first second = second
 
-takes_chained : (bytes : List ℕ) (p : Managed) (t : State) (trap : Trap) → trap_of p.manager.stubs t ≡ Some trap → (links : Result (List ℕ) ℕ) → Takes bytes p t (λ tables. chained bytes p tables t trap links)
+takes_chained : (bytes : List ℕ) (p : Managed) (t : State) (trap : Trap) → trap_of p.manager.stubs t ≡ Some trap → (links : Result (List Link) ℕ) → Takes bytes p t (λ tables. chained bytes p tables t trap links)
 takes_chained bytes p t trap found (Ok links) = inr (trap, found, λ tables. refl)
 takes_chained bytes p t trap found (Err bad) = takes_none bytes p t (is_stopped p (why.BadChain bad) p.manager) refl
 
@@ -59,8 +60,8 @@ takes_trapped : (bytes : List ℕ) (p : Managed) (t : State) (found : Option Tra
 takes_trapped bytes p t None is = takes_none bytes p t (is_stopped p why.NoStub p.manager) refl
 takes_trapped bytes p t (Some trap) is =
     let on : Managed = with_trap (goes_on p (refused p.manager.error_routine t) p.manager) in
-    takes_if bytes p t (is_refused p.manager.installed t trap) (λ tables. On on tables) (λ tables. chained bytes p tables t trap (chain_of t)) (takes_none bytes p t on refl)
-    (takes_chained bytes p t trap is (chain_of t))
+    takes_if bytes p t (is_refused p.manager.installed t trap) (λ tables. On on tables) (λ tables. chained bytes p tables t trap (chain_of p.manager.marked t)) (takes_none bytes p t on refl)
+    (takes_chained bytes p t trap is (chain_of p.manager.marked t))
 
 cleared_fixed : (b : Bool) (m : Manager) (t : State) → fixed (if b then with_seats m [] else manager.emptied m t) ≡ fixed m
 cleared_fixed true m t = refl
@@ -69,7 +70,7 @@ cleared_fixed false m t = refl
 emptied_fixed : (p : Managed) (t : State) → fixed (emptied p t).manager ≡ fixed p.manager
 emptied_fixed p t = cleared_fixed (length p.manager.stubs == 0) p.manager t
 
-out_fixed : (b : Bool) (p : Managed) (t : State) (links : Result (List ℕ) ℕ) → fixed (let q : Managed = if b then emptied p t else emptied_by p t links in q.manager) ≡ fixed p.manager
+out_fixed : (b : Bool) (p : Managed) (t : State) (links : Result (List Link) ℕ) → fixed (let q : Managed = if b then emptied p t else emptied_by p t links in q.manager) ≡ fixed p.manager
 out_fixed true p t links = emptied_fixed p t
 out_fixed false p t (Ok links) = emptied_fixed p t
 out_fixed false p t (Err bad) = refl
@@ -80,7 +81,7 @@ takes_interrupted bytes p t n =
     takes_if bytes p t (n == 63) (λ tables. trapped bytes p tables t (trap_of p.manager.stubs t)) (λ tables. if n == 96 then On (all_out p t) tables else On plain tables)
     (takes_trapped bytes p t (trap_of p.manager.stubs t) refl)
     (takes_if bytes p t (n == 96) (λ tables. On (all_out p t) tables) (λ tables. On plain tables)
-    (takes_none bytes p t (all_out p t) (out_fixed (length p.manager.stubs == 0) p t (chain_of t))) (takes_none bytes p t plain refl))
+    (takes_none bytes p t (all_out p t) (out_fixed (length p.manager.stubs == 0) p t (chain_of p.manager.marked t))) (takes_none bytes p t plain refl))
 
 takes_event : (bytes : List ℕ) (p : Managed) (t : State) (event : Event) → Takes bytes p t (λ tables. after_event bytes p tables t event)
 takes_event bytes p t (Service n) = takes_interrupted bytes p t n

@@ -195,6 +195,7 @@ slice_stands overlaid = record {
     ahead = refl;
     overlay = record { result = refl; name = refl };
     heap = record { segment = refl; bytes = refl; state = refl };
+    scratch = refl;
   };
   legal = slice_legal overlaid;
   segments = record { data_small = omega arith; stack_small = omega arith; heap_small = omega arith };

@@ -11,6 +11,7 @@ use Rattle.cpu_8086.specs.State.{State}
 use Rattle.cpu_8086.specs.Step.{Steps}
 use Rattle.overlay_ring.specs.declared.seat.Seat.{Seat}
 use Rattle.overlay_ring.specs.Table.{Table, is_legal_table}
+use Rattle.frame_links.specs.Links.{Link}
 use Rattle.return_repair.specs.Chain.{chain_of}
 use Rattle.overlay_manager.specs.declared.traps.Trap.{Trap}
 use Rattle.overlay_manager.specs.Manager.{table_by}
@@ -99,7 +100,7 @@ loading : (bytes : List ℕ) (p : Managed) (tables left : List Table) (t : State
 loading bytes p tables left t trap seats None = keeps p (loaded_by bytes p t trap seats None) tables left refl refl
 loading bytes p tables left t trap seats (Some v) = keeps p (loaded_by bytes p t trap seats (Some v)) tables left refl refl
 
-walking : (bytes : List ℕ) (p : Managed) (tables : List Table) (t : State) (trap : Trap) (links : Result (List ℕ) ℕ) → Wrote (On p tables) (chained bytes p tables t trap links)
+walking : (bytes : List ℕ) (p : Managed) (tables : List Table) (t : State) (trap : Trap) (links : Result (List Link) ℕ) → Wrote (On p tables) (chained bytes p tables t trap links)
 walking bytes p tables t trap (Ok links) =
     let seats : List Seat = seats_of p.manager.ring.sizes (next_table tables) in
     either (is_legal_table p.manager.ring.sizes p.manager.ring.room trap.overlay (next_table tables)) (On p tables) (On (seated bytes p t trap seats) (later_tables tables)) NotLegal
@@ -110,13 +111,13 @@ trapping : (bytes : List ℕ) (p : Managed) (tables : List Table) (t : State) (f
 trapping bytes p tables t None = keeps p (is_stopped p why.NoStub p.manager) tables tables refl refl
 trapping bytes p tables t (Some trap) =
     let on : Managed = with_trap (goes_on p (refused p.manager.error_routine t) p.manager) in
-    either (is_refused p.manager.installed t trap) (On p tables) (On on tables) (chained bytes p tables t trap (chain_of t)) (keeps p on tables tables refl refl) (walking bytes p tables t trap (chain_of t))
+    either (is_refused p.manager.installed t trap) (On p tables) (On on tables) (chained bytes p tables t trap (chain_of p.manager.marked t)) (keeps p on tables tables refl refl) (walking bytes p tables t trap (chain_of p.manager.marked t))
 
-clearing_by : (p : Managed) (tables : List Table) (t : State) (links : Result (List ℕ) ℕ) → Extends p.process (emptied_by p t links).process
+clearing_by : (p : Managed) (tables : List Table) (t : State) (links : Result (List Link) ℕ) → Extends p.process (emptied_by p t links).process
 clearing_by p tables t (Ok links) = extends_same p.process (emptied p t).process refl refl
 clearing_by p tables t (Err bad) = let q : Managed = is_stopped p (why.BadChain bad) p.manager in extends_same p.process q.process refl refl
 
-clearing_if : (b : Bool) (p : Managed) (t : State) (links : Result (List ℕ) ℕ) → Extends p.process (let q : Managed = if b then emptied p t else emptied_by p t links in q.process)
+clearing_if : (b : Bool) (p : Managed) (t : State) (links : Result (List Link) ℕ) → Extends p.process (let q : Managed = if b then emptied p t else emptied_by p t links in q.process)
 clearing_if true p t links = extends_same p.process (emptied p t).process refl refl
 clearing_if false p t links = clearing_by p [] t links
 
@@ -125,7 +126,7 @@ interrupting bytes p tables t n =
     let plain : Managed = record p { process = serviced p.process t n } in
     either (n == 63) (On p tables) (trapped bytes p tables t (trap_of p.manager.stubs t)) (if n == 96 then On (all_out p t) tables else On plain tables)
     (trapping bytes p tables t (trap_of p.manager.stubs t))
-    (either (n == 96) (On p tables) (On (all_out p t) tables) (On plain tables) (clearing_if (length p.manager.stubs == 0) p t (chain_of t)) (service_extends p.process t n))
+    (either (n == 96) (On p tables) (On (all_out p t) tables) (On plain tables) (clearing_if (length p.manager.stubs == 0) p t (chain_of p.manager.marked t)) (service_extends p.process t n))
 
 event_writes : (bytes : List ℕ) (p : Managed) (tables : List Table) (t : State) (event : Event) → Wrote (On p tables) (after_event bytes p tables t event)
 event_writes bytes p tables t (Service n) = interrupting bytes p tables t n

@@ -11,6 +11,7 @@ use Rattle.overlay_file.specs.declared.overlay.OvrEntry.{OvrEntry}
 use Rattle.overlay_ring.specs.declared.seat.Seat.{Seat}
 use Rattle.overlay_ring.specs.Table.{Entry, Table, is_legal_table}
 use Rattle.return_repair.specs.declared.table.Loaded.{Loaded}
+use Rattle.frame_links.specs.Links.{Link}
 use Rattle.return_repair.specs.Chain.{chain_of}
 use Rattle.return_repair.specs.Pairs.{saved_at}
 use Rattle.overlay_manager.specs.declared.traps.Trap.{Trap}
@@ -76,7 +77,7 @@ served_next bytes p tables t trap =
     else NotLegal
 
 -- the chain of links is walked first
-abbrev pub chained : List ℕ → Managed → List Table → State → Trap → Result (List ℕ) ℕ → Tabled
+abbrev pub chained : List ℕ → Managed → List Table → State → Trap → Result (List Link) ℕ → Tabled
 chained bytes p tables t trap (Ok links) = served_next bytes p tables t trap
 chained bytes p tables t trap (Err bad) = On (is_stopped p (why.BadChain bad) p.manager) tables
 
@@ -85,19 +86,19 @@ trapped bytes p tables t None = On (is_stopped p why.NoStub p.manager) tables
 trapped bytes p tables t (Some trap) =
     if is_refused p.manager.installed t trap
     then On (with_trap (goes_on p (refused p.manager.error_routine t) p.manager)) tables
-    else chained bytes p tables t trap (chain_of t)
+    else chained bytes p tables t trap (chain_of p.manager.marked t)
 
 -- ---- clears
 
 abbrev pub emptied : Managed → State → Managed
 emptied p t = goes_on p (record t { memory = cleared p.manager t }) (cleared_manager p.manager t)
 
-abbrev pub emptied_by : Managed → State → Result (List ℕ) ℕ → Managed
+abbrev pub emptied_by : Managed → State → Result (List Link) ℕ → Managed
 emptied_by p t (Ok links) = emptied p t
 emptied_by p t (Err bad) = is_stopped p (why.BadChain bad) p.manager
 
 abbrev pub all_out : Managed → State → Managed
-all_out p t = if length p.manager.stubs == 0 then emptied p t else emptied_by p t (chain_of t)
+all_out p t = if length p.manager.stubs == 0 then emptied p t else emptied_by p t (chain_of p.manager.marked t)
 
 -- ---- events
 

@@ -3,11 +3,14 @@
 ghost use Rattle.std.specs.Prelude.{◌≡◌, ℕ, List};
 ghost use Rattle.typed_tree.specs.declared.units.Program.{Program};
 ghost use Rattle.program_typing.specs.programs.WellTyped.{IsWellTyped};
+ghost use Rattle.flat_code.specs.Program.{FlatProgram};
+ghost use Rattle.runtime_units.specs.Units.{HoldsRuntime};
 ghost use Rattle.compiler_correctness.specs.Runs.{Files};
 ghost use Rattle.compiler_correctness.specs.Hypotheses.{IsBuiltPlain, plain_rate, IsBuilt, overlaid_rate};
 ghost use Rattle.compiler_correctness.specs.Correct.{IsCorrectPlain, IsCorrect};
 ghost use Rattle.compiler_correctness.specs.Compiler.{Compiler, CompilerLaws, PlainTheorem, OverlaidTheorem, RingLaw, RunTheorem};
 ghost use Rattle.compiler_correctness.specs.Slice.{SliceFollows, SliceStands};
+ghost use Rattle.compiler_correctness.specs.Expressible.{PlainIsExpressible, RuntimeIsExpressible};
 ghost use Rattle.compiler_correctness.specs.Tables.{Tabled, TabledRuns};
 
 use code_simulation::start::start_law;
@@ -16,6 +19,7 @@ use dos_runner::plain_opening::plain_opening_law;
 use overlay_manager::overlay_run::plain_law;
 use resident_machine::machine_lines::run_law as leads_law;
 use resident_machine::resident_law;
+use runtime_units::runtime_laws;
 use tp_meaning::meaning_laws;
 use type_soundness::programs::sound_program_laws;
 
@@ -73,3 +77,12 @@ pub fn slice_law()
     ensures follows { SliceFollows }
     ensures stands { SliceStands }
 {}
+
+/// What the code of the runtime asks for is there, as placed programs want it: its numbers are words, and it calls effects of the
+/// machine alone.
+pub fn runtime_code_law()
+    ensures plain { PlainIsExpressible }
+    ensures runtime { (program : FlatProgram) → HoldsRuntime program → RuntimeIsExpressible program }
+{
+    runtime_laws();
+}

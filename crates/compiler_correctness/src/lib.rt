@@ -3,4 +3,7 @@
 
 mod laws;
 
-pub use laws::{compiler_law, overlaid_program_law, plain_program_law, slice_law, tabled_run_law};
+pub use laws::{
+    compiler_law, overlaid_program_law, plain_program_law, runtime_code_law, slice_law,
+    tabled_run_law,
+};

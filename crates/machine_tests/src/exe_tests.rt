@@ -19,7 +19,7 @@ const FILE: [u8; 68] = [
 ];
 
 /// What it stands for.
-fn example(alloc: Global) -> Result<Exe, AllocError>
+fn example(alloc: Global, marked: bool) -> Result<Exe, AllocError>
     ensures { IfOk result IsWritable }
 {
     let mut relocations = FarList::new(alloc);
@@ -56,14 +56,21 @@ fn example(alloc: Global) -> Result<Exe, AllocError>
             heap: 65543,
             data_segment: 9,
             data_bytes: 12,
+            marked,
         },
     })
 }
 
 #[test]
 fn written_by_offsets(rt: HostRuntime) -> Result<(), Fail> {
-    let bytes = write_exe(rt.alloc(), &example(rt.alloc())?)?;
-    assert_eq!(rt; bytes.as_slice(), FILE.as_slice());
+    for (marked, letter) in [(false, 0x31), (true, 0x32)] {
+        let mut bytes = FILE;
+        bytes[0x1F] = letter;
+        let written = write_exe(rt.alloc(), &example(rt.alloc(), marked)?)?;
+        assert_eq!(rt; written.as_slice(), bytes.as_slice());
+        let exe = read_exe(rt.alloc(), &bytes)?;
+        assert_eq!(rt; exe.block.marked, marked);
+    }
     Ok(())
 }
 
@@ -83,7 +90,7 @@ fn refused_at_the_first_rule(rt: HostRuntime) -> Result<(), Fail> {
         (0x04, 0x00, ExeCause::BadPages),
         (0x08, 0x05, ExeCause::BadPages),
         (0x38, 0x03, ExeCause::BadRelocation { number: 0 }),
-        (0x1F, 0x32, ExeCause::NoBlock),
+        (0x1F, 0x33, ExeCause::NoBlock),
         (0x20, 0x06, ExeCause::NoBlock),
         (0x18, 0x36, ExeCause::BadRelocation { number: 0 }),
     ] {

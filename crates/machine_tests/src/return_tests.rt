@@ -50,15 +50,15 @@ const BACK: [Loaded; 1] = [Loaded {
 
 /// The overlay goes out. Gives how many returns changed.
 fn goes_out(machine: &mut Machine, pending: bool) -> Result<u32, BadChain> {
-    repair(machine, pending, &LOADED, &OUT)
+    repair(machine, pending, false, &LOADED, &OUT)
 }
 
 fn stays_out(machine: &mut Machine) -> Result<u32, BadChain> {
-    repair(machine, false, &OUT, &OUT)
+    repair(machine, false, false, &OUT, &OUT)
 }
 
 fn comes_back(machine: &mut Machine) -> Result<u32, BadChain> {
-    repair(machine, false, &OUT, &BACK)
+    repair(machine, false, false, &OUT, &BACK)
 }
 
 #[test]
@@ -87,6 +87,43 @@ fn the_pending_return_is_topmost(rt: HostRuntime) -> Result<(), Fail> {
     Ok(())
 }
 
+/// The same stack where frames are marked: the first is a far routine's, the second a near one's.
+fn far_and_near(alloc: Global) -> Result<Machine, AllocError> {
+    let mut machine = two_frames(alloc)?;
+    machine.store_word(0x1000, 0x0110, 0x0121);
+    Ok(machine)
+}
+
+#[test]
+fn a_near_frame_has_no_pair(rt: HostRuntime) -> Result<(), Fail> {
+    let mut machine = far_and_near(rt.alloc())?;
+    let changed = repair(&mut machine, false, true, &LOADED, &OUT);
+    assert_eq!(rt; changed, Ok(1));
+    assert_eq!(rt; pairs(&machine), [0x0000, 0x0200, 0x0035, 0x9000]);
+    assert_eq!(rt; machine.load_word(0x0200, 2), 0x0020);
+    Ok(())
+}
+
+#[test]
+fn a_near_frame_takes_four_bytes(rt: HostRuntime) -> Result<(), Fail> {
+    let mut machine = far_and_near(rt.alloc())?;
+    machine.set_reg(Reg::Bp, 0x010C);
+    machine.store_word(0x1000, 0x010C, 0x0110);
+    let changed = repair(&mut machine, false, true, &LOADED, &OUT);
+    assert_eq!(rt; changed, Ok(1));
+    assert_eq!(rt; pairs(&machine), [0x0000, 0x0200, 0x0035, 0x9000]);
+    Ok(())
+}
+
+#[test]
+fn a_marked_link_that_does_not_rise(rt: HostRuntime) -> Result<(), Fail> {
+    let mut machine = far_and_near(rt.alloc())?;
+    machine.store_word(0x1000, 0x0110, 0x0111);
+    let changed = repair(&mut machine, false, true, &LOADED, &OUT);
+    assert_eq!(rt; changed, Err(BAD));
+    Ok(())
+}
+
 const BAD: BadChain = BadChain { bp: 0x0110 };
 
 #[test]
@@ -97,7 +134,7 @@ fn a_link_that_does_not_rise(rt: HostRuntime) -> Result<(), Fail> {
     assert_eq!(rt; pairs(&machine), [0x0020, 0x9000, 0x0035, 0x9000]);
     assert_eq!(rt; machine.load_word(0x0200, 2), 0);
     let mut into = [true];
-    let found = live(&machine, false, &LOADED, &mut into);
+    let found = live(&machine, false, false, &LOADED, &mut into);
     assert_eq!(rt; found, Err(BAD));
     assert_eq!(rt; into, [true]);
     Ok(())
@@ -120,9 +157,9 @@ const THREE: [Loaded; 3] = [
 ];
 
 /// Into which of the three there are live returns.
-fn live_in(machine: &Machine) -> Option<[bool; 3]> {
+fn live_in(machine: &Machine, marked: bool) -> Option<[bool; 3]> {
     let mut into = [true; 3];
-    match live(machine, false, &THREE, &mut into) {
+    match live(machine, false, marked, &THREE, &mut into) {
         Ok(()) => Some(into),
         Err(_) => None,
     }
@@ -131,8 +168,9 @@ fn live_in(machine: &Machine) -> Option<[bool; 3]> {
 #[test]
 fn live_overlays(rt: HostRuntime) -> Result<(), Fail> {
     let mut machine = two_frames(rt.alloc())?;
-    assert_eq!(rt; live_in(&machine), Some([false, true, false]));
+    assert_eq!(rt; live_in(&machine, false), Some([false, true, false]));
     machine.store_word(0x1000, 0x0124, 0x0400);
-    assert_eq!(rt; live_in(&machine), Some([false, true, true]));
+    assert_eq!(rt; live_in(&machine, false), Some([false, true, true]));
+    assert_eq!(rt; live_in(&machine, true), Some([false, false, false]));
     Ok(())
 }

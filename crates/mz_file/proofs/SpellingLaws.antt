@@ -1,5 +1,5 @@
 -- What is written for a value stands for it.
-use Rattle.std.proofs.Common.{◌≡◌, ℕ, ◌+◌, ◌-◌, ◌*◌, ◌/◌, ◌%◌, ◌<◌, ◌==◌, cond, List, [], ◌++◌, length, take, drop, refl, sym, ap, ap₂, subst, subst₂, ◌∙◌, append_assoc, length-append, All, replicate, arith}
+use Rattle.std.proofs.Common.{◌≡◌, ℕ, ◌+◌, ◌-◌, ◌*◌, ◌/◌, ◌%◌, ◌<◌, ◌==◌, ◌⊎◌, inl, inr, Bool, true, false, cond, List, [], ◌++◌, length, take, drop, refl, sym, ap, ap₂, subst, subst₂, ◌∙◌, append_assoc, length-append, All, replicate, arith}
 use Rattle.std.proofs.lemmas.List.{length-replicate}
 use Rattle.std.proofs.lemmas.Bool.Decides.{nat_tests}
 use Rattle.std.proofs.Math.Seq.{drop-append_seam, take-length}
@@ -7,7 +7,7 @@ use Rattle.cpu_8086.specs.Memory.{word_of, low_byte, high_byte}
 use Rattle.cpu_8086.specs.declared.registers.Far.{Far}
 use Rattle.mz_file.specs.declared.executable.Exe.{Exe}
 use Rattle.mz_file.specs.Words.{word_at, long_at, words_at, fars_at, bytes_of_words, words_of_fars}
-use Rattle.mz_file.specs.Format.{said_size, header_size, image_of, relocations_of, block_of, exe_of, IsWithin, IsExecutable, Denotes}
+use Rattle.mz_file.specs.Format.{said_size, header_size, image_of, relocations_of, letters_X, block_of, exe_of, IsWithin, IsExecutable, Denotes}
 use Rattle.mz_file.specs.Spelling.{relocation_place, relocation_end, header_paragraphs, file_size, header_words, all_words, padding, spelling, IsWritable}
 use Rattle.mz_file.proofs.WordLaws.{word_of-bytes, bytes_of_words-append, length-bytes_of_words, length-words_of_fars, words_at-append, words_at-words, fars_at-append, fars_at-fars}
 
@@ -101,6 +101,15 @@ module _ (exe : Exe) where
       let segment = word_of-bytes far.segment in
       λ i. record { offset = offset i; segment = segment i }
 
+  -- the letters say whether frames are marked
+  X-marked : (marked : Bool) → (letters_X marked == 0x3258) ≡ marked
+  X-marked true = refl
+  X-marked false = refl
+
+  X-either : (marked : Bool) → (letters_X marked ≡ 0x3158) ⊎ (letters_X marked ≡ 0x3258)
+  X-either true = inr refl
+  X-either false = inl refl
+
   block-spelling : block_of (spelling exe) ≡ exe.block
   unfolding spelling
   block-spelling =
@@ -114,7 +123,8 @@ module _ (exe : Exe) where
       ap₂ (λ (low high : ℕ). low + 65536 * high) (word_of-bytes (block.heap % 65536)) (word_of-bytes (block.heap / 65536)) ∙ omega arith in
       let data_segment = word_of-bytes block.data_segment in
       let data_bytes = word_of-bytes block.data_bytes in
-      λ i. record { stubs = stubs i; largest = largest i; error_routine = error_routine i; installed = installed i; stack = stack i; heap = heap i; data_segment = data_segment i; data_bytes = data_bytes i }
+      let marked = ap (λ (word : ℕ). word == 0x3258) (word_of-bytes (letters_X block.marked)) ∙ X-marked block.marked in
+      λ i. record { stubs = stubs i; largest = largest i; error_routine = error_routine i; installed = installed i; stack = stack i; heap = heap i; data_segment = data_segment i; data_bytes = data_bytes i; marked = marked i }
 
   exe-spelling : exe_of (spelling exe) ≡ exe
   unfolding spelling
@@ -145,7 +155,7 @@ module _ (exe : Exe) where
     relocations = subst₂ (λ image fars. All (IsWithin (length image)) fars) (sym image-spelling) (sym relocations-spelling) writable.inside;
     block = record {
       letters_TP = refl;
-      letters_X1 = refl;
+      letters_X = subst (λ (word : ℕ). (word ≡ 0x3158) ⊎ (word ≡ 0x3258)) (sym (word_of-bytes (letters_X exe.block.marked))) (X-either exe.block.marked);
       stubs = omega (arith, writable.stubs, word_of-bytes (length exe.block.stubs));
       header = omega (arith, header-spelling, word_of-bytes (length exe.block.stubs));
       relocations = omega (arith, word_of-bytes (length exe.block.stubs), word_of-bytes (relocation_place exe));

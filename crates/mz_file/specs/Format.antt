@@ -1,5 +1,5 @@
 -- The format of an executable file: which bytes are one, and the value that they stand for.
-use Rattle.std.specs.Prelude.{◌≡◌, ◌≢◌, ℕ, ◌+◌, ◌-◌, ◌*◌, ◌≤◌, ◌==◌, if◌then◌else◌, List, length, take, drop, All}
+use Rattle.std.specs.Prelude.{◌≡◌, ◌≢◌, ℕ, ◌+◌, ◌-◌, ◌*◌, ◌≤◌, ◌==◌, ◌⊎◌, Bool, true, false, if◌then◌else◌, List, length, take, drop, All}
 use Rattle.cpu_8086.specs.declared.registers.Far.{Far}
 use Rattle.mz_file.specs.declared.executable.Block.{Block}
 use Rattle.mz_file.specs.declared.executable.Exe.{Exe}
@@ -26,6 +26,11 @@ relocations_of bytes = fars_at bytes (word_at bytes 0x18) (word_at bytes 0x06)
 abbrev pub block_end : List ℕ → ℕ
 block_end bytes = 0x36 + 2 * word_at bytes 0x20
 
+-- Its letters are TP, and X2 where frames are marked, X1 where they aren't.
+abbrev pub letters_X : Bool → ℕ
+letters_X true = 0x3258
+letters_X false = 0x3158
+
 abbrev pub block_of : List ℕ → Block
 block_of bytes = record {
   stubs = words_at bytes 0x36 (word_at bytes 0x20);
@@ -36,6 +41,7 @@ block_of bytes = record {
   heap = long_at bytes 0x2E;
   data_segment = word_at bytes 0x32;
   data_bytes = word_at bytes 0x34;
+  marked = word_at bytes 0x1E == 0x3258;
 }
 
 -- The value that bytes stand for where they are an executable.
@@ -65,10 +71,10 @@ pub record HasPages (bytes : List ℕ) : Type 0 where
   pub header : header_size bytes ≤ said_size bytes
   pub relocations : word_at bytes 0x18 + 4 * word_at bytes 0x06 ≤ said_size bytes
 
--- The block is there: its four letters TPX1, and its stub segments, before the relocations and within the header.
+-- The block is there: its four letters, TPX1 or TPX2, and its stub segments, before the relocations and within the header.
 pub record HasBlock (bytes : List ℕ) : Type 0 where
   pub letters_TP : word_at bytes 0x1C ≡ 0x5054
-  pub letters_X1 : word_at bytes 0x1E ≡ 0x3158
+  pub letters_X : (word_at bytes 0x1E ≡ 0x3158) ⊎ (word_at bytes 0x1E ≡ 0x3258)
   pub stubs : word_at bytes 0x20 ≤ 256
   pub header : block_end bytes ≤ header_size bytes
   pub relocations : block_end bytes ≤ word_at bytes 0x18

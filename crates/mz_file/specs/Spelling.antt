@@ -2,7 +2,7 @@
 -- with zeros to a paragraph.
 use Rattle.std.specs.Prelude.{ℕ, ◌+◌, ◌-◌, ◌*◌, ◌/◌, ◌%◌, ◌≤◌, List, [], ◌∷◌, ◌++◌, length, replicate, All}
 use Rattle.mz_file.specs.declared.executable.Exe.{Exe}
-use Rattle.mz_file.specs.Format.{IsWithin}
+use Rattle.mz_file.specs.Format.{IsWithin, letters_X}
 use Rattle.mz_file.specs.Words.{bytes_of_words, words_of_fars}
 
 -- where the relocations stand, and where the last of them ends
@@ -25,7 +25,7 @@ header_words exe =
     0x5A4D ∷ file_size exe % 512 ∷ (file_size exe + 511) / 512 ∷ length exe.relocations
     ∷ header_paragraphs exe ∷ exe.extra ∷ exe.extra ∷ exe.stack.segment
     ∷ exe.stack.offset ∷ 0 ∷ exe.entry.offset ∷ exe.entry.segment
-    ∷ relocation_place exe ∷ 0 ∷ 0x5054 ∷ 0x3158
+    ∷ relocation_place exe ∷ 0 ∷ 0x5054 ∷ letters_X exe.block.marked
     ∷ length exe.block.stubs ∷ exe.block.largest ∷ exe.block.error_routine.offset ∷ exe.block.error_routine.segment
     ∷ exe.block.installed.offset ∷ exe.block.installed.segment ∷ exe.block.stack ∷ exe.block.heap % 65536
     ∷ exe.block.heap / 65536 ∷ exe.block.data_segment ∷ exe.block.data_bytes ∷ []

@@ -28,6 +28,8 @@ pub struct Block {
     pub data_segment: u16,
     /// The size of the data in bytes.
     pub data_bytes: u16,
+    /// Whether frames are marked: a far routine's by the lowest bit of its link.
+    pub marked: bool,
 }
 
 /// An executable program. Each segment counts from the image's start.

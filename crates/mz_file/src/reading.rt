@@ -68,7 +68,7 @@ fn has_block(bytes: &[u8]) -> bool
     }
     let end = 0x36 + 2 * word(bytes, 0x20) as usize;
     word(bytes, 0x1C) == 0x5054
-        && word(bytes, 0x1E) == 0x3158
+        && (word(bytes, 0x1E) == 0x3158 || word(bytes, 0x1E) == 0x3258)
         && word(bytes, 0x20) <= 256
         && end <= header
         && end <= word(bytes, 0x18) as usize
@@ -158,6 +158,7 @@ fn read_block(alloc: Global, bytes: &[u8]) -> Result<Block, AllocError>
         heap: word(bytes, 0x2E) as u32 + 0x1_0000 * word(bytes, 0x30) as u32,
         data_segment: word(bytes, 0x32),
         data_bytes: word(bytes, 0x34),
+        marked: word(bytes, 0x1E) == 0x3258,
     })
 }
 

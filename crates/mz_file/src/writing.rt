@@ -1,7 +1,7 @@
 //! Writing an executable file.
 
 ghost use Rattle.std.specs.Prelude.{◌≡◌, ◌+◌, ◌*◌, ◌<◌, ◌++◌, [], ◌∷◌, IfOk, OnOk, length, replicate};
-ghost use Rattle.mz_file.specs.Format.{Denotes};
+ghost use Rattle.mz_file.specs.Format.{letters_X, Denotes};
 ghost use Rattle.mz_file.specs.Spelling.{relocation_place, relocation_end, header_paragraphs, file_size, header_words, spelling, IsWritable};
 ghost use Rattle.mz_file.specs.Words.{bytes_of_words, words_of_fars};
 
@@ -59,6 +59,13 @@ fn end_of_relocations(exe: &Exe) -> usize
     0x36 + 2 * exe.block.stubs.len() + 4 * exe.relocations.len()
 }
 
+/// The letters X1, or X2 where frames are marked.
+fn letters(marked: bool) -> u16
+    ensures { result ≡ letters_X marked }
+{
+    if marked { 0x3258 } else { 0x3158 }
+}
+
 /// The words of the header up to the stub segments.
 fn header(exe: &Exe) -> [u16; HEADER_WORDS]
     requires { IsWritable exe.now }
@@ -84,7 +91,7 @@ fn header(exe: &Exe) -> [u16; HEADER_WORDS]
         (0x36 + 2 * block.stubs.len()) as u16,
         0,
         0x5054,
-        0x3158,
+        letters(block.marked),
         block.stubs.len() as u16,
         block.largest,
         block.error_routine.offset,

@@ -123,8 +123,8 @@ buffer-kept m s pending seats loaded steps at inside =
     let off_written = each-then (StubOffBuffer m.ring.room s.memory) (λ stub. IsOffWritten s.memory stub at) m.stubs (λ stub off_it k above below. not-both m.ring.room at (address stub k) inside (off_it k below)) steps.orderly.stubs_off_buffer in
     let off_saved = each-then (StubOffBuffer m.ring.room s.memory) (λ stub. IsElsewhere at (word_bytes stub 2)) m.stubs
     (λ stub off_it. (not-both m.ring.room at (address stub 2) inside (off_it 2 (omega arith)), (not-both m.ring.room at (address stub 3) inside (off_it 3 (omega arith)), tt))) steps.orderly.stubs_off_buffer in
-    let off_pairs : IsOffPairs s.registers.ss (places_of s pending) at =
-    each-then (λ place. AllByRecursion (IsOffBuffer m.ring.room) (pair_bytes s.registers.ss place)) (λ place. IsElsewhere at (pair_bytes s.registers.ss place)) (places_of s pending)
+    let off_pairs : IsOffPairs s.registers.ss (places_of m.marked s pending) at =
+    each-then (λ place. AllByRecursion (IsOffBuffer m.ring.room) (pair_bytes s.registers.ss place)) (λ place. IsElsewhere at (pair_bytes s.registers.ss place)) (places_of m.marked s pending)
     (λ place bytes. each-then (IsOffBuffer m.ring.room) (λ byte. at ≢ byte) (pair_bytes s.registers.ss place) (λ byte off_it. not-both m.ring.room at byte inside off_it) bytes) steps.orderly.pairs_off_buffer in
     written-elsewhere m s pending seats loaded steps at off_written
     ∙ (only-pairs m s pending seats loaded steps).others at off_pairs (each-overlay (λ stub. IsElsewhere at (word_bytes stub 2)) (table_by m seats) (tabled (λ stub. IsElsewhere at (word_bytes stub 2)) m seats off_saved))

@@ -35,7 +35,7 @@ pub record Chosen (m : Manager) (trap : Trap) (s : State) (room : ℕ) (stubs : 
   pub old_is : old ≡ table_from room seats_old 0 stubs
   pub old_seen_is : old_seen ≡ old
   pub long : length live ≡ length m.stubs
-  pub live_is : (v : ℕ) → slice_index_or live v false ≡ is_live s trap.call old_seen v
+  pub live_is : (v : ℕ) → slice_index_or live v false ≡ is_live m.marked s trap.call old_seen v
   pub live_seen_is : live_seen ≡ live
   pub ring_is : ring ≡ record m.ring { seats = retry_after m.ring.sizes m.ring.room live_seen m.retry trap.overlay m.ring.seats }
   pub seats_new_is : seats_new ≡ ring.seats
@@ -59,8 +59,8 @@ made m trap s room stubs seats_old old old_seen live live_seen ring seats_new ne
     let old_is : old ≡ table_before m =
     chosen.old_is ∙ ap (λ (room : ℕ). table_from room seats_old 0 stubs) (sym chosen.room_is)
     ∙ ap₂ (λ (seats : List Seat) (stubs : List ℕ). table_from m.ring.room seats 0 stubs) chosen.seats_old_is chosen.stubs_is in
-    let flags = flags-are s trap.call (table_before m) 0 m.stubs live chosen.long
-    (λ k. let number : k ≡ 0 + k = omega arith in chosen.live_is k ∙ ap (λ (table : List Loaded). is_live s trap.call table k) (chosen.old_seen_is ∙ old_is) ∙ ap (is_live s trap.call (table_before m)) number) in
+    let flags = flags-are m.marked s trap.call (table_before m) 0 m.stubs live chosen.long
+    (λ k. let number : k ≡ 0 + k = omega arith in chosen.live_is k ∙ ap (λ (table : List Loaded). is_live m.marked s trap.call table k) (chosen.old_seen_is ∙ old_is) ∙ ap (is_live m.marked s trap.call (table_before m)) number) in
     let seats_is : ring.seats ≡ seats_after m trap s =
     ap (λ (ring : Buffer). ring.seats) chosen.ring_is
     ∙ ap (λ (live : List Bool). retry_after m.ring.sizes m.ring.room live m.retry trap.overlay m.ring.seats) (chosen.live_seen_is ∙ flags) in
@@ -91,7 +91,7 @@ made m trap s room stubs seats_old old old_seen live live_seen ring seats_new ne
 -- what is brought in, and where control goes on
 pub record Brought (known : Option Folder) (m : Manager) (trap : Trap) (s t u : State) (room : ℕ) (old new : List Loaded) (ring : Buffer) (seats_brought seats_resumed : List Seat) (cs load saved : ℕ) : Type 0 where
   pub seats_brought_is : seats_brought ≡ ring.seats
-  pub told : IfSome known (λ held. t ≡ record s { memory = with_stubs m.stubs seats_brought 0 old new (followed (loaded_state (bytes_of held m.name) m.entries old new s) trap.call old new) })
+  pub told : IfSome known (λ held. t ≡ record s { memory = with_stubs m.stubs seats_brought 0 old new (followed m.marked (loaded_state (bytes_of held m.name) m.entries old new s) trap.call old new) })
   pub seats_resumed_is : seats_resumed ≡ ring.seats
   pub cs_is : cs ≡ s.cs
   pub saved_is : saved ≡ load_word s.memory cs 2
@@ -105,11 +105,11 @@ machine-joined known m trap s t u room old new ring seats_brought seats_resumed 
     let load_is : load ≡ load_segment m.ring.room ring.seats trap.overlay =
     there.load_is ∙ ap₂ (λ (room : ℕ) (seats : List Seat). load_segment room seats trap.overlay) (sym there.room_is) there.seats_resumed_is in
     let saved_is : saved ≡ saved_at s.memory s.cs = there.saved_is ∙ ap (λ (cs : ℕ). load_word s.memory cs 2) there.cs_is in
-    let told = subst (λ (seats : List Seat). IfSome known (λ held. t ≡ record s { memory = with_stubs m.stubs seats 0 old new (followed (loaded_state (bytes_of held m.name) m.entries old new s) trap.call old new) })) there.seats_brought_is there.told in
+    let told = subst (λ (seats : List Seat). IfSome known (λ held. t ≡ record s { memory = with_stubs m.stubs seats 0 old new (followed m.marked (loaded_state (bytes_of held m.name) m.entries old new s) trap.call old new) })) there.seats_brought_is there.told in
     served-told known m.name m trap s t u ring.seats old new load saved it.old_is it.new_is it.seats_is load_is saved_is told there.resumed_is
 
 pub manager-joined : (known : Option Folder) (m : Manager) (trap : Trap) (s : State) (old new : List Loaded) (ring : Buffer) (loads changed : ℕ) (later : Manager)
-    → Made m trap s old ring new → loads ≡ load_count old new → IfSome known (λ held. changed ≡ followed_count (loaded_state (bytes_of held m.name) m.entries old new s) trap.call old new)
+    → Made m trap s old ring new → loads ≡ load_count old new → IfSome known (λ held. changed ≡ followed_count m.marked (loaded_state (bytes_of held m.name) m.entries old new s) trap.call old new)
     → later ≡ record (record m { ring = ring }) { tally = with_more m.tally loads changed } → IfSome known (λ held. later ≡ served_manager m (bytes_of held m.name) trap s)
 manager-joined known m trap s old new ring loads changed later it loads_is changed_is later_is =
     let seats : later ≡ record (with_seats m (seats_after m trap s)) { tally = with_more m.tally loads changed } =
@@ -134,7 +134,7 @@ within-joined (Some held) m trap s old new ring it within =
     (subst (λ (old : List Loaded). OnlyWithin (16 * buffer_segment m.ring.room) 0xA0000 s.memory (loaded_state (bytes_of held m.name) m.entries old new s).memory) it.old_is here)
 
 -- how it stops
-pub stop-joined : (m : Manager) (trap : Trap) (s t : State) (old new : List Loaded) (ring : Buffer) (later : Manager) (stop : ServiceStop) → Made m trap s old ring new → IsOk (chain_of s) → t ≡ record s { memory = t.memory }
+pub stop-joined : (m : Manager) (trap : Trap) (s t : State) (old new : List Loaded) (ring : Buffer) (later : Manager) (stop : ServiceStop) → Made m trap s old ring new → IsOk (chain_of m.marked s) → t ≡ record s { memory = t.memory }
     → ((low high : ℕ) → LieWithin low high m.entries old new → OnlyWithin low high s.memory t.memory) → later ≡ record m { ring = ring } → IsLoadStop stop → StopsServing m trap s t later stop
 stop-joined m trap s t old new ring later stop it sound others within later_is either = by stop either
   where

@@ -5,6 +5,7 @@ use Rattle.std.specs.List.{AllByRecursion}
 use Rattle.cpu_8086.specs.Memory.{address, next_offset, load_word}
 use Rattle.cpu_8086.specs.State.{State}
 use Rattle.overlay_ring.specs.declared.seat.Seat.{Seat}
+use Rattle.frame_links.specs.Links.{Link}
 use Rattle.return_repair.specs.declared.table.Loaded.{Loaded}
 use Rattle.return_repair.specs.Chain.{chain_of, links_of, live_places, are_clear}
 use Rattle.return_repair.specs.Pairs.{pair_at, HaveSameStubs}
@@ -88,10 +89,12 @@ pairs-kept P memory other ss places same off_it =
     each-then (λ place. AllByRecursion P (pair_bytes ss place)) (λ place. pair_at memory ss place ≡ pair_at other ss place) places
     (λ place bytes. pair-same memory other ss place (bytes-same P memory other (pair_bytes ss place) same bytes)) off_it
 
-links-kept : (P : ℕ → Type 0) (memory other : List ℕ) (ss : ℕ) (links : List ℕ) → ((at : ℕ) → P at → slice_index memory at ≡ slice_index other at) → EachLinkByte P ss links → AllByRecursion (λ link. load_word memory ss link ≡ load_word other ss link) links
-links-kept P memory other ss links same off_it =
-    each-then (λ link. AllByRecursion P (word_bytes ss link)) (λ link. load_word memory ss link ≡ load_word other ss link) links
-    (λ link bytes. word-same memory other ss link (same (address ss link) bytes.0) (same (address ss (next_offset link)) bytes.1.0)) off_it
+links-kept : (P : ℕ → Type 0) (memory other : List ℕ) (ss : ℕ) (links : List Link) → ((at : ℕ) → P at → slice_index memory at ≡ slice_index other at) → EachLinkByte P ss links → AllByRecursion (λ (link : Link). load_word memory ss link.at ≡ load_word other ss link.at) links
+links-kept P memory other ss [] same off_it = tt
+links-kept P memory other ss (link ∷ links) same off_it = (
+  word-same memory other ss link.at (same (address ss link.at) off_it.0.0) (same (address ss (next_offset link.at)) off_it.0.1.0),
+  links-kept P memory other ss links same off_it.1,
+)
 
 -- words of stubs, where the stubs are off what was written
 pub stub-word-kept : (room : ℕ) (first memory other : List ℕ) (offset : ℕ) (stubs : List ℕ) → offset < 31 → ((at : ℕ) → IsOffBuffer room at → slice_index memory at ≡ slice_index other at) → AllByRecursion (StubOffBuffer room first) stubs
@@ -104,16 +107,16 @@ stub-word-kept room first memory other offset stubs small same off_it =
     word-same memory other stub offset (same (address stub offset) (bytes offset (omega arith))) (same (address stub (next_offset offset)) high)) off_it
 
 -- the memory as live pairs followed, where the chain is sound
-pub followed-is : (s : State) (pending : Bool) (old new : List Loaded) (links : List ℕ) → chain_of s ≡ Ok links → followed s pending old new ≡ repaired_memory s pending old new links
-followed-is s pending old new links is = ap (followed_by s pending old new) is
+pub followed-is : (marked : Bool) (s : State) (pending : Bool) (old new : List Loaded) (links : List Link) → chain_of marked s ≡ Ok links → followed marked s pending old new ≡ repaired_memory s pending old new links
+followed-is marked s pending old new links is = ap (followed_by s pending old new) is
 
-pub followed-count-is : (s : State) (pending : Bool) (old new : List Loaded) (links : List ℕ) → chain_of s ≡ Ok links → followed_count s pending old new ≡ repaired_count s pending old new links
-followed-count-is s pending old new links is = ap (followed_count_by s pending old new) is
+pub followed-count-is : (marked : Bool) (s : State) (pending : Bool) (old new : List Loaded) (links : List Link) → chain_of marked s ≡ Ok links → followed_count marked s pending old new ≡ repaired_count s pending old new links
+followed-count-is marked s pending old new links is = ap (followed_count_by s pending old new) is
 
 -- a service in steps: the memory as it was, loaded, followed, and with its stubs written
 pub record Steps (m : Manager) (s : State) (pending : Bool) (seats : List Seat) (loaded : List ℕ) : Type 0 where
   pub orderly : IsOrderlyFor m s pending
-  pub sound : IsOk (chain_of s)
+  pub sound : IsOk (chain_of m.marked s)
   pub within : OnlyWithin (16 * buffer_segment m.ring.room) 0xA0000 s.memory loaded
 
 abbrev pub loaded_of : State → List ℕ → State
@@ -124,23 +127,23 @@ pub off-buffer : (m : Manager) (s : State) (pending : Bool) (seats : List Seat) 
 off-buffer m s pending seats loaded steps at off_it = steps.within.others at off_it
 
 -- so it leaves the chain
-pub chain-loaded : (m : Manager) (s : State) (pending : Bool) (seats : List Seat) (loaded : List ℕ) → Steps m s pending seats loaded → chain_of (loaded_of s loaded) ≡ Ok (links_of (chain_of s))
+pub chain-loaded : (m : Manager) (s : State) (pending : Bool) (seats : List Seat) (loaded : List ℕ) → Steps m s pending seats loaded → chain_of m.marked (loaded_of s loaded) ≡ Ok (links_of (chain_of m.marked s))
 chain-loaded m s pending seats loaded steps =
-    let links = links_of (chain_of s) in
-    chain-kept loaded s.memory s.registers.ss s.registers.bp links steps.orderly.word (ok_links (chain_of s) steps.sound)
+    let links = links_of (chain_of m.marked s) in
+    chain-kept m.marked loaded s.memory s.registers.ss s.registers.bp links steps.orderly.word (ok_links (chain_of m.marked s) steps.sound)
     (links-kept (IsOffBuffer m.ring.room) loaded s.memory s.registers.ss links (off-buffer m s pending seats loaded steps) steps.orderly.links_off_buffer)
 
-orderly-loaded : (m : Manager) (s : State) (pending : Bool) (seats : List Seat) (loaded : List ℕ) → Steps m s pending seats loaded → IsOrderlyState (loaded_of s loaded) pending (table_by m m.ring.seats)
+orderly-loaded : (m : Manager) (s : State) (pending : Bool) (seats : List Seat) (loaded : List ℕ) → Steps m s pending seats loaded → IsOrderlyState m.marked (loaded_of s loaded) pending (table_by m m.ring.seats)
 orderly-loaded m s pending seats loaded steps =
-    let links = links_of (chain_of s) in
+    let links = links_of (chain_of m.marked s) in
     let table = table_by m m.ring.seats in
-    let same : links ≡ links_of (chain_of (loaded_of s loaded)) = sym (ap links_of (chain-loaded m s pending seats loaded steps)) in
+    let same : links ≡ links_of (chain_of m.marked (loaded_of s loaded)) = sym (ap links_of (chain-loaded m s pending seats loaded steps)) in
     let before = steps.orderly.state.apart in
     let apart : IsOrderly loaded s.registers.ss (live_places s.registers pending links) table =
     record { size = steps.within.size ∙ before.size; places_apart = before.places_apart; stubs_apart = before.stubs_apart } in
     record {
-      clear = subst (λ (links : List ℕ). IsTrue (are_clear s.registers pending links)) same steps.orderly.state.clear;
-      apart = subst (λ (links : List ℕ). IsOrderly loaded s.registers.ss (live_places s.registers pending links) table) same apart;
+      clear = subst (λ (links : List Link). IsTrue (are_clear s.registers pending links)) same steps.orderly.state.clear;
+      apart = subst (λ (links : List Link). IsOrderly loaded s.registers.ss (live_places s.registers pending links) table) same apart;
     }
 
 same-tables : (m : Manager) (seats others : List Seat) → HaveSameStubs (table_by m seats) (table_by m others)
@@ -148,30 +151,30 @@ same-tables m seats others = stubs-table_from m.ring.room seats 0 m.stubs ∙ sy
 
 -- live pairs follow from the memory as it was loaded
 pub follow-loaded : (m : Manager) (s : State) (pending : Bool) (seats : List Seat) (loaded : List ℕ) → Steps m s pending seats loaded
-    → Follow loaded (followed (loaded_of s loaded) pending (table_by m m.ring.seats) (table_by m seats)) s.registers.ss (places_of s pending) (table_by m m.ring.seats) (table_by m seats) (followed_count (loaded_of s loaded) pending (table_by m m.ring.seats) (table_by m seats))
+    → Follow loaded (followed m.marked (loaded_of s loaded) pending (table_by m m.ring.seats) (table_by m seats)) s.registers.ss (places_of m.marked s pending) (table_by m m.ring.seats) (table_by m seats) (followed_count m.marked (loaded_of s loaded) pending (table_by m m.ring.seats) (table_by m seats))
 follow-loaded m s pending seats loaded steps =
     let old = table_by m m.ring.seats in
     let new = table_by m seats in
     let t : State = loaded_of s loaded in
-    let links = links_of (chain_of s) in
+    let links = links_of (chain_of m.marked s) in
     let chain_is = chain-loaded m s pending seats loaded steps in
-    let same : links_of (chain_of t) ≡ links = ap links_of chain_is in
-    let memory : followed t pending old new ≡ repaired_memory t pending old new (links_of (chain_of t)) = followed-is t pending old new links chain_is ∙ ap (repaired_memory t pending old new) (sym same) in
-    let count : followed_count t pending old new ≡ repaired_count t pending old new (links_of (chain_of t)) = followed-count-is t pending old new links chain_is ∙ ap (repaired_count t pending old new) (sym same) in
-    subst (λ (links : List ℕ). Follow loaded (followed t pending old new) s.registers.ss (live_places s.registers pending links) old new (followed_count t pending old new)) same
-    (follow_state t (followed t pending old new) pending old new (followed_count t pending old new) (same-tables m m.ring.seats seats) memory count (orderly-loaded m s pending seats loaded steps))
+    let same : links_of (chain_of m.marked t) ≡ links = ap links_of chain_is in
+    let memory : followed m.marked t pending old new ≡ repaired_memory t pending old new (links_of (chain_of m.marked t)) = followed-is m.marked t pending old new links chain_is ∙ ap (repaired_memory t pending old new) (sym same) in
+    let count : followed_count m.marked t pending old new ≡ repaired_count t pending old new (links_of (chain_of m.marked t)) = followed-count-is m.marked t pending old new links chain_is ∙ ap (repaired_count t pending old new) (sym same) in
+    subst (λ (links : List Link). Follow loaded (followed m.marked t pending old new) s.registers.ss (live_places s.registers pending links) old new (followed_count m.marked t pending old new)) same
+    (follow_state m.marked t (followed m.marked t pending old new) pending old new (followed_count m.marked t pending old new) (same-tables m m.ring.seats seats) memory count (orderly-loaded m s pending seats loaded steps))
 
 -- and nothing else differs then
 pub only-pairs : (m : Manager) (s : State) (pending : Bool) (seats : List Seat) (loaded : List ℕ) → Steps m s pending seats loaded
-    → OnlyPairsDiffer loaded (followed (loaded_of s loaded) pending (table_by m m.ring.seats) (table_by m seats)) s.registers.ss (places_of s pending) (table_by m seats)
+    → OnlyPairsDiffer loaded (followed m.marked (loaded_of s loaded) pending (table_by m m.ring.seats) (table_by m seats)) s.registers.ss (places_of m.marked s pending) (table_by m seats)
 only-pairs m s pending seats loaded steps =
     let old = table_by m m.ring.seats in
     let new = table_by m seats in
     let t : State = loaded_of s loaded in
-    let links = links_of (chain_of s) in
+    let links = links_of (chain_of m.marked s) in
     let chain_is = chain-loaded m s pending seats loaded steps in
-    let same : links_of (chain_of t) ≡ links = ap links_of chain_is in
-    let memory : repaired_memory t pending old new (links_of (chain_of t)) ≡ followed t pending old new = ap (repaired_memory t pending old new) same ∙ sym (followed-is t pending old new links chain_is) in
-    let there = safe t pending old new in
-    let moved = subst (λ (after : List ℕ). OnlyPairsDiffer loaded after s.registers.ss (live_places s.registers pending (links_of (chain_of t))) new) memory there in
-    subst (λ (links : List ℕ). OnlyPairsDiffer loaded (followed t pending old new) s.registers.ss (live_places s.registers pending links) new) same moved
+    let same : links_of (chain_of m.marked t) ≡ links = ap links_of chain_is in
+    let memory : repaired_memory t pending old new (links_of (chain_of m.marked t)) ≡ followed m.marked t pending old new = ap (repaired_memory t pending old new) same ∙ sym (followed-is m.marked t pending old new links chain_is) in
+    let there = safe m.marked t pending old new in
+    let moved = subst (λ (after : List ℕ). OnlyPairsDiffer loaded after s.registers.ss (live_places s.registers pending (links_of (chain_of m.marked t))) new) memory there in
+    subst (λ (links : List Link). OnlyPairsDiffer loaded (followed m.marked t pending old new) s.registers.ss (live_places s.registers pending links) new) same moved

@@ -52,9 +52,9 @@ stubs-written m s pending seats loaded steps = λ v there is.
     let apart = subst (λ (stubs : List ℕ). StubsApart s.memory stubs) (sym (stubs-of_table m.ring.room seats 0 m.stubs)) steps.orderly.stubs_apart in
     let off_saved = each-two (OffSaved s.memory) s.memory m.stubs (off-own s.memory) (off-one s.memory) (off-two s.memory) steps.orderly.stubs_fit steps.orderly.stubs_apart in
     let saved_here = all-at (λ stub. AllByRecursion (OffSaved s.memory stub) m.stubs) new v in_new (tabled (λ stub. AllByRecursion (OffSaved s.memory stub) m.stubs) m seats off_saved) in
-    let off_pairs = pairs-off-each s.memory s.registers.ss (places_of s pending) m.stubs steps.orderly.pairs_off_stubs in
-    let pairs_here = all-at (λ stub. (k : ℕ) → k < stub_size s.memory stub → IsOffPairs s.registers.ss (places_of s pending) (address stub k)) new v in_new
-    (tabled (λ stub. (k : ℕ) → k < stub_size s.memory stub → IsOffPairs s.registers.ss (places_of s pending) (address stub k)) m seats off_pairs) in
+    let off_pairs = pairs-off-each s.memory s.registers.ss (places_of m.marked s pending) m.stubs steps.orderly.pairs_off_stubs in
+    let pairs_here = all-at (λ stub. (k : ℕ) → k < stub_size s.memory stub → IsOffPairs s.registers.ss (places_of m.marked s pending) (address stub k)) new v in_new
+    (tabled (λ stub. (k : ℕ) → k < stub_size s.memory stub → IsOffPairs s.registers.ss (places_of m.marked s pending) (address stub k)) m seats off_pairs) in
     let buffer_here = all-at (StubOffBuffer m.ring.room s.memory) new v in_new (tabled (StubOffBuffer m.ring.room s.memory) m seats steps.orderly.stubs_off_buffer) in
     let differ = only-pairs m s pending seats loaded steps in
     let agree : Agree stub (stub_size s.memory stub) followed_it s.memory =
@@ -72,7 +72,7 @@ stubs-written m s pending seats loaded steps = λ v there is.
     (reads-from followed_it s.memory (written_of m s pending seats loaded) stub (overlay_at old v).load (overlay_at new v).load (next_stub m.stubs seats (0 + v)) fits_here agree read)
 
 -- After a service the stubs read as the new table says.
-pub stubs-told : (known : Option Folder) (name : List ℕ) (m : Manager) (trap : Trap) (s u : State) → IsOk (chain_of s)
+pub stubs-told : (known : Option Folder) (name : List ℕ) (m : Manager) (trap : Trap) (s u : State) → IsOk (chain_of m.marked s)
     → IfSome known (λ held. u ≡ served m (bytes_of held name) trap s)
     → IfSome known (λ held. OnlyWithin (16 * buffer_segment m.ring.room) 0xA0000 s.memory (loaded_state (bytes_of held name) m.entries (table_before m) (table_after m trap s) s).memory)
     → IfSome known (λ held. IsOrderlyFor m s trap.call → StubsRead m s.memory u.memory (seats_after m trap s))

@@ -27,7 +27,7 @@ pairs-off-each memory ss places (stub ∷ stubs) off_it = (
 )
 
 abbrev pub followed_of : Manager → State → Bool → List Seat → List ℕ → List ℕ
-followed_of m s pending seats loaded = followed (loaded_of s loaded) pending (table_by m m.ring.seats) (table_by m seats)
+followed_of m s pending seats loaded = followed m.marked (loaded_of s loaded) pending (table_by m m.ring.seats) (table_by m seats)
 
 abbrev pub written_of : Manager → State → Bool → List Seat → List ℕ → List ℕ
 written_of m s pending seats loaded = with_stubs m.stubs seats 0 (table_by m m.ring.seats) (table_by m seats) (followed_of m s pending seats loaded)
@@ -40,7 +40,7 @@ tabled P m seats all = subst (λ stubs. AllByRecursion P stubs) (sym (stubs-of_t
 pub entries-followed : (m : Manager) (s : State) (pending : Bool) (seats : List Seat) (loaded : List ℕ) → Steps m s pending seats loaded → AllByRecursion (SameEntries (followed_of m s pending seats loaded) s.memory) m.stubs
 entries-followed m s pending seats loaded steps =
     let ss = s.registers.ss in
-    let places = places_of s pending in
+    let places = places_of m.marked s pending in
     let final : List ℕ = followed_of m s pending seats loaded in
     let differ = only-pairs m s pending seats loaded steps in
     let counts = each-two CountOffSaved s.memory m.stubs (count-own s.memory) (count-one s.memory) (count-two s.memory) steps.orderly.stubs_fit steps.orderly.stubs_apart in
@@ -73,10 +73,10 @@ off-stubs-written memory stubs at off_it = each-then (λ stub. IsOffStub memory 
 
 -- In an orderly state live pairs follow from the old table to the new one.
 pub follow-written : (m : Manager) (s : State) (pending : Bool) (seats : List Seat) (loaded : List ℕ) → Steps m s pending seats loaded
-    → Follow s.memory (written_of m s pending seats loaded) s.registers.ss (places_of s pending) (table_by m m.ring.seats) (table_by m seats) (followed_count (loaded_of s loaded) pending (table_by m m.ring.seats) (table_by m seats))
+    → Follow s.memory (written_of m s pending seats loaded) s.registers.ss (places_of m.marked s pending) (table_by m m.ring.seats) (table_by m seats) (followed_count m.marked (loaded_of s loaded) pending (table_by m m.ring.seats) (table_by m seats))
 follow-written m s pending seats loaded steps =
     let ss = s.registers.ss in
-    let places = places_of s pending in
+    let places = places_of m.marked s pending in
     let old = table_by m m.ring.seats in
     let new = table_by m seats in
     let between : List ℕ = followed_of m s pending seats loaded in
@@ -89,12 +89,12 @@ follow-written m s pending seats loaded steps =
     (λ stub off_it. word-same final between stub 2
     (written-elsewhere m s pending seats loaded steps (address stub 2) (each-then (SavedOffWritten s.memory stub) (λ other. IsOffWritten s.memory other (address stub 2)) m.stubs (λ other it. it.0) off_it))
     (written-elsewhere m s pending seats loaded steps (address stub 3) (each-then (SavedOffWritten s.memory stub) (λ other. IsOffWritten s.memory other (address stub 3)) m.stubs (λ other it. it.1) off_it))) saves in
-    follow-carried s.memory loaded between final ss places old new (followed_count (loaded_of s loaded) pending old new)
+    follow-carried s.memory loaded between final ss places old new (followed_count m.marked (loaded_of s loaded) pending old new)
     pairs_loaded (tabled (λ stub. saved_at s.memory stub ≡ saved_at loaded stub) m m.ring.seats saved_loaded) (tabled (λ stub. saved_at s.memory stub ≡ saved_at loaded stub) m seats saved_loaded)
     (follow-loaded m s pending seats loaded steps) pairs_written (tabled (λ stub. saved_at final stub ≡ saved_at between stub) m seats saved_written)
 
 -- And bytes off the live pairs and the stubs are as they were once overlays were loaded.
-pub followed-off : (m : Manager) (s : State) (pending : Bool) (seats : List Seat) (loaded : List ℕ) → Steps m s pending seats loaded → (at : ℕ) → IsOffPairs s.registers.ss (places_of s pending) at → IsOffStubs s.memory m.stubs at
+pub followed-off : (m : Manager) (s : State) (pending : Bool) (seats : List Seat) (loaded : List ℕ) → Steps m s pending seats loaded → (at : ℕ) → IsOffPairs s.registers.ss (places_of m.marked s pending) at → IsOffStubs s.memory m.stubs at
     → slice_index (written_of m s pending seats loaded) at ≡ slice_index loaded at
 followed-off m s pending seats loaded steps at off_pairs off_stubs =
     let saved = each-then (λ stub. IsOffStub s.memory stub at) (λ stub. IsElsewhere at (word_bytes stub 2)) m.stubs (λ stub is_off. (is_off 2 (omega arith), (is_off 3 (omega arith), tt))) off_stubs in

@@ -11,7 +11,7 @@ use Rattle.overlay_manager.specs.Serves.{table_before}
 -- says: its entries trap, and none is loaded next. Registers and flags are as they were, and so is each byte off the live
 -- pairs and the stubs.
 pub record Clears (m : Manager) (s after : State) : Type 0 where
-  pub pairs : Follow s.memory after.memory s.registers.ss (places_of s true) (table_before m) (table_by m []) (sent_count m s)
+  pub pairs : Follow s.memory after.memory s.registers.ss (places_of m.marked s true) (table_before m) (table_by m []) (sent_count m s)
   pub stubs : StubsRead m s.memory after.memory []
   pub machine : after ≡ record s { memory = after.memory }
-  pub others : (at : ℕ) → IsOffPairs s.registers.ss (places_of s true) at → IsOffStubs s.memory m.stubs at → slice_index after.memory at ≡ slice_index s.memory at
+  pub others : (at : ℕ) → IsOffPairs s.registers.ss (places_of m.marked s true) at → IsOffStubs s.memory m.stubs at → slice_index after.memory at ≡ slice_index s.memory at

@@ -1,5 +1,5 @@
 -- What the manager knows of a program's overlays, and the tables that its ring makes.
-use Rattle.std.specs.Prelude.{ℕ, ◌+◌, ◌-◌, ◌/◌, ◌%◌, ◌^◌, ◌==◌, min, if◌then◌else◌, true, List, [], ◌∷◌, length, slice_index}
+use Rattle.std.specs.Prelude.{ℕ, ◌+◌, ◌-◌, ◌/◌, ◌%◌, ◌^◌, ◌==◌, min, if◌then◌else◌, Bool, true, List, [], ◌∷◌, length, slice_index}
 use Rattle.std.specs.Option.{option_map_or}
 use Rattle.cpu_8086.specs.State.{State}
 use Rattle.cpu_8086.specs.declared.registers.Far.{Far}
@@ -14,14 +14,15 @@ use Rattle.mz_file.specs.Load.{loaded_segment}
 use Rattle.overlay_manager.specs.Stubbing.{with_stub}
 use Rattle.overlay_manager.specs.declared.tally.Tally.{Tally}
 
--- The overlays by number: where the file has them, and their stubs; the places that the manager looks at; the buffer's
--- ring; how many paragraphs a reprieve may keep; and what was done so far.
+-- The overlays by number: where the file has them, and their stubs; the places that the manager looks at; whether
+-- frames are marked; the buffer's ring; how many paragraphs a reprieve may keep; and what was done so far.
 pub record Manager : Type 0 where
   pub name : List ℕ
   pub entries : List OvrEntry
   pub stubs : List ℕ
   pub error_routine : Far
   pub installed : Far
+  pub marked : Bool
   pub ring : Buffer
   pub retry : ℕ
   pub tally : Tally
@@ -78,11 +79,11 @@ table_by m seats = table_from m.ring.room seats 0 m.stubs
 abbrev pub sent_out : Manager → State → List ℕ
 sent_out m s =
     with_stubs m.stubs [] 0 (table_by m m.ring.seats) (table_by m [])
-    (repaired_memory s true (table_by m m.ring.seats) (table_by m []) (links_of (chain_of s)))
+    (repaired_memory s true (table_by m m.ring.seats) (table_by m []) (links_of (chain_of m.marked s)))
 
 -- how many live returns change as all go out
 abbrev pub sent_count : Manager → State → ℕ
-sent_count m s = repaired_count s true (table_by m m.ring.seats) (table_by m []) (links_of (chain_of s))
+sent_count m s = repaired_count s true (table_by m m.ring.seats) (table_by m []) (links_of (chain_of m.marked s))
 
 -- a tally with so many loads and changed returns more; at the greatest u64 it stays
 abbrev pub with_more : Tally → ℕ → ℕ → Tally

@@ -4,6 +4,7 @@ use Rattle.std.specs.List.{AllByRecursion}
 use Rattle.cpu_8086.specs.Memory.{address, load_word}
 use Rattle.cpu_8086.specs.State.{State}
 use Rattle.overlay_file.specs.Stubs.{entry_offset}
+use Rattle.frame_links.specs.Links.{Link}
 use Rattle.return_repair.specs.Chain.{chain_of, links_of, live_places}
 use Rattle.return_repair.specs.Follows.{IsOrderlyState, IsElsewhere, word_bytes, pair_bytes}
 use Rattle.overlay_manager.specs.Manager.{Manager, buffer_segment, table_by}
@@ -31,9 +32,9 @@ abbrev pub StubsApart : List ℕ → List ℕ → Type 0
 StubsApart memory [] = Unit {0}
 StubsApart memory (stub ∷ stubs) = AllByRecursion (AreApartStubs memory stub) stubs × StubsApart memory stubs
 
--- the live pairs of a state, and its links
-abbrev pub places_of : State → Bool → List ℕ
-places_of s pending = live_places s.registers pending (links_of (chain_of s))
+-- the live pairs of a state, by whether frames are marked
+abbrev pub places_of : Bool → State → Bool → List ℕ
+places_of marked s pending = live_places s.registers pending (links_of (chain_of marked s))
 
 -- each stub lies within its segment
 abbrev pub FitsSegment : List ℕ → ℕ → Type 0
@@ -47,8 +48,8 @@ IsOffStubs memory stubs at = AllByRecursion (λ stub. IsOffStub memory stub at) 
 abbrev pub EachPairByte : (ℕ → Type 0) → ℕ → List ℕ → Type 0
 EachPairByte P ss places = AllByRecursion (λ place. AllByRecursion P (pair_bytes ss place)) places
 
-abbrev pub EachLinkByte : (ℕ → Type 0) → ℕ → List ℕ → Type 0
-EachLinkByte P ss links = AllByRecursion (λ link. AllByRecursion P (word_bytes ss link)) links
+abbrev pub EachLinkByte : (ℕ → Type 0) → ℕ → List Link → Type 0
+EachLinkByte P ss links = AllByRecursion (λ (link : Link). AllByRecursion P (word_bytes ss link.at)) links
 
 -- no byte of a stub is in the buffer
 abbrev pub StubOffBuffer : ℕ → List ℕ → ℕ → Type 0
@@ -56,11 +57,11 @@ StubOffBuffer room memory stub = (k : ℕ) → k < stub_size memory stub → IsO
 
 -- Live pairs, links, stubs and the buffer share no byte. BP is a word.
 pub record IsOrderlyFor (m : Manager) (s : State) (pending : Bool) : Type 0 where
-  pub state : IsOrderlyState s pending (table_by m m.ring.seats)
+  pub state : IsOrderlyState m.marked s pending (table_by m m.ring.seats)
   pub stubs_fit : AllByRecursion (FitsSegment s.memory) m.stubs
   pub stubs_apart : StubsApart s.memory m.stubs
-  pub pairs_off_stubs : EachPairByte (IsOffStubs s.memory m.stubs) s.registers.ss (places_of s pending)
+  pub pairs_off_stubs : EachPairByte (IsOffStubs s.memory m.stubs) s.registers.ss (places_of m.marked s pending)
   pub stubs_off_buffer : AllByRecursion (StubOffBuffer m.ring.room s.memory) m.stubs
-  pub pairs_off_buffer : EachPairByte (IsOffBuffer m.ring.room) s.registers.ss (places_of s pending)
-  pub links_off_buffer : EachLinkByte (IsOffBuffer m.ring.room) s.registers.ss (links_of (chain_of s))
+  pub pairs_off_buffer : EachPairByte (IsOffBuffer m.ring.room) s.registers.ss (places_of m.marked s pending)
+  pub links_off_buffer : EachLinkByte (IsOffBuffer m.ring.room) s.registers.ss (links_of (chain_of m.marked s))
   pub word : s.registers.bp < 65536

@@ -23,15 +23,15 @@ table_after m trap s = table_by m (seats_after m trap s)
 -- how many live returns change
 abbrev pub changed_count : Manager → List ℕ → Trap → State → ℕ
 changed_count m bytes trap s =
-    followed_count (loaded_state bytes m.entries (table_before m) (table_after m trap s) s) trap.call (table_before m) (table_after m trap s)
+    followed_count m.marked (loaded_state bytes m.entries (table_before m) (table_after m trap s) s) trap.call (table_before m) (table_after m trap s)
 
 -- Live pairs follow from the one table to the other, a call's pending pair too. Control goes on at the entry or at the
 -- saved offset, and registers and flags are as they were. Off the code that was loaded, the live pairs and the stubs no byte
 -- differs.
 pub record Serves (m : Manager) (bytes : List ℕ) (trap : Trap) (s after : State) : Type 0 where
-  pub pairs : Follow s.memory after.memory s.registers.ss (places_of s trap.call) (table_before m) (table_after m trap s) (changed_count m bytes trap s)
+  pub pairs : Follow s.memory after.memory s.registers.ss (places_of m.marked s trap.call) (table_before m) (table_after m trap s) (changed_count m bytes trap s)
   pub control : after ≡ resumed (load_segment m.ring.room (seats_after m trap s) trap.overlay) (saved_at s.memory s.cs) trap (record s { memory = after.memory })
-  pub others : (at : ℕ) → IsOffLoads m.entries (table_before m) (table_after m trap s) at → IsOffPairs s.registers.ss (places_of s trap.call) at → IsOffStubs s.memory m.stubs at
+  pub others : (at : ℕ) → IsOffLoads m.entries (table_before m) (table_after m trap s) at → IsOffPairs s.registers.ss (places_of m.marked s trap.call) at → IsOffStubs s.memory m.stubs at
       → slice_index after.memory at ≡ slice_index s.memory at
 
 -- by a table the code of each overlay that is loaded stands at its place, fixups made

@@ -49,7 +49,7 @@ LieWithin low high entries old new =
 
 -- What a service leaves that stopped as it loaded: only the bytes of the buffer differ, and the seats.
 pub record IsCutShort (m : Manager) (trap : Trap) (s after : State) (later : Manager) : Type 0 where
-  pub sound : IsOk (chain_of s)
+  pub sound : IsOk (chain_of m.marked s)
   pub machine : after ≡ record s { memory = after.memory }
   pub buffer : OnlyWithin (16 * buffer_segment m.ring.room) 0xA0000 s.memory after.memory
   pub seats : later ≡ with_seats m (seats_after m trap s)
@@ -60,7 +60,7 @@ IsUntouched m s after later = (after ≡ s) × (later ≡ m)
 -- The service of a trap stops with this cause, and leaves this.
 abbrev pub StopsServing : Manager → Trap → State → State → Manager → ServiceStop → Type 0
 StopsServing m trap s after later (stops.NoStub cs ip) = ⊥
-StopsServing m trap s after later (stops.BadChain bp) = (chain_of s ≡ Err bp) × IsUntouched m s after later
+StopsServing m trap s after later (stops.BadChain bp) = (chain_of m.marked s ≡ Err bp) × IsUntouched m s after later
 StopsServing m trap s after later (stops.ShortOverlay v) = IsCutShort m trap s after later
 StopsServing m trap s after later stops.FilesFault = IsCutShort m trap s after later
 

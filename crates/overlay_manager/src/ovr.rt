@@ -58,6 +58,7 @@ impl Model for Ovr {
       stubs = a.program.stubs.items;
       error_routine = a.error_routine;
       installed = a.installed;
+      marked = a.program.marked;
       ring = a.ring;
       retry = a.retry;
       tally = a.tally;
@@ -101,6 +102,7 @@ impl Ovr {
           stubs = map loaded_segment block.now.stubs;
           error_routine = loaded_far block.now.error_routine;
           installed = loaded_far block.now.installed;
+          marked = block.now.marked;
           ring = record { sizes = map paragraphs_of index.now; room = room; seats = [] };
           retry = 0;
           tally = record { loads = 0; patched = 0 };
@@ -111,6 +113,7 @@ impl Ovr {
             name,
             entries: copied(alloc, index.as_slice())?,
             stubs: loaded_stubs(alloc, block.stubs.as_slice())?,
+            marked: block.marked,
         };
         Ok(Ovr {
             program,
@@ -146,14 +149,15 @@ impl Ovr {
     fn send_out(&mut self, machine: &mut Machine) -> Result<(), BadChain>
         ensures machine { OnOk result (machine.new ≡ record machine.old { memory = sent_out self.old machine.old }) }
         ensures ring { OnOk result (self.new ≡ emptied self.old machine.old) }
-        ensures sound { OnOk result (IsOk (chain_of machine.old)) }
-        ensures bad_chain { IfErr result (λ bad. chain_of machine.old ≡ Err bad.bp) }
+        ensures sound { OnOk result (IsOk (chain_of self.old.marked machine.old)) }
+        ensures bad_chain { IfErr result (λ bad. chain_of self.old.marked machine.old ≡ Err bad.bp) }
         ensures unchanged { OnErr result ((machine.new ≡ machine.old) × (self.new ≡ self.old)) }
     {
         let stubs = self.program.stubs.as_slice();
         set_table(self.room, self.ring.list(), stubs, &mut self.tables.old);
         set_table(self.room, &[], stubs, &mut self.tables.new);
-        let changed = repair(machine, true, &self.tables.old, &self.tables.new)?;
+        let marked = self.program.marked;
+        let changed = repair(machine, true, marked, &self.tables.old, &self.tables.new)?;
         set_stubs(machine, &[], stubs, &self.tables.old, &self.tables.new);
         self.ring.clear();
         self.tally.add(0, changed);
@@ -181,7 +185,7 @@ impl Ovr {
             → CodeStands (bytes_of held self.old.name) self.old.entries (table_after self.old trap machine.old) machine.new.memory)) }
         ensures stubs { IfSome (F.folder files.old) (λ held. OnOk result (IsOrderlyFor self.old machine.old trap.call
             → StubsRead self.old machine.old.memory machine.new.memory (seats_after self.old trap machine.old))) }
-        ensures sound { OnOk result (IsOk (chain_of machine.old)) }
+        ensures sound { OnOk result (IsOk (chain_of self.old.marked machine.old)) }
         ensures stop { IfErr result (StopsServing self.old trap machine.old machine.new self.new) }
         ensures short { IfSome (F.folder files.old) (λ held. IfErr result
             (StopsShort self.old (bytes_of held self.old.name) trap machine.old)) }
@@ -192,7 +196,13 @@ impl Ovr {
         let saved = machine.load_word(machine.reg(Reg::Cs), 2);
         let stubs = self.program.stubs.as_slice();
         set_table(self.room, self.ring.list(), stubs, &mut self.tables.old);
-        live(machine, trap.call, &self.tables.old, &mut self.tables.live)?;
+        live(
+            machine,
+            trap.call,
+            self.program.marked,
+            &self.tables.old,
+            &mut self.tables.live,
+        )?;
         self.ring
             .wanted_retry(trap.overlay, &self.tables.live, self.retry);
         set_table(self.room, self.ring.list(), stubs, &mut self.tables.new);
@@ -254,7 +264,7 @@ pub fn service<F: Files>(
 
     // Where the cause is there, it isn't Ok.
     ensures stands { OnOk result (MatchOption (trap_of ovr.old.stubs machine.old) ⊥
-        (λ trap. is_refused ovr.old.installed machine.old trap ≡ false → IsOk (chain_of machine.old))) }
+        (λ trap. is_refused ovr.old.installed machine.old trap ≡ false → IsOk (chain_of ovr.old.marked machine.old))) }
     ensures whole { IfSome (F.folder files.old) (λ held. OnOk result (IfSome (trap_of ovr.old.stubs machine.old)
         (λ trap. is_refused ovr.old.installed machine.old trap ≡ false → FileHas ovr.old (bytes_of held ovr.old.name) trap machine.old))) }
     ensures unchanged { F.folder files.new ≡ F.folder files.old }
@@ -284,8 +294,8 @@ pub fn clear_buffer(machine: &mut Machine, ovr: &mut Ovr) -> Result<(), BadChain
         → Clears ovr.old machine.old machine.new) }
 
     // The chain of links is bad where that is said, and nothing is changed then.
-    ensures bad_chain { IfErr result (λ bad. (chain_of machine.old ≡ Err bad.bp) × (0 < length ovr.old.stubs)) }
-    ensures sound { OnOk result (0 < length ovr.old.stubs → IsOk (chain_of machine.old)) }
+    ensures bad_chain { IfErr result (λ bad. (chain_of ovr.old.marked machine.old ≡ Err bad.bp) × (0 < length ovr.old.stubs)) }
+    ensures sound { OnOk result (0 < length ovr.old.stubs → IsOk (chain_of ovr.old.marked machine.old)) }
     ensures unchanged { OnErr result ((machine.new ≡ machine.old) × (ovr.new ≡ ovr.old)) }
 {
     if ovr.program.stubs.is_empty() {

@@ -8,12 +8,13 @@ use overlay_file::{OvrEntry, OvrIndex};
 use std::alloc::{AllocError, Global};
 use type_layout::FileName;
 
-/// The overlay file with its index, and the segments of the stubs, one for each overlay.
+/// The overlay file with its index, the segments of the stubs, one for each overlay, and whether frames are marked.
 #[derive(Drop)]
 pub struct Program {
     pub name: FileName,
     pub entries: OvrIndex,
     pub stubs: Vec<u16>,
+    pub marked: bool,
 }
 
 /// The size of an overlay in paragraphs.

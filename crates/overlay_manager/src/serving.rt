@@ -26,7 +26,7 @@ use tp_outside::Files;
 pub enum ServiceStop {
     /// The trap stands at no entry of a stub.
     NoStub { cs: u16, ip: u16 },
-    /// The word at SS:`bp` is not 0, and doesn't lie above its own place.
+    /// The place that the word at SS:`bp` gives is not 0, and doesn't lie above its own.
     BadChain { bp: u16 },
     /// The overlay file ends before this overlay's code and fixups do.
     ShortOverlay { overlay: u16 },
@@ -149,12 +149,12 @@ pub fn load_count(old: &[Loaded], new: &[Loaded]) -> u32
 
 /// Makes live returns follow from one table to another, and gives how many changed. Where loading wrote over the chain of
 /// links, none do.
-fn follow(machine: &mut Machine, pending: bool, old: &[Loaded], new: &[Loaded]) -> u32
+fn follow(machine: &mut Machine, pending: bool, marked: bool, old: &[Loaded], new: &[Loaded]) -> u32
     requires { HaveSameStubs old.now new.now }
-    ensures memory { machine.new ≡ record machine.old { memory = followed machine.old pending old.now new.now } }
-    ensures count { result ≡ followed_count machine.old pending old.now new.now }
+    ensures memory { machine.new ≡ record machine.old { memory = followed marked machine.old pending old.now new.now } }
+    ensures count { result ≡ followed_count marked machine.old pending old.now new.now }
 {
-    match repair(machine, pending, old, new) {
+    match repair(machine, pending, marked, old, new) {
         Ok(changed) => changed,
         Err(_) => 0,
     }
@@ -179,11 +179,11 @@ pub fn bring<F: Files>(
     ensures told { IfSome (F.folder files.old) (λ held. OnOk result (machine.new ≡ record machine.old {
       memory =
           with_stubs program.now.stubs.items seats.now 0 tables.now.old.items tables.now.new.items
-          (followed (loaded_state (bytes_of held program.now.name) program.now.entries tables.now.old.items tables.now.new.items machine.old)
+          (followed program.now.marked (loaded_state (bytes_of held program.now.name) program.now.entries tables.now.old.items tables.now.new.items machine.old)
           pending tables.now.old.items tables.now.new.items);
     })) }
     ensures changed { IfSome (F.folder files.old) (λ held. IfOk result (λ changed. changed
-        ≡ followed_count (loaded_state (bytes_of held program.now.name) program.now.entries tables.now.old.items tables.now.new.items machine.old)
+        ≡ followed_count program.now.marked (loaded_state (bytes_of held program.now.name) program.now.entries tables.now.old.items tables.now.new.items machine.old)
         pending tables.now.old.items tables.now.new.items)) }
     ensures whole { IfSome (F.folder files.old) (λ held. OnOk result
         (AreWhole (bytes_of held program.now.name) program.now.entries tables.now.old.items tables.now.new.items)) }
@@ -209,7 +209,7 @@ pub fn bring<F: Files>(
         tables,
         block,
     )?;
-    let changed = follow(machine, pending, &tables.old, &tables.new);
+    let changed = follow(machine, pending, program.marked, &tables.old, &tables.new);
     set_stubs(machine, seats, &program.stubs, &tables.old, &tables.new);
     Ok(changed)
 }

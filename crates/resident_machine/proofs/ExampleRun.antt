@@ -11,20 +11,22 @@ use Rattle.x86_table.specs.declared.operand.WordOperand.TheVariants as word_rm
 use Rattle.x86_table.specs.declared.operand.WordReg.TheVariants as word
 use Rattle.x86_table.specs.Spelling.{word_bytes, word_modrm, pair_form, pair_body, pair_override, spelling}
 use Rattle.cpu_8086.specs.Access.{word_then}
+use Rattle.cpu_8086.specs.Arithmetic.{sum_of, difference_of}
 use Rattle.cpu_8086.specs.Effect.{act}
 use Rattle.cpu_8086.specs.Memory.{address, next_offset}
+use Rattle.frame_links.specs.Links.{Link, link_word, room_of, room_before}
 use Rattle.resident_machine.specs.Program.{Segment, Image, Overlay, Program, code_of}
 use Rattle.resident_machine.specs.Cells.{Cells, is_free, known_word, below, with_lost}
 use Rattle.resident_machine.specs.Effect.{Outcome, effect_of}
 use Rattle.resident_machine.specs.Example.{example, example_start}
-use Rattle.resident_machine.specs.Framed.{room_end, AreLinks, live_places, places_of, MissesWord, IsSpare, IsFramed, FramedAfter}
+use Rattle.resident_machine.specs.Framed.{AreLinks, live_places, places_of, MissesWord, IsSpare, IsFramed, FramedAfter}
 use Rattle.resident_machine.specs.Run.{StandsAt, Goes, RunsFramed}
 use Rattle.resident_machine.specs.State.{Record, ResidentStatus, Running, Ended, Stopped, ResidentState, Service, NoService, AtCall, AtReturn, AtClear}
 
 -- an instruction to try, and the links that BP leads to where a service may follow
 record Move : Type 0 where
   instruction : Instr
-  links : List ℕ
+  links : List Link
 
 -- ## The instruction stands there
 
@@ -69,10 +71,21 @@ abbrev if_some : Option ℕ → (ℕ → Bool) → Bool
 if_some None f = false
 if_some (Some n) f = f n
 
-abbrev are_links : Cells → ℕ → ℕ → List ℕ → Bool
-are_links cells ss link [] = link == 0
-are_links cells ss link (here ∷ links) =
-    (link == here) && (nat_lt 0 here && (nat_le (here + 6) (room_end links) && if_some (known_word cells ss here) (λ next. are_links cells ss next links)))
+abbrev is_same : Bool → Bool → Bool
+is_same true b = b
+is_same false b = not b
+
+is_same_is : (a b : Bool) → is_same a b ≡ true → a ≡ b
+is_same_is true true e = refl
+is_same_is true false e = absurd (cc)
+is_same_is false true e = absurd (cc)
+is_same_is false false e = refl
+
+abbrev are_links : Bool → Cells → ℕ → ℕ → List Link → Bool
+are_links marked cells ss at [] = at == 0
+are_links marked cells ss at (link ∷ links) =
+    (at == link.at) && (nat_lt 0 link.at && (nat_le (link.at + room_of link.far) (room_before links)
+    && if_some (known_word cells ss link.at) (λ word. is_same link.far (link_word marked word).far && are_links marked cells ss (link_word marked word).next links)))
 
 some_next : (o : Option ℕ) (f : ℕ → Bool) → if_some o f ≡ true → (n : ℕ) × (o ≡ Some n) × (f n ≡ true)
 some_next None f e = absurd (cc)
@@ -84,14 +97,24 @@ lt_is m n e = ltb-true m n e
 le_is : (m n : ℕ) → nat_le m n ≡ true → m ≤ n
 le_is m n e = leb-true m n e
 
-links_are : (cells : Cells) (ss link : ℕ) (links : List ℕ) → are_links cells ss link links ≡ true → AreLinks cells ss link links
-links_are cells ss link [] e = eqb-true link 0 e
-links_are cells ss link (here ∷ links) e =
-    let one = both_true (link == here) _ e in
-    let two = both_true (nat_lt 0 here) _ one.1 in
-    let three = both_true (nat_le (here + 6) (room_end links)) _ two.1 in
-    let next = some_next (known_word cells ss here) (λ next. are_links cells ss next links) three.1 in
-    (eqb-true link here one.0, next.0, record { positive = lt_is 0 here two.0; known = next.1; room = le_is (here + 6) (room_end links) three.0 }, links_are cells ss next.0 links next.2)
+links_are : (marked : Bool) (cells : Cells) (ss at : ℕ) (links : List Link) → are_links marked cells ss at links ≡ true → AreLinks marked cells ss at links
+links_are marked cells ss at [] e = eqb-true at 0 e
+links_are marked cells ss at (link ∷ links) e =
+    let one = both_true (at == link.at) _ e in
+    let two = both_true (nat_lt 0 link.at) _ one.1 in
+    let three = both_true (nat_le (link.at + room_of link.far) (room_before links)) _ two.1 in
+    let word = some_next (known_word cells ss link.at) (λ word. is_same link.far (link_word marked word).far && are_links marked cells ss (link_word marked word).next links) three.1 in
+    let four = both_true (is_same link.far (link_word marked word.0).far) _ word.2 in (
+      eqb-true at link.at one.0,
+      word.0,
+      record {
+        positive = lt_is 0 link.at two.0;
+        known = word.1;
+        far = is_same_is link.far (link_word marked word.0).far four.0;
+        room = le_is (link.at + room_of link.far) (room_before links) three.0;
+      },
+      links_are marked cells ss (link_word marked word.0).next links four.1,
+    )
 
 abbrev are_same : List ℕ → List ℕ → Bool
 are_same [] [] = true
@@ -109,24 +132,24 @@ same_are (x ∷ xs) (y ∷ ys) e =
     let tail = same_are xs ys both.1 in
     cc
 
-abbrev misses : ℕ → ℕ → List ℕ → Bool
+abbrev misses : ℕ → ℕ → List Link → Bool
 misses place ss [] = true
-misses place ss (link ∷ links) = not (place == address ss link) && (not (place == address ss (next_offset link)) && misses place ss links)
+misses place ss (link ∷ links) = not (place == address ss link.at) && (not (place == address ss (next_offset link.at)) && misses place ss links)
 
 not_same : (a b : ℕ) → not (a == b) ≡ true → a ≢ b
 not_same a b e same = let z = eq-eqb a b same in absurd (cc)
 
-misses_are : (place ss : ℕ) (links : List ℕ) → misses place ss links ≡ true → AllByRecursion (λ offset. MissesWord place ss offset) links
+misses_are : (place ss : ℕ) (links : List Link) → misses place ss links ≡ true → AllByRecursion (λ (link : Link). MissesWord place ss link.at) links
 misses_are place ss [] e = tt
 misses_are place ss (link ∷ links) e =
-    let one = both_true (not (place == address ss link)) _ e in
-    let two = both_true (not (place == address ss (next_offset link))) _ one.1 in
-    (record { low = not_same place (address ss link) one.0; high = not_same place (address ss (next_offset link)) two.0 }, misses_are place ss links two.1)
+    let one = both_true (not (place == address ss link.at)) _ e in
+    let two = both_true (not (place == address ss (next_offset link.at))) _ one.1 in
+    (record { low = not_same place (address ss link.at) one.0; high = not_same place (address ss (next_offset link.at)) two.0 }, misses_are place ss links two.1)
 
-abbrev is_spare : Program → ResidentState → List ℕ → ℕ → Bool
+abbrev is_spare : Program → ResidentState → List Link → ℕ → Bool
 is_spare p r links place = is_free (r.cells place) && (not (place == p.installed) && misses place r.registers.ss links)
 
-spare_is : (p : Program) (r : ResidentState) (links : List ℕ) (place : ℕ) → is_spare p r links place ≡ true → IsSpare p r links place
+spare_is : (p : Program) (r : ResidentState) (links : List Link) (place : ℕ) → is_spare p r links place ≡ true → IsSpare p r links place
 spare_is p r links place e =
     let one = both_true (is_free (r.cells place)) _ e in
     let two = both_true (not (place == p.installed)) _ one.1 in
@@ -144,33 +167,33 @@ below_each (suc n) f e k lt = by (nat_eq k n) refl (below_each n f (both_true (f
     by true same more = ap f (eqb-true k n same) ∙ (both_true (f n) (each_below n f) e).0
     by false apart more = more (let ne : k ≢ n = λ same. (let z = eq-eqb k n same in absurd (cc)) in omega arith)
 
-abbrev is_framed : Program → Bool → ResidentState → List ℕ → Bool
+abbrev is_framed : Program → Bool → ResidentState → List Link → Bool
 is_framed p pending r links =
-    are_links r.cells r.registers.ss r.registers.bp links
+    are_links p.marked r.cells r.registers.ss r.registers.bp links
     && (are_same (places_of r.records) (live_places pending r.registers.sp links)
     && (nat_le (r.registers.sp + 4) 65536
     && each_below 64 (λ k. is_spare p r links (below r.registers.ss r.registers.sp k))))
 
-framed_is : (p : Program) (pending : Bool) (r : ResidentState) (links : List ℕ) → is_framed p pending r links ≡ true → IsFramed p pending r
+framed_is : (p : Program) (pending : Bool) (r : ResidentState) (links : List Link) → is_framed p pending r links ≡ true → IsFramed p pending r
 framed_is p pending r links e =
-    let one = both_true (are_links r.cells r.registers.ss r.registers.bp links) _ e in
+    let one = both_true (are_links p.marked r.cells r.registers.ss r.registers.bp links) _ e in
     let two = both_true (are_same (places_of r.records) (live_places pending r.registers.sp links)) _ one.1 in
     let three = both_true (nat_le (r.registers.sp + 4) 65536) _ two.1 in
     record {
       links = links;
-      chain = links_are r.cells r.registers.ss r.registers.bp links one.0;
+      chain = links_are p.marked r.cells r.registers.ss r.registers.bp links one.0;
       places = same_are _ _ two.0;
       pending_room = λ _. le_is (r.registers.sp + 4) 65536 three.0;
       spare = λ k lt. spare_is p r links (below r.registers.ss r.registers.sp k) (below_each 64 (λ k. is_spare p r links (below r.registers.ss r.registers.sp k)) three.1 k lt);
     }
 
-abbrev is_framed_after : Program → Service → ResidentState → List ℕ → Bool
+abbrev is_framed_after : Program → Service → ResidentState → List Link → Bool
 is_framed_after p NoService r links = true
 is_framed_after p AtCall r links = is_framed p true r links
 is_framed_after p AtReturn r links = is_framed p false r links
 is_framed_after p AtClear r links = is_framed p true r links
 
-framed_after_is : (p : Program) (service : Service) (r : ResidentState) (links : List ℕ) → is_framed_after p service r links ≡ true → FramedAfter p service r
+framed_after_is : (p : Program) (service : Service) (r : ResidentState) (links : List Link) → is_framed_after p service r links ≡ true → FramedAfter p service r
 framed_after_is p NoService r links e = tt
 framed_after_is p AtCall r links e = framed_is p true r links e
 framed_after_is p AtReturn r links e = framed_is p false r links e
@@ -188,7 +211,7 @@ running_is Running e = refl
 running_is (Ended code) e = absurd (cc)
 running_is (Stopped segment offset why) e = absurd (cc)
 
-abbrev came_to : Program → List ℕ → Outcome → Option ResidentState
+abbrev came_to : Program → List Link → Outcome → Option ResidentState
 came_to p links (Ok w) = if is_framed_after p w.1 w.0 links then Some w.0 else None
 came_to p links (Err way) = None
 
@@ -213,7 +236,7 @@ or_other (Some x) other = x
 some_same : (x y : ResidentState) → Some x ≡ Some y → x ≡ y
 some_same x y e = ap (λ o. or_other o x) e
 
-came_is : (p : Program) (links : List ℕ) (o : Outcome) (t : ResidentState) → came_to p links o ≡ Some t → (service : Service) × (o ≡ Ok (t, service)) × FramedAfter p service t
+came_is : (p : Program) (links : List Link) (o : Outcome) (t : ResidentState) → came_to p links o ≡ Some t → (service : Service) × (o ≡ Ok (t, service)) × FramedAfter p service t
 came_is p links (Ok w) t e =
     let found = some_if (is_framed_after p w.1 w.0 links) (Some w.0) t e in
     let is : w.0 ≡ t = some_same w.0 t found.1 in
@@ -255,7 +278,7 @@ followed_runs p (m ∷ ms) r t e =
 abbrev move : Instr → Move
 move i = record { instruction = i; links = [] }
 
-abbrev framed_move : Instr → List ℕ → Move
+abbrev framed_move : Instr → List Link → Move
 framed_move i links = record { instruction = i; links = links }
 
 abbrev push_bp : Move
@@ -267,12 +290,20 @@ pop_bp = move (instr.Pop word.Bp)
 abbrev move_bp : Move
 move_bp = move (instr.Mov (pair.WordRm word.Bp (word_rm.Reg word.Sp)))
 
+-- the first lines of a far routine, and its last ones but the return
+abbrev begun : List Move → List Move
+begun moves = move (instr.Inc word.Bp) ∷ push_bp ∷ move_bp ∷ moves
+
+abbrev left : List Move → List Move
+left moves = pop_bp ∷ move (instr.Dec word.Bp) ∷ moves
+
 abbrev moves : List Move
 moves =
-    move (instr.CallFar 32 256) ∷ push_bp ∷ move_bp
-    ∷ move (instr.CallFar 0 128) ∷ push_bp ∷ move_bp ∷ pop_bp ∷ framed_move instr.RetFar (506 ∷ [])
-    ∷ move (instr.PushSeg seg.Cs) ∷ move (instr.CallNear 2) ∷ push_bp ∷ move_bp ∷ pop_bp ∷ framed_move instr.RetFar (506 ∷ [])
-    ∷ pop_bp ∷ move instr.RetFar ∷ move (instr.MovWord word.Ax 0x4C00) ∷ move (instr.Int 33) ∷ []
+    move (instr.CallFar 32 256) ∷ begun (move (instr.CallNear 7) ∷ push_bp ∷ move_bp
+    ∷ move (instr.CallFar 0 128) ∷ begun (left (framed_move instr.RetFar (record { at = 502; far = false } ∷ record { at = 506; far = true } ∷ [])
+    ∷ pop_bp ∷ move instr.Ret
+    ∷ move (instr.PushSeg seg.Cs) ∷ move (instr.CallNear 13) ∷ begun (left (framed_move instr.RetFar (record { at = 506; far = true } ∷ [])
+    ∷ left (move instr.RetFar ∷ move (instr.MovWord word.Ax 0x4C00) ∷ move (instr.Int 33) ∷ []))))))
 
 abbrev is_zero_end : ResidentStatus → Bool
 is_zero_end Running = false
@@ -312,13 +343,13 @@ tested f None e = absurd (cc)
 tested f (Some t) e = (t, refl, e)
 
 example_ends : test is_over (followed example moves (example_start 1)) ≡ true
-unfolding effect_of act with_lost word_bytes word_then word_modrm pair_form pair_body pair_override
+unfolding effect_of act sum_of difference_of with_lost word_bytes word_then word_modrm pair_form pair_body pair_override
 example_ends = refl
 
 over_is : (t : ResidentState) → is_over t ≡ true → (t.status ≡ Ended 0) × (t.records ≡ [])
 over_is t e = let both = both_true (is_zero_end t.status) (is_none_left t.records) e in (zero_end_is t.status both.0, none_left_is t.records both.1)
 
-pub example_runs : (t : ResidentState) × RunsFramed example 18 (example_start 1) t × (t.status ≡ Ended 0) × (t.records ≡ [])
+pub example_runs : (t : ResidentState) × RunsFramed example 29 (example_start 1) t × (t.status ≡ Ended 0) × (t.records ≡ [])
 example_runs =
     let found = tested is_over (followed example moves (example_start 1)) example_ends in
     let end = over_is found.0 found.2 in

@@ -1,6 +1,6 @@
--- A small program: two segments of the image, and an overlay that is called through its stub, calls a far routine of the
--- image and one of its own.
-use Rattle.std.specs.Prelude.{ℕ, ◌==◌, false, nat_lt, if◌then◌else◌, List, [], ◌∷◌, Option, Some, None}
+-- A small program: two segments of the image, and an overlay that is called through its stub. It calls a near routine of its
+-- own, which calls a far routine of the image, and a far one of its own. Frames are marked.
+use Rattle.std.specs.Prelude.{ℕ, ◌==◌, true, false, nat_lt, if◌then◌else◌, List, [], ◌∷◌, Option, Some, None}
 use Rattle.x86_table.specs.declared.instr.Instr.{Instr}
 use Rattle.x86_table.specs.declared.instr.Instr.TheVariants as instr
 use Rattle.x86_table.specs.declared.instr.Pair.TheVariants as pair
@@ -18,15 +18,17 @@ use Rattle.resident_machine.specs.State.{ResidentState, Running}
 abbrev pub main_code : List ℕ
 main_code = 0x9A ∷ 0x20 ∷ 0 ∷ 0 ∷ 1 ∷ 0xB8 ∷ 0 ∷ 0x4C ∷ 0xCD ∷ 0x21 ∷ []
 
--- PUSH BP; MOV BP,SP; POP BP; RETF
+-- INC BP; PUSH BP; MOV BP,SP; POP BP; DEC BP; RETF
 abbrev pub routine_code : List ℕ
-routine_code = 0x55 ∷ 0x8B ∷ 0xEC ∷ 0x5D ∷ 0xCB ∷ []
+routine_code = 0x45 ∷ 0x55 ∷ 0x8B ∷ 0xEC ∷ 0x5D ∷ 0x4D ∷ 0xCB ∷ []
 
--- PUSH BP; MOV BP,SP; CALL FAR 0080:0000; PUSH CS; CALL NEAR over the next two; POP BP; RETF; and a routine as above
+-- INC BP; PUSH BP; MOV BP,SP; CALL NEAR the next routine; PUSH CS; CALL NEAR the last one; POP BP; DEC BP; RETF; a near
+-- routine: PUSH BP; MOV BP,SP; CALL FAR 0080:0000; POP BP; RET; and a far one as above
 abbrev pub overlay_code : List ℕ
 overlay_code =
-    0x55 ∷ 0x8B ∷ 0xEC ∷ 0x9A ∷ 0 ∷ 0 ∷ 0x80 ∷ 0 ∷ 0x0E ∷ 0xE8 ∷ 2 ∷ 0 ∷ 0x5D ∷ 0xCB
-    ∷ 0x55 ∷ 0x8B ∷ 0xEC ∷ 0x5D ∷ 0xCB ∷ []
+    0x45 ∷ 0x55 ∷ 0x8B ∷ 0xEC ∷ 0xE8 ∷ 7 ∷ 0 ∷ 0x0E ∷ 0xE8 ∷ 13 ∷ 0 ∷ 0x5D ∷ 0x4D ∷ 0xCB
+    ∷ 0x55 ∷ 0x8B ∷ 0xEC ∷ 0x9A ∷ 0 ∷ 0 ∷ 0x80 ∷ 0 ∷ 0x5D ∷ 0xC3
+    ∷ 0x45 ∷ 0x55 ∷ 0x8B ∷ 0xEC ∷ 0x5D ∷ 0x4D ∷ 0xCB ∷ []
 
 abbrev pub example_image : ℕ → Option (List ℕ)
 example_image segment = if segment == 0x70 then Some main_code else (if segment == 0x80 then Some routine_code else None)
@@ -37,6 +39,7 @@ example = record {
   overlays = record { stub = 0x100; entries = 0 ∷ []; code = overlay_code } ∷ [];
   installed = 0x3000;
   error_routine = record { offset = 0; segment = 0x80 };
+  marked = true;
 }
 
 -- Below 2000h stand code and the stub, at 3000h the installed flag, from 4000h on the stack.

@@ -1,5 +1,5 @@
 -- A program of which all code is present: each code segment is a list of bytes of its own, which CS names.
-use Rattle.std.specs.Prelude.{ℕ, ◌-◌, ◌/◌, ◌%◌, ◌==◌, ◌&&◌, nat_le, if◌then◌else◌, List, Option, Some, None, option_map, position, slice_get}
+use Rattle.std.specs.Prelude.{ℕ, Bool, ◌-◌, ◌/◌, ◌%◌, ◌==◌, ◌&&◌, nat_le, if◌then◌else◌, List, Option, Some, None, option_map, position, slice_get}
 use Rattle.cpu_8086.specs.declared.registers.Far.{Far}
 
 -- What CS names: the code of the image that begins at a segment, or the code of an overlay.
@@ -14,12 +14,13 @@ pub record OverlayCode : Type 0 where
   pub code : List ℕ
 
 -- The bytes that a segment of the image names, if it names any; the overlays by number; the linear address of the
--- installed flag; and the error routine. Segments are those of the loaded image.
+-- installed flag; the error routine; and whether frames are marked. Segments are those of the loaded image.
 pub record Program : Type 0 where
   pub image : ℕ → Option (List ℕ)
   pub overlays : List OverlayCode
   pub installed : ℕ
   pub error_routine : Far
+  pub marked : Bool
 
 -- the bytes of code that a segment names
 abbrev pub code_of : Program → Segment → Option (List ℕ)

@@ -72,8 +72,8 @@ pub fn astray_law()
 {}
 
 /// A program of two segments and an overlay runs to its end, each step framed: a call through a stub, far calls and
-/// returns, and a near call behind PUSH CS. With no overlay installed it comes to the error routine with AX = 208.
+/// returns, a far call out of a near routine, and a near call behind PUSH CS. With no overlay installed it comes to the error routine with AX = 208.
 pub fn example_law()
-    ensures runs { (t : ResidentState) × RunsFramed example 18 (example_start 1) t × (t.status ≡ Ended 0) × (t.records ≡ []) }
+    ensures runs { (t : ResidentState) × RunsFramed example 29 (example_start 1) t × (t.status ≡ Ended 0) × (t.records ≡ []) }
     ensures refused { (t : ResidentState) × RunsFramed example 1 (example_start 0) t × (t.cs ≡ Image 0x80) × (t.registers.ax ≡ 208) }
 {}

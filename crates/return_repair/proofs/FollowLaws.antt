@@ -308,11 +308,11 @@ follow memory ss places old new same orderly =
     }
 
 -- the same for the repair of a state
-pub follow_state : (s : State) (after : List ℕ) (pending : Bool) (old new : List Loaded) (changed : ℕ) → HaveSameStubs old new
-    → after ≡ repaired_memory s pending old new (links_of (chain_of s)) → changed ≡ repaired_count s pending old new (links_of (chain_of s)) → IsOrderlyState s pending old
-    → Follow s.memory after s.registers.ss (live_places s.registers pending (links_of (chain_of s))) old new changed
-follow_state s after pending old new changed same after_is changed_is orderly =
-    let links = links_of (chain_of s) in
+pub follow_state : (marked : Bool) (s : State) (after : List ℕ) (pending : Bool) (old new : List Loaded) (changed : ℕ) → HaveSameStubs old new
+    → after ≡ repaired_memory s pending old new (links_of (chain_of marked s)) → changed ≡ repaired_count s pending old new (links_of (chain_of marked s)) → IsOrderlyState marked s pending old
+    → Follow s.memory after s.registers.ss (live_places s.registers pending (links_of (chain_of marked s))) old new changed
+follow_state marked s after pending old new changed same after_is changed_is orderly =
+    let links = links_of (chain_of marked s) in
     let places = live_places s.registers pending links in
     let w = repaired_at s pending old new links in
     let clear = orderly.clear in

@@ -1,13 +1,14 @@
 -- Links keep their words where pairs above others are written.
-use Rattle.std.proofs.Common.{◌≡◌, ◌≢◌, ◌⊎◌, inl, inr, ℕ, zero, suc, ◌+◌, ◌-◌, ◌*◌, ◌%◌, ◌<◌, ◌≤◌, Bool, true, false, cond, List, [], ◌∷◌, ◌++◌, length, map, Option, Some, None, refl, sym, ap, ap₂, subst, ◌∙◌, add-zero, arith}
+use Rattle.std.proofs.Common.{◌≡◌, ◌≢◌, ◌⊎◌, inl, inr, ℕ, zero, suc, ◌+◌, ◌-◌, ◌*◌, ◌%◌, ◌<◌, ◌≤◌, Bool, true, false, cond, List, [], ◌∷◌, ◌++◌, length, Option, Some, None, refl, sym, ap, ap₂, subst, ◌∙◌, add-zero, arith}
 use Rattle.std.specs.Prelude.{IsTrue, ◌==◌, ◌&&◌, ◌||◌, nat_le, is_some, unwrap_or, slice_index_or}
-use Rattle.std.specs.List.{AllByRecursion, list_all}
+use Rattle.std.specs.List.{AllByRecursion}
 use Rattle.std.proofs.lemmas.Bool.Decides.{nat_tests}
 use Rattle.cpu_8086.specs.Memory.{address, next_offset, load_word, store_word}
 use Rattle.cpu_8086.specs.declared.registers.Far.{Far}
 use Rattle.cpu_8086.proofs.MemoryLaws.{Apart, load_word-store_word_other}
+use Rattle.frame_links.specs.Links.{Link, room_of, room_before, place_if, pair_place}
 use Rattle.return_repair.specs.declared.table.Loaded.{Loaded}
-use Rattle.return_repair.specs.Chain.{pair_place, room_before, are_spaced, misses_link}
+use Rattle.return_repair.specs.Chain.{are_spaced, misses_link, misses_links}
 use Rattle.return_repair.specs.Pairs.{pair_at, with_pair, owner, denoted_offset, shown_pair, same_pair}
 use Rattle.return_repair.specs.Repair.{Work, work, no_overlay, repaired_pair, repaired_by, repaired_place, repaired_places}
 
@@ -51,37 +52,42 @@ word-with_pair_above memory ss place word pair above fits =
     ∙ load_word-store_word_other (store_word memory ss place pair.offset) ss (place + 2) ss word pair.segment (apart_above ss (place + 2) word (omega arith) (omega arith))
     ∙ load_word-store_word_other memory ss place ss word pair.offset (apart_above ss place word above (omega arith))
 
--- where the links behind one lie
-pub record LiesAbove (link other : ℕ) : Type 0 where
-  pub above : link + 6 ≤ other
-  pub fits : other + 6 ≤ 65536
+-- where the links behind the room of one lie
+pub record LiesAbove (low : ℕ) (other : Link) : Type 0 where
+  pub above : low ≤ other.at
+  pub fits : other.at + 4 ≤ 65536
 
-spaced_fits : (link : ℕ) (links : List ℕ) → IsTrue (are_spaced (link ∷ links)) → link + 6 ≤ 65536
-spaced_fits link [] spaced = let parts = both (nat_le (link + 6) 65536) true spaced in at_most (link + 6) 65536 parts.0
+pub some_room : (far : Bool) → 4 ≤ room_of far
+some_room true = omega arith
+some_room false = omega arith
+
+spaced_fits : (link : Link) (links : List Link) → IsTrue (are_spaced (link ∷ links)) → link.at + room_of link.far ≤ 65536
+spaced_fits link [] spaced = let parts = both (nat_le (link.at + room_of link.far) 65536) true spaced in at_most (link.at + room_of link.far) 65536 parts.0
 spaced_fits link (next ∷ links) spaced =
-    let parts = both (nat_le (link + 6) next) (are_spaced (next ∷ links)) spaced in
-    let above = at_most (link + 6) next parts.0 in
+    let parts = both (nat_le (link.at + room_of link.far) next.at) (are_spaced (next ∷ links)) spaced in
+    let above = at_most (link.at + room_of link.far) next.at parts.0 in
     let others = spaced_fits next links parts.1 in
     omega arith
 
-all_above : (low link : ℕ) (links : List ℕ) → low ≤ link → IsTrue (are_spaced (link ∷ links)) → AllByRecursion (λ other. LiesAbove low other) links
+all_above : (low : ℕ) (link : Link) (links : List Link) → low ≤ link.at + room_of link.far → IsTrue (are_spaced (link ∷ links)) → AllByRecursion (λ other. LiesAbove low other) links
 all_above low link [] order spaced = tt
 all_above low link (next ∷ links) order spaced =
-    let parts = both (nat_le (link + 6) next) (are_spaced (next ∷ links)) spaced in
-    let above = at_most (link + 6) next parts.0 in
+    let parts = both (nat_le (link.at + room_of link.far) next.at) (are_spaced (next ∷ links)) spaced in
+    let above = at_most (link.at + room_of link.far) next.at parts.0 in
     let fits = spaced_fits next links parts.1 in
-    (record { above = omega arith; fits = fits }, all_above low next links (omega arith) parts.1)
+    let room = some_room next.far in
+    (record { above = omega arith; fits = omega arith }, all_above low next links (omega arith) parts.1)
 
-pub record Spaced (link : ℕ) (links : List ℕ) : Type 0 where
-  pub fits : link + 6 ≤ 65536
-  pub above : AllByRecursion (λ other. LiesAbove link other) links
+pub record Spaced (link : Link) (links : List Link) : Type 0 where
+  pub fits : link.at + room_of link.far ≤ 65536
+  pub above : AllByRecursion (λ other. LiesAbove (link.at + room_of link.far) other) links
   pub others : IsTrue (are_spaced links)
 
-pub spaced_parts : (link : ℕ) (links : List ℕ) → IsTrue (are_spaced (link ∷ links)) → Spaced link links
+pub spaced_parts : (link : Link) (links : List Link) → IsTrue (are_spaced (link ∷ links)) → Spaced link links
 spaced_parts link links spaced = record {
   fits = spaced_fits link links spaced;
-  above = all_above link link links (omega arith) spaced;
-  others = (both (nat_le (link + 6) (room_before links)) (are_spaced links) spaced).1;
+  above = all_above (link.at + room_of link.far) link links (omega arith) spaced;
+  others = (both (nat_le (link.at + room_of link.far) (room_before links)) (are_spaced links) spaced).1;
 }
 
 -- what is repaired at a place: nothing, or its pair
@@ -117,16 +123,16 @@ word-repaired_above ss old new w place word above fits =
     ]
 
 -- the words of links that are as they were
-abbrev pub Kept : List ℕ → List ℕ → ℕ → List ℕ → Type 0
-Kept memory before ss links = AllByRecursion (λ link. load_word memory ss link ≡ load_word before ss link) links
+abbrev pub Kept : List ℕ → List ℕ → ℕ → List Link → Type 0
+Kept memory before ss links = AllByRecursion (λ (link : Link). load_word memory ss link.at ≡ load_word before ss link.at) links
 
-pub kept-on : (ss : ℕ) (old new : List Loaded) (w : Work) (before links : List ℕ) (link place : ℕ) → place ≡ link + 2 → AllByRecursion (λ other. LiesAbove link other) links → Kept w.memory before ss links
+kept-on : (ss : ℕ) (old new : List Loaded) (w : Work) (before : List ℕ) (links : List Link) (link place : ℕ) → place ≡ link + 2 → AllByRecursion (λ other. LiesAbove (link + 6) other) links → Kept w.memory before ss links
     → Kept (repaired_place ss old new w place).memory before ss links
 kept-on ss old new w before [] link place is above kept = tt
 kept-on ss old new w before (other ∷ links) link place is above kept =
-    (word-repaired_below ss old new w place other (omega (arith, above.0.above)) (omega (arith, above.0.fits)) ∙ kept.0, kept-on ss old new w before links link place is above.1 kept.1)
+    (word-repaired_below ss old new w place other.at (omega (arith, above.0.above)) (omega (arith, above.0.fits)) ∙ kept.0, kept-on ss old new w before links link place is above.1 kept.1)
 
-pub kept-at_first : (memory : List ℕ) (ss : ℕ) (links : List ℕ) → Kept memory memory ss links
+pub kept-at_first : (memory : List ℕ) (ss : ℕ) (links : List Link) → Kept memory memory ss links
 kept-at_first memory ss [] = tt
 kept-at_first memory ss (link ∷ links) = (refl, kept-at_first memory ss links)
 
@@ -169,16 +175,26 @@ pub places-append : (ss : ℕ) (old new : List Loaded) (w : Work) (first others 
 places-append ss old new w [] others = refl
 places-append ss old new w (place ∷ first) others = places-append ss old new (repaired_place ss old new w place) first others
 
+-- the links behind one keep their words where the pair above it is repaired, if there is one
+pub kept-behind : (ss : ℕ) (old new : List Loaded) (w : Work) (before : List ℕ) (links : List Link) (link : ℕ) (far : Bool) → link + room_of far ≤ 65536 → AllByRecursion (λ other. LiesAbove (link + room_of far) other) links → Kept w.memory before ss links
+    → Kept (repaired_places ss old new w (place_if far (pair_place link))).memory before ss links
+kept-behind ss old new w before links link false fits above kept = kept
+kept-behind ss old new w before links link true fits above kept =
+    let six : link + 6 ≤ 65536 = fits in
+    let place : pair_place link ≡ link + 2 = omega arith in
+    kept-on ss old new w before links link (pair_place link) place above kept
+
 -- links that a pair misses keep their words
-pub kept-missed : (ss : ℕ) (old new : List Loaded) (w : Work) (links : List ℕ) (place : ℕ) → place + 4 ≤ 65536 → IsTrue (are_spaced links) → IsTrue (list_all (misses_link place) links)
+pub kept-missed : (ss : ℕ) (old new : List Loaded) (w : Work) (links : List Link) (place : ℕ) → place + 4 ≤ 65536 → IsTrue (are_spaced links) → IsTrue (misses_links place links)
     → Kept (repaired_place ss old new w place).memory w.memory ss links
 kept-missed ss old new w [] place fits spaced missed = tt
 kept-missed ss old new w (link ∷ links) place fits spaced missed =
     let parts = spaced_parts link links spaced in
-    let misses = both (misses_link place link) (list_all (misses_link place) links) missed in
-    (by (nat_le (place + 4) link) (nat_le (link + 2) place) refl refl misses.0 parts.fits, kept-missed ss old new w links place fits parts.others misses.1)
+    let misses = both (misses_link place link.at) (misses_links place links) missed in
+    let room = some_room link.far in
+    (by (nat_le (place + 4) link.at) (nat_le (link.at + 2) place) refl refl misses.0 (omega (arith, parts.fits)), kept-missed ss old new w links place fits parts.others misses.1)
   where
-    by : (below above : Bool) → nat_le (place + 4) link ≡ below → nat_le (link + 2) place ≡ above → (below || above) ≡ true → link + 6 ≤ 65536 → load_word (repaired_place ss old new w place).memory ss link ≡ load_word w.memory ss link
-    by true above is_below is_above misses room = word-repaired_below ss old new w place link (at_most (place + 4) link is_below) (omega arith)
-    by false true is_below is_above misses room = word-repaired_above ss old new w place link (at_most (link + 2) place is_above) fits
+    by : (below above : Bool) → nat_le (place + 4) link.at ≡ below → nat_le (link.at + 2) place ≡ above → (below || above) ≡ true → link.at + 4 ≤ 65536 → load_word (repaired_place ss old new w place).memory ss link.at ≡ load_word w.memory ss link.at
+    by true above is_below is_above misses room = word-repaired_below ss old new w place link.at (at_most (place + 4) link.at is_below) (omega arith)
+    by false true is_below is_above misses room = word-repaired_above ss old new w place link.at (at_most (link.at + 2) place is_above) fits
     by false false is_below is_above misses room = absurd cc

@@ -65,14 +65,14 @@ byte-saved topmost (overlay ∷ table) memory at elsewhere = byte-saved topmost 
     one true None = refl
     one true (Some offset) = byte-store_word memory overlay.stub 2 offset at elsewhere.0.0 elsewhere.0.1.0
 
-pub safe : (s : State) (pending : Bool) (old new : List Loaded) → OnlyPairsDiffer s.memory (repaired_memory s pending old new (links_of (chain_of s))) s.registers.ss (live_places s.registers pending (links_of (chain_of s))) new
-safe s pending old new = by (are_clear s.registers pending (links_of (chain_of s)))
+pub safe : (marked : Bool) (s : State) (pending : Bool) (old new : List Loaded) → OnlyPairsDiffer s.memory (repaired_memory s pending old new (links_of (chain_of marked s))) s.registers.ss (live_places s.registers pending (links_of (chain_of marked s))) new
+safe marked s pending old new = by (are_clear s.registers pending (links_of (chain_of marked s)))
   where
-    by : (clear : Bool) → OnlyPairsDiffer s.memory (let w = repaired_at s pending old new (links_of (chain_of s)) in cond clear (with_saved w.topmost new w.memory) s.memory) s.registers.ss (live_places s.registers pending (links_of (chain_of s))) new
+    by : (clear : Bool) → OnlyPairsDiffer s.memory (let w = repaired_at s pending old new (links_of (chain_of marked s)) in cond clear (with_saved w.topmost new w.memory) s.memory) s.registers.ss (live_places s.registers pending (links_of (chain_of marked s))) new
     by false = record { size = refl; others = λ at pairs stubs. refl }
     by true =
         let ss = s.registers.ss in
-        let places = live_places s.registers pending (links_of (chain_of s)) in
+        let places = live_places s.registers pending (links_of (chain_of marked s)) in
         let w = repaired_places ss old new (at_start s.memory) places in
         record {
           size = length-saved w.topmost new w.memory ∙ length-places ss old new (at_start s.memory) places;

@@ -96,9 +96,9 @@ pub record Follow (memory after : List ℕ) (ss : ℕ) (places : List ℕ) (old 
   pub count : changed ≡ differing (pairs_at memory ss places) (shown new none_met (denotations memory ss old places))
 
 -- no live pair touches the word of a link, and all lie apart
-pub record IsOrderlyState (s : State) (pending : Bool) (table : List Loaded) : Type 0 where
-  pub clear : IsTrue (are_clear s.registers pending (links_of (chain_of s)))
-  pub apart : IsOrderly s.memory s.registers.ss (live_places s.registers pending (links_of (chain_of s))) table
+pub record IsOrderlyState (marked : Bool) (s : State) (pending : Bool) (table : List Loaded) : Type 0 where
+  pub clear : IsTrue (are_clear s.registers pending (links_of (chain_of marked s)))
+  pub apart : IsOrderly s.memory s.registers.ss (live_places s.registers pending (links_of (chain_of marked s))) table
 
 -- the bytes of a word, of a pair, and of the word of a stub that saves an offset
 abbrev pub word_bytes : ℕ → ℕ → List ℕ

@@ -15,17 +15,17 @@ abbrev pub denotes : List ℕ → ℕ → List Loaded → ℕ → ℕ → Bool
 denotes memory ss table v place = is_overlay v (owner table (pair_at memory ss place).segment)
 
 -- whether some live pair does
-abbrev pub is_live : State → Bool → List Loaded → ℕ → Bool
-is_live s pending table v =
-    list_any (denotes s.memory s.registers.ss table v) (live_places s.registers pending (links_of (chain_of s)))
+abbrev pub is_live : Bool → State → Bool → List Loaded → ℕ → Bool
+is_live marked s pending table v =
+    list_any (denotes s.memory s.registers.ss table v) (live_places s.registers pending (links_of (chain_of marked s)))
 
 -- flags by overlay, with that of one overlay set
-abbrev pub marked : List Bool → Option ℕ → List Bool
-marked flags None = flags
-marked flags (Some number) = slice_set flags number true
+abbrev pub flagged : List Bool → Option ℕ → List Bool
+flagged flags None = flags
+flagged flags (Some number) = slice_set flags number true
 
 -- with those set that the pairs at these places denote
-abbrev pub marked_places : List ℕ → ℕ → List Loaded → List Bool → List ℕ → List Bool
-marked_places memory ss table flags [] = flags
-marked_places memory ss table flags (place ∷ places) =
-    marked_places memory ss table (marked flags (owner table (pair_at memory ss place).segment)) places
+abbrev pub flagged_places : List ℕ → ℕ → List Loaded → List Bool → List ℕ → List Bool
+flagged_places memory ss table flags [] = flags
+flagged_places memory ss table flags (place ∷ places) =
+    flagged_places memory ss table (flagged flags (owner table (pair_at memory ss place).segment)) places

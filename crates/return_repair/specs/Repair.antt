@@ -3,6 +3,7 @@ use Rattle.std.specs.Prelude.{ℕ, ◌+◌, ◌==◌, Bool, if◌then◌else◌,
 use Rattle.cpu_8086.specs.Memory.{store_word}
 use Rattle.cpu_8086.specs.State.{State}
 use Rattle.cpu_8086.specs.declared.registers.Far.{Far}
+use Rattle.frame_links.specs.Links.{Link}
 use Rattle.return_repair.specs.declared.table.Loaded.{Loaded}
 use Rattle.return_repair.specs.Chain.{live_places, are_clear}
 use Rattle.return_repair.specs.Pairs.{pair_at, with_pair, owner, denoted_offset, shown_pair, is_out, same_pair}
@@ -63,15 +64,15 @@ with_saved topmost (overlay ∷ table) memory =
 abbrev pub at_start : List ℕ → Work
 at_start memory = work memory (λ _. None)
 
-abbrev pub repaired_at : State → Bool → List Loaded → List Loaded → List ℕ → Work
+abbrev pub repaired_at : State → Bool → List Loaded → List Loaded → List Link → Work
 repaired_at s pending old new links =
     repaired_places s.registers.ss old new (at_start s.memory) (live_places s.registers pending links)
 
-abbrev pub repaired_memory : State → Bool → List Loaded → List Loaded → List ℕ → List ℕ
+abbrev pub repaired_memory : State → Bool → List Loaded → List Loaded → List Link → List ℕ
 repaired_memory s pending old new links =
     if are_clear s.registers pending links then (let w = repaired_at s pending old new links in with_saved w.topmost new w.memory)
     else s.memory
 
-abbrev pub repaired_count : State → Bool → List Loaded → List Loaded → List ℕ → ℕ
+abbrev pub repaired_count : State → Bool → List Loaded → List Loaded → List Link → ℕ
 repaired_count s pending old new links =
     if are_clear s.registers pending links then (repaired_at s pending old new links).changed else 0

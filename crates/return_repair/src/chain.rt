@@ -1,8 +1,7 @@
 //! The chain of links.
 
 ghost use Rattle.std.specs.Prelude.{◌≡◌, ◌+◌, ◌==◌, ◌<◌, IsOk, OnOk, IfErr};
-ghost use Rattle.std.specs.List.{list_all};
-ghost use Rattle.return_repair.specs.Chain.{next_link, goes_on, room_end, chain_of, links_of, are_spaced, misses_link, are_clear};
+ghost use Rattle.return_repair.specs.Chain.{word_at, next_link, goes_on, room_end, chain_of, links_of, are_spaced, misses_link, misses_links, are_clear};
 
 use crate::table::BadChain;
 use cpu_8086::{Machine, Reg};
@@ -14,22 +13,31 @@ fn goes_on(link: u16, next: u16) -> bool
     next == 0 || link < next
 }
 
-/// The link at a link.
-pub fn next_link(machine: &Machine, link: u16) -> u16
-    ensures { result ≡ next_link machine.now.memory machine.now.registers.ss link }
+/// The link behind one.
+pub fn next_link(machine: &Machine, marked: bool, link: u16) -> u16
+    ensures { result ≡ next_link marked machine.now.memory machine.now.registers.ss link }
 {
-    machine.load_word(machine.reg(Reg::Ss), link)
+    let word = machine.load_word(machine.reg(Reg::Ss), link);
+    frame_links::next_of(marked, word)
+}
+
+/// Whether the frame with this link is a far routine's.
+pub fn is_far(machine: &Machine, marked: bool, link: u16) -> bool
+    ensures { result ≡ (word_at marked machine.now.memory machine.now.registers.ss link).far }
+{
+    let word = machine.load_word(machine.reg(Reg::Ss), link);
+    frame_links::is_far(marked, word)
 }
 
 /// Whether each link up to 0 lies above the one before; `BadChain` says where it doesn't.
-pub fn check_chain(machine: &Machine) -> Result<(), BadChain>
-    ensures sound { OnOk result (IsOk (chain_of machine.now)) }
-    ensures bad { IfErr result (λ bad. chain_of machine.now ≡ Err bad.bp) }
+pub fn check_chain(machine: &Machine, marked: bool) -> Result<(), BadChain>
+    ensures sound { OnOk result (IsOk (chain_of marked machine.now)) }
+    ensures bad { IfErr result (λ bad. chain_of marked machine.now ≡ Err bad.bp) }
     ensures small { machine.now.registers.bp < 65536 }
 {
     let mut link = machine.reg(Reg::Bp);
     while link != 0 {
-        let next = next_link(machine, link);
+        let next = next_link(machine, marked, link);
         if !goes_on(link, next) {
             return Err(BadChain { bp: link });
         }
@@ -45,15 +53,16 @@ fn room_end(next: u16) -> u32
     if next == 0 { 0x1_0000 } else { u32::from(next) }
 }
 
-/// Whether links have room for their words and pairs.
-fn are_spaced(machine: &Machine) -> bool
-    requires { IsOk (chain_of machine.now) }
-    ensures { result ≡ are_spaced (links_of (chain_of machine.now)) }
+/// Whether links have room for their words and return addresses.
+fn are_spaced(machine: &Machine, marked: bool) -> bool
+    requires { IsOk (chain_of marked machine.now) }
+    ensures { result ≡ are_spaced (links_of (chain_of marked machine.now)) }
 {
     let mut link = machine.reg(Reg::Bp);
     while link != 0 {
-        let next = next_link(machine, link);
-        if u32::from(link) + 6 > room_end(next) {
+        let next = next_link(machine, marked, link);
+        let room = frame_links::room_of(is_far(machine, marked, link));
+        if u32::from(link) + room > room_end(next) {
             return false;
         }
         link = next;
@@ -68,25 +77,26 @@ fn misses_link(place: u16, link: u16) -> bool
 }
 
 /// Whether the pair at a place touches no word of a link.
-fn misses_links(machine: &Machine, place: u16) -> bool
-    requires { IsOk (chain_of machine.now) }
-    ensures { result ≡ list_all (misses_link place) (links_of (chain_of machine.now)) }
+fn misses_links(machine: &Machine, marked: bool, place: u16) -> bool
+    requires { IsOk (chain_of marked machine.now) }
+    ensures { result ≡ misses_links place (links_of (chain_of marked machine.now)) }
 {
     let mut link = machine.reg(Reg::Bp);
     while link != 0 {
         if !misses_link(place, link) {
             return false;
         }
-        link = next_link(machine, link);
+        link = next_link(machine, marked, link);
     }
     true
 }
 
 /// Whether no live pair touches the word of a link.
-pub fn are_clear(machine: &Machine, pending: bool) -> bool
-    requires { IsOk (chain_of machine.now) }
-    ensures { result ≡ are_clear machine.now.registers pending (links_of (chain_of machine.now)) }
+pub fn are_clear(machine: &Machine, marked: bool, pending: bool) -> bool
+    requires { IsOk (chain_of marked machine.now) }
+    ensures { result ≡ are_clear machine.now.registers pending (links_of (chain_of marked machine.now)) }
 {
     let top = machine.reg(Reg::Sp);
-    are_spaced(machine) && (!pending || (top <= 0xFFFC && misses_links(machine, top)))
+    are_spaced(machine, marked)
+        && (!pending || (top <= 0xFFFC && misses_links(machine, marked, top)))
 }

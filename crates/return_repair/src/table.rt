@@ -7,7 +7,7 @@ pub struct Loaded {
     pub load: u16,
 }
 
-/// The word at SS:`bp` is no link: it is not 0, and doesn't lie above its own place.
+/// The word at SS:`bp` is no link: the place that it gives is not 0, and doesn't lie above its own.
 #[derive(Clone, Copy, Debug, PartialEq, Eq)]
 pub struct BadChain {
     pub bp: u16,

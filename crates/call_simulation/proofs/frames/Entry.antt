@@ -20,7 +20,7 @@ use Rattle.statement_simulation.specs.expressions.Evaluates.{IsCode, Fails}
 use Rattle.effect_simulation.specs.effects.Pushed.{HoldsWords}
 use Rattle.statement_simulation.specs.flow.Sites.{World, Site, Live, Fits, IsFlag, Represents}
 use Rattle.statement_simulation.proofs.flow.States.{flag_kept, fixed_kept}
-use Rattle.call_simulation.specs.frames.Callee.{Back, return_bytes, saved_at, fixed_return, with_return, callee, Returns, IsPaired, Entered}
+use Rattle.call_simulation.specs.frames.Callee.{Back, return_bytes, saved_at, kept_bp, fixed_return, with_return, callee, Returns, IsPaired, Entered}
 use Rattle.call_simulation.specs.frames.Moves.{Started}
 use Rattle.call_simulation.proofs.frames.Fixed.{with_fixed_cases, words_still, low_there, high_there}
 use Rattle.call_simulation.proofs.frames.Opened.{IsLink, opened_link, opened_kept, active_opened}
@@ -90,6 +90,18 @@ module _ (w : World) (caller : Site) (site : Site) (placed : Placed w.machine si
       let at_ss = subst (λ z. MayWrite r0.cells w.machine.installed (16 * z + offset)) (sym e.ss) may in
       record { free = e.free (16 * t.registers.ss + offset) at_ss.free (not_paired_below r.far t.registers (16 * t.registers.ss + offset) (omega arith)); apart = at_ss.apart }
 
+  -- BP is that of the caller, above which its link lies
+  bp_is : t.registers.bp ≡ f.bp
+  bp_is = e.bp ∙ a.active.bp
+
+  small_bp : t.registers.bp < 65535
+  small_bp =
+      let link = fits.suits.link in
+      let small = fits.suits.link_small in
+      let four = four_links caller.context.far in
+      let is = bp_is in
+      omega arith
+
   pub has_word_below : 66 ≤ t.registers.sp → HasWordBelow w.machine w.framed site.segment site.code site.at site.labels placed t
   has_word_below enough =
       let top = entry_top in
@@ -101,10 +113,11 @@ module _ (w : World) (caller : Site) (site : Site) (placed : Placed w.machine si
         top = omega arith;
         low = subst (λ place. MayWrite t.cells w.machine.installed place) {x = 16 * t.registers.ss + (t.registers.sp - 2)} {y = address t.registers.ss (t.registers.sp - 2)} (omega arith) (below_may (t.registers.sp - 2) (omega arith));
         high = subst (λ place. MayWrite t.cells w.machine.installed place) {x = 16 * t.registers.ss + (t.registers.sp - 1)} {y = address t.registers.ss (next_offset (t.registers.sp - 2))} (omega arith) (below_may (t.registers.sp - 1) (omega arith));
+        word = small_bp;
       }
 
   -- too little of the stack is left
-  pub entry_fails : (k : ℕ) → IsCode w.machine site.context.addresses.error_routine → 66 ≤ t.registers.sp → 0 < r.frame → f.sp < 512 + activation_bytes r → IsAt site.segment (site.at k) t → Stands (IsSpelledAt site.code) site.at site.labels k (ones (prologue site.context r)) → Fails w.machine w.framed site.context.addresses.error_routine 6 t 202
+  pub entry_fails : (k : ℕ) → IsCode w.machine site.context.addresses.error_routine → 66 ≤ t.registers.sp → 0 < r.frame → f.sp < 512 + activation_bytes r → IsAt site.segment (site.at k) t → Stands (IsSpelledAt site.code) site.at site.labels k (ones (prologue site.context r)) → Fails w.machine w.framed site.context.addresses.error_routine 7 t 202
   entry_fails k named enough some little here stands =
       let sp = entry_sp in
       let top = entry_top in
@@ -117,7 +130,7 @@ module _ (w : World) (caller : Site) (site : Site) (placed : Placed w.machine si
   -- ## The bytes behind the routine's first lines
 
   abbrev d : Cells
-  d = stored t.cells t.registers.ss (t.registers.sp - 2) t.registers.bp
+  d = stored t.cells t.registers.ss (t.registers.sp - 2) (kept_bp r.far t.registers.bp)
 
   -- a place that is no byte of the saved BP
   d_other : (place : ℕ) → 66 ≤ t.registers.sp → (place ≡ base + saved_at r f → ⊥) → (place ≡ base + saved_at r f + 1 → ⊥) → d place ≡ t.cells place
@@ -126,7 +139,7 @@ module _ (w : World) (caller : Site) (site : Site) (placed : Placed w.machine si
       let inside = entry_inside in
       let below = entry_below in
       let saved = saved_is in
-      stored_other t.cells t.registers.ss (t.registers.sp - 2) t.registers.bp place (λ z. low (omega arith)) (λ z. high (omega arith))
+      stored_other t.cells t.registers.ss (t.registers.sp - 2) (kept_bp r.far t.registers.bp) place (λ z. low (omega arith)) (λ z. high (omega arith))
 
   d_kept : (place : ℕ) → 66 ≤ t.registers.sp → IsKept r0.registers place → d place ≡ r0.cells place
   d_kept place enough kept =
@@ -136,13 +149,14 @@ module _ (w : World) (caller : Site) (site : Site) (placed : Placed w.machine si
       let saved = saved_is in
       d_other place enough (λ z. let y = kept (omega arith) in omega arith) (λ z. let y = kept (omega arith) in omega arith) ∙ e.bytes place kept
 
-  d_saved : 66 ≤ t.registers.sp → HoldsWord d w.choice.stack_segment (saved_at r f) f.bp
+  d_saved : 66 ≤ t.registers.sp → HoldsWord d w.choice.stack_segment (saved_at r f) (kept_bp r.far f.bp)
   d_saved enough =
       let top = entry_top in
-      let h = stored_holds t.cells t.registers.ss (t.registers.sp - 2) t.registers.bp (omega arith) in
-      let h1 = subst (λ z. HoldsWord d z (t.registers.sp - 2) t.registers.bp) entry_ss h in
-      let h2 = subst (λ o. HoldsWord d w.choice.stack_segment o t.registers.bp) saved_is h1 in
-      subst (λ v. HoldsWord d w.choice.stack_segment (saved_at r f) v) (e.bp ∙ a.active.bp) h2
+      let kept = kept_bp r.far t.registers.bp in
+      let h = stored_holds t.cells t.registers.ss (t.registers.sp - 2) kept (omega arith) in
+      let h1 = subst (λ z. HoldsWord d z (t.registers.sp - 2) kept) entry_ss h in
+      let h2 = subst (λ o. HoldsWord d w.choice.stack_segment o kept) saved_is h1 in
+      subst (λ v. HoldsWord d w.choice.stack_segment (saved_at r f) (kept_bp r.far v)) bp_is h2
 
   -- a byte of a near return address
   d_return : (v : ℕ) → 66 ≤ t.registers.sp → HoldsWord t.cells r0.registers.ss t.registers.sp v → HoldsWord d w.choice.stack_segment (saved_at r f + 2) v
@@ -178,9 +192,9 @@ module _ (w : World) (caller : Site) (site : Site) (placed : Placed w.machine si
     inner = callee w name unit r live back
 
     -- a fixed byte of the new activation
-    fixed_zone : {P : Type 0} (place byte : ℕ) → inner.fixed place ≡ Some byte → (place ≡ base + saved_at r f → f.bp % 256 ≡ byte → P) → (place ≡ base + saved_at r f + 1 → f.bp / 256 ≡ byte → P) → (r.far ≡ false → place ≡ base + saved_at r f + 2 → back.offset % 256 ≡ byte → P) → (r.far ≡ false → place ≡ base + saved_at r f + 2 + 1 → back.offset / 256 ≡ byte → P) → (live.fixed place ≡ Some byte → P) → P
+    fixed_zone : {P : Type 0} (place byte : ℕ) → inner.fixed place ≡ Some byte → (place ≡ base + saved_at r f → kept_bp r.far f.bp % 256 ≡ byte → P) → (place ≡ base + saved_at r f + 1 → kept_bp r.far f.bp / 256 ≡ byte → P) → (r.far ≡ false → place ≡ base + saved_at r f + 2 → back.offset % 256 ≡ byte → P) → (r.far ≡ false → place ≡ base + saved_at r f + 2 + 1 → back.offset / 256 ≡ byte → P) → (live.fixed place ≡ Some byte → P) → P
     fixed_zone {P} place byte known low high first second other =
-        with_fixed_cases (fixed_return r.far live.fixed (base + saved_at r f + 2) back.offset) (base + saved_at r f) f.bp place byte known low high (λ z. by r.far refl z)
+        with_fixed_cases (fixed_return r.far live.fixed (base + saved_at r f + 2) back.offset) (base + saved_at r f) (kept_bp r.far f.bp) place byte known low high (λ z. by r.far refl z)
       where
         by : (far : Bool) → r.far ≡ far → fixed_return far live.fixed (base + saved_at r f + 2) back.offset place ≡ Some byte → P
         by true is z = other z
@@ -231,8 +245,8 @@ module _ (w : World) (caller : Site) (site : Site) (placed : Placed w.machine si
         let sp = entry_sp in
         let below = entry_below in
         fixed_zone place byte known
-        (λ z q. ap d z ∙ low_there d w.choice.stack_segment (saved_at r f) f.bp (omega arith) saved ∙ ap (λ n. Known n) q)
-        (λ z q. ap d z ∙ high_there d w.choice.stack_segment (saved_at r f) f.bp (omega arith) (omega arith) saved ∙ ap (λ n. Known n) q)
+        (λ z q. ap d z ∙ low_there d w.choice.stack_segment (saved_at r f) (kept_bp r.far f.bp) (omega arith) saved ∙ ap (λ n. Known n) q)
+        (λ z q. ap d z ∙ high_there d w.choice.stack_segment (saved_at r f) (kept_bp r.far f.bp) (omega arith) (omega arith) saved ∙ ap (λ n. Known n) q)
         (λ is z q. ap d (z ∙ (omega arith)) ∙ low_there d w.choice.stack_segment (saved_at r f + 2) back.offset (omega arith) (returned is) ∙ ap (λ n. Known n) q)
         (λ is z q. ap d (z ∙ (omega arith)) ∙ high_there d w.choice.stack_segment (saved_at r f + 2) back.offset (omega arith) (omega arith) (returned is) ∙ ap (λ n. Known n) q)
         (λ z. d_kept place enough (fixed_kept w caller live fits s r0 place byte a z) ∙ a.fixed place byte z)
@@ -252,7 +266,7 @@ module _ (w : World) (caller : Site) (site : Site) (placed : Placed w.machine si
         by false h = h.0 ∙ a.records
 
     -- the machine stands for the activation
-    pub begun_represents : (n ip : ℕ) → 66 ≤ t.registers.sp → (w.program.overlaid name ≡ true → s.flag ≡ true) → (b : Begun w.machine w.framed site.segment site.code site.at site.labels placed n ip r.locals t) → Represents w inner (with_cells s (opened w.choice r f vs s.cells)) (with_memory t b.registers d)
+    pub begun_represents : (n ip : ℕ) → 66 ≤ t.registers.sp → (w.program.overlaid name ≡ true → s.flag ≡ true) → (b : Begun w.machine w.framed site.segment site.code site.at site.labels placed r.far n ip r.locals t) → Represents w inner (with_cells s (opened w.choice r f vs s.cells)) (with_memory t b.registers d)
     begun_represents n ip enough admitted b =
         let saved = saved_is in
         let y = room in

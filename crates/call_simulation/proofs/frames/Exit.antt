@@ -17,20 +17,19 @@ use Rattle.resident_machine.specs.machine_lines.Steps.{Owed, Leads}
 use Rattle.resident_machine.specs.machine_lines.Straight.{MayWrite, ones, IsAt}
 use Rattle.resident_machine.specs.machine_lines.Words.{HoldsWord}
 use Rattle.resident_machine.proofs.machine_lines.Steps.{leads_on}
-use Rattle.code_templates.specs.code_lines.Addresses.{Style, Plain}
 use Rattle.code_templates.specs.code_lines.Lines.{given, leave_frame, return_code, epilogue}
 use Rattle.statement_simulation.proofs.expressions.Loads.{ones_front, ones_back}
 use Rattle.statement_simulation.proofs.expressions.States.{keeps_same}
 use Rattle.statement_simulation.specs.flow.Sites.{World, Site, Live, Fits, IsFlag, Represents}
 use Rattle.statement_simulation.proofs.flow.States.{flag_kept, represents_keeps}
-use Rattle.call_simulation.specs.frames.Callee.{Back, saved_at, with_fixed, fixed_return, with_return, callee, IsPairedAt, HoldsResult}
+use Rattle.call_simulation.specs.frames.Callee.{Back, saved_at, kept_bp, with_fixed, fixed_return, with_return, callee, IsPairedAt, HoldsResult}
 use Rattle.call_simulation.specs.frames.Chain.{IsChained}
 use Rattle.call_simulation.specs.frames.Moves.{Returned}
 use Rattle.call_simulation.proofs.frames.Chains.{framed_there}
 use Rattle.call_simulation.proofs.frames.Entry.{four_links}
 use Rattle.call_simulation.proofs.frames.Fixed.{with_fixed_other, with_fixed_low, with_fixed_high, holds_there}
 use Rattle.call_simulation.proofs.frames.Given.{given_run}
-use Rattle.call_simulation.proofs.frames.Leave.{back_in, service_in, back_free, back_other, back_beside, near_back, far_back, pair_free, pair_other, frame_left, near_returns, far_returns}
+use Rattle.call_simulation.proofs.frames.Leave.{back_in, service_in, back_free, back_other, back_beside, near_back, far_back, pair_free, pair_other, frame_back, near_returns, far_returns}
 use Rattle.call_simulation.proofs.frames.Opened.{active_closed, closed_outer}
 
 holds_same : (bytes : List ℕ) (g h : Registers) → h.ax ≡ g.ax → h.dx ≡ g.dx → HoldsResult bytes g → HoldsResult bytes h
@@ -89,7 +88,7 @@ module _ (w : World) (caller : Site) (site : Site) (live : Live) (fits : Fits w 
       let y = room in
       let z = deep in
       let four = four_links r.far in
-      with_fixed_other (fixed_return r.far live.fixed return_at back.offset) (16 * ss + saved_at r f) f.bp place (λ e. let o = outer (omega arith) in absurd (omega arith)) (λ e. let o = outer (omega arith) in absurd (omega arith)) ∙ by r.far (four_links r.far)
+      with_fixed_other (fixed_return r.far live.fixed return_at back.offset) (16 * ss + saved_at r f) (kept_bp r.far f.bp) place (λ e. let o = outer (omega arith) in absurd (omega arith)) (λ e. let o = outer (omega arith) in absurd (omega arith)) ∙ by r.far (four_links r.far)
     where
       by : (far : Bool) → 4 ≤ link_bytes r.far → fixed_return far live.fixed return_at back.offset place ≡ live.fixed place
       by true four = refl
@@ -100,15 +99,15 @@ module _ (w : World) (caller : Site) (site : Site) (live : Live) (fits : Fits w 
   live_outer : (place byte : ℕ) → live.fixed place ≡ Some byte → IsOuter place
   live_outer place byte e low = fits.above place byte e low
 
-  saved_holds : (c : Cells) → ((place byte : ℕ) → inner.fixed place ≡ Some byte → c place ≡ Known byte) → HoldsWord c ss (saved_at r f) f.bp
+  saved_holds : (c : Cells) → ((place byte : ℕ) → inner.fixed place ≡ Some byte → c place ≡ Known byte) → HoldsWord c ss (saved_at r f) (kept_bp r.far f.bp)
   saved_holds c known =
       let t = top in
       let i = inside in
       let y = deep in
       let four = four_links r.far in
-      holds_there c ss (saved_at r f) f.bp (omega arith) (omega arith)
-      (known (16 * ss + saved_at r f) (f.bp % 256) (with_fixed_low (fixed_return r.far live.fixed return_at back.offset) (16 * ss + saved_at r f) f.bp))
-      (known (16 * ss + saved_at r f + 1) (f.bp / 256) (with_fixed_high (fixed_return r.far live.fixed return_at back.offset) (16 * ss + saved_at r f) f.bp))
+      holds_there c ss (saved_at r f) (kept_bp r.far f.bp) (omega arith) (omega arith)
+      (known (16 * ss + saved_at r f) (kept_bp r.far f.bp % 256) (with_fixed_low (fixed_return r.far live.fixed return_at back.offset) (16 * ss + saved_at r f) (kept_bp r.far f.bp)))
+      (known (16 * ss + saved_at r f + 1) (kept_bp r.far f.bp / 256) (with_fixed_high (fixed_return r.far live.fixed return_at back.offset) (16 * ss + saved_at r f) (kept_bp r.far f.bp)))
 
   return_holds : (c : Cells) → r.far ≡ false → ((place byte : ℕ) → inner.fixed place ≡ Some byte → c place ≡ Known byte) → HoldsWord c ss (saved_at r f + 2) back.offset
   return_holds c near known =
@@ -118,8 +117,8 @@ module _ (w : World) (caller : Site) (site : Site) (live : Live) (fits : Fits w 
       let link : link_bytes r.far ≡ 4 = ap link_bytes near in
       let at_return : 16 * ss + (saved_at r f + 2) ≡ return_at = omega arith in
       let both : fixed_return r.far live.fixed return_at back.offset ≡ with_fixed live.fixed return_at back.offset = ap (λ far. fixed_return far live.fixed return_at back.offset) near in
-      let low = with_fixed_other (fixed_return r.far live.fixed return_at back.offset) (16 * ss + saved_at r f) f.bp return_at (λ e. absurd (omega arith)) (λ e. absurd (omega arith)) ∙ ap (λ fixed. fixed return_at) both ∙ with_fixed_low live.fixed return_at back.offset in
-      let high = with_fixed_other (fixed_return r.far live.fixed return_at back.offset) (16 * ss + saved_at r f) f.bp (return_at + 1) (λ e. absurd (omega arith)) (λ e. absurd (omega arith)) ∙ ap (λ fixed. fixed (return_at + 1)) both ∙ with_fixed_high live.fixed return_at back.offset in
+      let low = with_fixed_other (fixed_return r.far live.fixed return_at back.offset) (16 * ss + saved_at r f) (kept_bp r.far f.bp) return_at (λ e. absurd (omega arith)) (λ e. absurd (omega arith)) ∙ ap (λ fixed. fixed return_at) both ∙ with_fixed_low live.fixed return_at back.offset in
+      let high = with_fixed_other (fixed_return r.far live.fixed return_at back.offset) (16 * ss + saved_at r f) (kept_bp r.far f.bp) (return_at + 1) (λ e. absurd (omega arith)) (λ e. absurd (omega arith)) ∙ ap (λ fixed. fixed (return_at + 1)) both ∙ with_fixed_high live.fixed return_at back.offset in
       holds_there c ss (saved_at r f + 2) back.offset (omega arith) (omega arith)
       (ap c at_return ∙ known return_at (back.offset % 256) low)
       (ap (λ n. c (n + 1)) at_return ∙ known (return_at + 1) (back.offset / 256) high)
@@ -328,8 +327,13 @@ module _ (w : World) (caller : Site) (site : Site) (live : Live) (fits : Fits w 
 
   -- ## All of them
 
-  style_plain : (style : Style) → style ≡ Plain
-  style_plain Plain = refl
+  -- the caller's link lies above its BP
+  small_bp : f.bp < 65535
+  small_bp =
+      let link = fits.suits.link in
+      let small = fits.suits.link_small in
+      let four = four_links caller.context.far in
+      omega arith
 
   came_back : (k : ℕ) (t1 : ResidentState) (bytes : List ℕ) → (r.far ≡ false → back.segment ≡ site.segment) → StandsToReturn t1 → HoldsResult bytes t1.registers → ((place : ℕ) → (IsPairedAt r.far return_at place → ⊥) → MayWrite r0.cells w.machine.installed place → IsTrue (is_free (t1.cells place))) → IsAt site.segment (site.at k) t1 → Stands (IsSpelledAt site.code) site.at site.labels k (ones (return_code r.far r.arguments ∷ [])) → (end : ResidentState) × Leads w.machine w.framed 1 t1 end × Came t1 end bytes
   came_back k t1 bytes same h holds free here stands = by r.far refl
@@ -339,29 +343,32 @@ module _ (w : World) (caller : Site) (site : Site) (live : Live) (fits : Fits w 
       by false e = near_came k t1 bytes e (same e) h holds here (subst (λ far. Stands (IsSpelledAt site.code) site.at site.labels k (ones (return_code far r.arguments ∷ []))) e stands)
 
   -- behind the result, the frame and the return
-  left_by : (m k : ℕ) (t0 t : ResidentState) (bytes : List ℕ) → (count : ℕ) → count ≤ m → Leads w.machine w.framed count t0 t → (r.far ≡ false → back.segment ≡ site.segment) → (u : State) → Represents w inner u t → HoldsResult bytes t.registers → (s.flag ≡ true → u.flag ≡ true) → ((place : ℕ) → (IsPairedAt r.far return_at place → ⊥) → MayWrite r0.cells w.machine.installed place → IsTrue (is_free (t.cells place))) → t.cells ≡ t0.cells → t.input ≡ t0.input → IsAt site.segment (site.at k) t → Stands (IsSpelledAt site.code) site.at site.labels k (ones (leave_frame Plain ++ (return_code r.far r.arguments ∷ []))) → Returned w live r back (m + 3) u t0 bytes
+  left_by : (m k : ℕ) (t0 t : ResidentState) (bytes : List ℕ) → (count : ℕ) → count ≤ m → Leads w.machine w.framed count t0 t → (r.far ≡ false → back.segment ≡ site.segment) → (u : State) → Represents w inner u t → HoldsResult bytes t.registers → (s.flag ≡ true → u.flag ≡ true) → ((place : ℕ) → (IsPairedAt r.far return_at place → ⊥) → MayWrite r0.cells w.machine.installed place → IsTrue (is_free (t.cells place))) → t.cells ≡ t0.cells → t.input ≡ t0.input → IsAt site.segment (site.at k) t → Stands (IsSpelledAt site.code) site.at site.labels k (ones (leave_frame r.far ++ (return_code r.far r.arguments ∷ []))) → Returned w live r back (m + length (leave_frame r.far ++ (return_code r.far r.arguments ∷ []))) u t0 bytes
   left_by m k t0 t bytes count few leads same u b holds stays free same_cells same_input here stands =
       let y = deep in
       let tp = top in
       let bp = b.active.bp in
       let four = four_links r.far in
+      let kept = kept_bp r.far f.bp in
+      let leave = leave_frame r.far in
+      let last = return_code r.far r.arguments ∷ [] in
       let word1 = saved_holds t.cells b.fixed in
-      let word2 = subst (λ z. HoldsWord t.cells z (saved_at r f) f.bp) (sym b.active.ss) word1 in
-      let word3 = subst (λ o. HoldsWord t.cells t.registers.ss o f.bp) (sym b.active.bp) word2 in
-      let l = frame_left w.machine w.framed site.segment site.code site.at site.labels fits_inner.placed k f.bp t word3 (omega arith) (omega arith) here (stands.0, (stands.1.0, tt)) in
-      let g1 = record (at_offset t.registers (site.at (k + 1 + 1))) { sp = t.registers.bp + 2; bp = f.bp } in
-      let t1 = with_memory t g1 t.cells in
-      let there : k + 2 ≡ k + 1 + 1 = omega arith in
-      let here1 = subst (λ n. IsAt site.segment (site.at n) t1) there l.here in
-      let to_return : StandsToReturn t1 = record { sp = ap (λ n. n + 2) b.active.bp; ss_is = b.active.ss; bp = refl; fixed = b.fixed; records = b.records } in
-      let c = came_back (k + 1 + 1) t1 bytes same to_return (holds_same bytes t.registers g1 refl refl holds) free here1 stands.1.1 in
+      let word2 = subst (λ z. HoldsWord t.cells z (saved_at r f) kept) (sym b.active.ss) word1 in
+      let word3 = subst (λ o. HoldsWord t.cells t.registers.ss o kept) (sym b.active.bp) word2 in
+      let front = ones_front (IsSpelledAt site.code) site.at site.labels k leave last stands in
+      let behind = ones_back (IsSpelledAt site.code) site.at site.labels k leave last stands in
+      let l = frame_back w.machine w.framed site.segment site.code site.at site.labels fits_inner.placed r.far k f.bp t word3 small_bp (omega arith) (omega arith) here front in
+      let t1 = with_memory t l.registers t.cells in
+      let to_return : StandsToReturn t1 = record { sp = l.sp ∙ ap (λ n. n + 2) b.active.bp; ss_is = l.ss ∙ b.active.ss; bp = l.bp; fixed = b.fixed; records = b.records } in
+      let c = came_back (k + length leave) t1 bytes same to_return (holds_same bytes t.registers l.registers l.ax l.dx holds) free l.here behind in
       let came = c.2 in
-      let came_t : Came t c.0 bytes = record { here = came.here; sp = came.sp; bp = came.bp; ss_is = came.ss_is; ds_is = came.ds_is; direction = came.direction; holds = came.holds; bytes_are = came.bytes_are; freed = came.freed; records = came.records; input = came.input; taken = came.taken; out = came.out; err = came.err } in
+      let came_t : Came t c.0 bytes = record { here = came.here; sp = came.sp; bp = came.bp; ss_is = came.ss_is ∙ l.ss; ds_is = came.ds_is ∙ l.ds; direction = came.direction ∙ l.direction; holds = came.holds; bytes_are = came.bytes_are; freed = came.freed; records = came.records; input = came.input; taken = came.taken; out = came.out; err = came.err } in
+      let size = length-append leave last in
       record {
-        count = count + (2 + 1);
+        count = count + (length leave + 1);
         few = omega (arith, few);
         end = c.0;
-        leads = leads_on w.machine w.framed count (2 + 1) t0 t c.0 leads (leads_on w.machine w.framed 2 1 t t1 c.0 l.leads c.1);
+        leads = leads_on w.machine w.framed count (length leave + 1) t0 t c.0 leads (leads_on w.machine w.framed (length leave) 1 t t1 c.0 l.leads c.1);
         here = came.here;
         stands = came_represents u t c.0 bytes b came_t stays free;
         holds = came.holds;
@@ -373,7 +380,7 @@ module _ (w : World) (caller : Site) (site : Site) (live : Live) (fits : Fits w 
   exit_run k u t bytes same sized e b stays free here stands =
       let x = site.context in
       let gs = given x r.result in
-      let ls = leave_frame x.style ++ (return_code r.far r.arguments ∷ []) in
+      let ls = leave_frame r.far ++ (return_code r.far r.arguments ∷ []) in
       let size = length-append gs ls in
       let sp = b.sp in
       let y = deep in
@@ -381,8 +388,5 @@ module _ (w : World) (caller : Site) (site : Site) (live : Live) (fits : Fits w 
       let t1 = with_memory t h.registers t.cells in
       let b1 = represents_keeps w site inner fits_inner u t h.registers t.cells b (keeps_same t.registers h.registers t.cells h.stays.sp h.stays.bp h.stays.ss h.stays.ds h.stays.direction) in
       let behind = ones_back (IsSpelledAt site.code) site.at site.labels k gs ls stands in
-      let plain = style_plain x.style in
-      let behind1 = subst (λ style. Stands (IsSpelledAt site.code) site.at site.labels (k + length gs) (ones (leave_frame style ++ (return_code r.far r.arguments ∷ [])))) plain behind in
-      let three : length ls ≡ 3 = ap (λ style. length (leave_frame style ++ (return_code r.far r.arguments ∷ []))) plain in
-      let whole : length gs + 3 ≡ length (gs ++ ls) = omega arith in
-      subst (λ n. Returned w live r back n u t bytes) whole (left_by (length gs) (k + length gs) t t1 bytes h.count h.few h.leads same u b1 h.holds stays free refl refl h.here behind1)
+      let whole : length gs + length ls ≡ length (gs ++ ls) = omega arith in
+      subst (λ n. Returned w live r back n u t bytes) whole (left_by (length gs) (k + length gs) t t1 bytes h.count h.few h.leads same u b1 h.holds stays free refl refl h.here behind)

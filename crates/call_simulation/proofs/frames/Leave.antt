@@ -1,10 +1,14 @@
 -- A routine is left: its frame is taken away, and it returns, near or far.
-use Rattle.std.proofs.Common.{◌≡◌, ◌≢◌, ℕ, zero, suc, ◌+◌, ◌*◌, ◌/◌, ◌%◌, ◌<◌, ◌≤◌, ◌==◌, Bool, true, false, List, [], ◌∷◌, Ok, Err, arith, refl, sym, ap, subst, ◌∙◌, ⊎_elim}
+use Rattle.std.proofs.Common.{◌≡◌, ◌≢◌, ℕ, zero, suc, ◌+◌, ◌*◌, ◌/◌, ◌%◌, ◌<◌, ◌≤◌, ◌==◌, Bool, true, false, List, [], ◌∷◌, length, Ok, Err, arith, refl, sym, ap, subst, ◌∙◌, ⊎_elim}
 use Rattle.std.specs.Prelude.{IsTrue, ◌||◌, if◌then◌else◌}
 use Rattle.std.proofs.lemmas.Bool.{cases_lt, eq-eqb, ne_eqb}
+use Rattle.x86_table.specs.declared.instr.Instr.TheVariants as instr
+use Rattle.x86_table.specs.declared.instr.Width.TheVariants as width
+use Rattle.x86_table.specs.declared.operand.WordReg.TheVariants as word
 use Rattle.x86_table.specs.Standing.{IsSpelledAt, Stands}
 use Rattle.cpu_8086.specs.declared.registers.Registers.{Registers}
-use Rattle.cpu_8086.specs.Access.{Done, FarReturn, raised, read_word, at_offset, word_then}
+use Rattle.cpu_8086.specs.Access.{Done, FarReturn, raised, read_word, at_offset, word_then, put_word}
+use Rattle.cpu_8086.specs.Arithmetic.{difference_of}
 use Rattle.cpu_8086.specs.Effect.{act}
 use Rattle.cpu_8086.specs.Memory.{address, next_offset, word_of}
 use Rattle.resident_machine.specs.Astray.{ReturnsElsewhere}
@@ -14,14 +18,13 @@ use Rattle.resident_machine.specs.Effect.{Outcome, with_memory, blurred, taken_p
 use Rattle.resident_machine.specs.Program.{Segment, Image, Overlay, Program}
 use Rattle.resident_machine.specs.State.{Record, ResidentState, Service, NoService, AtReturn}
 use Rattle.resident_machine.specs.machine_lines.Steps.{ReadsAbove, Owed, Moves, Leads}
-use Rattle.resident_machine.specs.machine_lines.Straight.{ones, Placed, IsAt, Carried}
+use Rattle.resident_machine.specs.machine_lines.Straight.{ones, registers_past, Placed, IsAt, Carried}
 use Rattle.resident_machine.specs.machine_lines.Words.{HoldsWord}
-use Rattle.resident_machine.proofs.machine_lines.Steps.{nothing_owed}
+use Rattle.resident_machine.proofs.machine_lines.Steps.{leads_on, nothing_owed}
 use Rattle.resident_machine.proofs.machine_lines.Straight.{line, plain_goes, standing, past_line, same_stack}
 use Rattle.resident_machine.proofs.machine_lines.Words.{word_read, low_known, high_known, offset_above}
-use Rattle.code_templates.specs.code_lines.Addresses.{Plain}
 use Rattle.code_templates.specs.code_lines.Lines.{leave_frame, return_code}
-use Rattle.call_simulation.specs.frames.Callee.{IsPairedAt}
+use Rattle.call_simulation.specs.frames.Callee.{kept_bp, IsPairedAt}
 
 -- ## Bytes that a far return leaves
 
@@ -138,11 +141,11 @@ retf_tree g (suc n) = refl
 
 module _ (p : Program) (framed : Bool) (cs : Segment) (code : List ℕ) (at labels : ℕ → ℕ) (pl : Placed p cs code at) where
   -- SP is BP, and BP the word there
-  pub frame_left : (k v : ℕ) (t : ResidentState) → HoldsWord t.cells t.registers.ss t.registers.bp v → 64 ≤ t.registers.bp → t.registers.bp + 2 < 65536 → IsAt cs (at k) t → Stands (IsSpelledAt code) at labels k (ones (leave_frame Plain)) → Carried p framed cs 2 (at (k + 2)) t (record (at_offset t.registers (at (k + 1 + 1))) { sp = t.registers.bp + 2; bp = v }) t.cells
+  pub frame_left : (k v : ℕ) (t : ResidentState) → HoldsWord t.cells t.registers.ss t.registers.bp v → 64 ≤ t.registers.bp → t.registers.bp + 2 < 65536 → IsAt cs (at k) t → Stands (IsSpelledAt code) at labels k (ones (leave_frame false)) → Carried p framed cs 2 (at (k + 2)) t (record (at_offset t.registers (at (k + 1 + 1))) { sp = t.registers.bp + 2; bp = v }) t.cells
   unfolding act word_then
   frame_left k v t holds room top here s =
       let g = t.registers in
-      let c = line p framed cs code at labels pl k (leave_frame Plain) t refl here s (
+      let c = line p framed cs code at labels pl k (leave_frame false) t refl here s (
         low_known t.cells g.ss g.bp v holds,
         offset_above g.ss g.bp g.bp (omega arith) (omega arith) room,
         (high_known t.cells g.ss g.bp v holds, offset_above g.ss g.bp (next_offset g.bp) (omega arith) (omega arith) room, tt),
@@ -150,6 +153,56 @@ module _ (p : Program) (framed : Bool) (cs : Segment) (code : List ℕ) (at labe
       let whole : (g.bp + 2) % 65536 ≡ g.bp + 2 = omega arith in
       let d = subst (λ n. Carried p framed cs 2 (at (k + 2)) t (record (at_offset g (at (k + 1 + 1))) { sp = (g.bp + 2) % 65536; bp = n }) t.cells) (word_read t.cells g.ss g.bp v holds) c in
       subst (λ n. Carried p framed cs 2 (at (k + 2)) t (record (at_offset g (at (k + 1 + 1))) { sp = n; bp = v }) t.cells) whole d
+
+  -- what the last lines of a frame come to
+  pub record FrameLeft (n k caller : ℕ) (t : ResidentState) : Type 0 where
+    pub registers : Registers
+    pub leads : Leads p framed n t (with_memory t registers t.cells)
+    pub here : IsAt cs (at k) (with_memory t registers t.cells)
+    pub sp : registers.sp ≡ t.registers.bp + 2
+    pub bp : registers.bp ≡ caller
+    pub ss : registers.ss ≡ t.registers.ss
+    pub ds : registers.ds ≡ t.registers.ds
+    pub direction : registers.direction ≡ t.registers.direction
+    pub ax : registers.ax ≡ t.registers.ax
+    pub dx : registers.dx ≡ t.registers.dx
+
+  unmarked_is : (bp : ℕ) → bp < 65535 → (difference_of width.Word (bp + 1) 1 false).value ≡ bp
+  unfolding difference_of
+  unmarked_is bp small = omega arith
+
+  -- a far routine takes the mark off BP
+  unmarks_run : (k bp : ℕ) (t : ResidentState) → bp < 65535 → t.registers.bp ≡ bp + 1 → IsAt cs (at k) t → Stands (IsSpelledAt code) at labels k (ones (instr.Dec word.Bp ∷ [])) → (g : Registers) × Carried p framed cs 1 (at (k + 1)) t g t.cells × (g.bp ≡ bp) × (g.sp ≡ t.registers.sp) × (g.ss ≡ t.registers.ss) × (g.ds ≡ t.registers.ds) × (g.direction ≡ t.registers.direction) × (g.ax ≡ t.registers.ax) × (g.dx ≡ t.registers.dx)
+  unfolding act word_then put_word
+  unmarks_run k bp t small marked here s =
+      let c = line p framed cs code at labels pl k (instr.Dec word.Bp ∷ []) t refl here s tt in
+      (registers_past at k (instr.Dec word.Bp ∷ []) t.registers t.cells, c, ap (λ z. (difference_of width.Word z 1 false).value) marked ∙ unmarked_is bp small, refl, refl, refl, refl, refl, refl)
+
+  -- SP is above the link, and BP is the caller's again
+  pub frame_back : (far : Bool) (k bp : ℕ) (t : ResidentState) → HoldsWord t.cells t.registers.ss t.registers.bp (kept_bp far bp) → bp < 65535 → 64 ≤ t.registers.bp → t.registers.bp + 2 < 65536 → IsAt cs (at k) t → Stands (IsSpelledAt code) at labels k (ones (leave_frame far)) → FrameLeft (length (leave_frame far)) (k + length (leave_frame far)) bp t
+  frame_back false k bp t holds small room top here s =
+      let l = frame_left k bp t holds room top here s in
+      record { registers = record (at_offset t.registers (at (k + 1 + 1))) { sp = t.registers.bp + 2; bp = bp }; leads = l.leads; here = l.here; sp = refl; bp = refl; ss = refl; ds = refl; direction = refl; ax = refl; dx = refl }
+  frame_back true k bp t holds small room top here s =
+      let l = frame_left k (bp + 1) t holds room top here (s.0, (s.1.0, tt)) in
+      let g : Registers = record (at_offset t.registers (at (k + 1 + 1))) { sp = t.registers.bp + 2; bp = bp + 1 } in
+      let t1 = with_memory t g t.cells in
+      let there : k + 2 ≡ k + 1 + 1 = omega arith in
+      let three : k + 1 + 1 + 1 ≡ k + 3 = omega arith in
+      let here1 = subst (λ n. IsAt cs (at n) t1) there l.here in
+      let u = unmarks_run (k + 1 + 1) bp t1 small refl here1 (s.1.1.0, tt) in
+      record {
+        registers = u.0;
+        leads = leads_on p framed 2 1 t t1 (with_memory t u.0 t.cells) l.leads u.1.leads;
+        here = subst (λ n. IsAt cs (at n) (with_memory t u.0 t.cells)) three u.1.here;
+        sp = u.3;
+        bp = u.2;
+        ss = u.4;
+        ds = u.5;
+        direction = u.6;
+        ax = u.7;
+        dx = u.8;
+      }
 
   -- a near return
   abbrev pub near_back : Registers → ℕ → ℕ → Registers

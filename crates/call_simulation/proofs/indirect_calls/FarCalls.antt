@@ -17,5 +17,5 @@ pub far_calls : (w : World) (site : Site) (live : Live) → Fits w site live →
 far_calls w site live fits key place bound most c chained = by c.site.segment refl c.enters c.overlaid
   where
     by : (to : Segment) → c.site.segment ≡ to → EntersAt w.machine place to (c.site.at 0) → IsOverlaid to (w.program.overlaid key.unit) → Callable w site live key (call_far place) bound most
-    by (Image number) e enters resident = far_callable w site live fits key c.site c.unit c.routine c.pointer bound most c.has_unit c.has_routine c.made c.ends (λ z. c.far) c.stack c.short c.body place number c.far e enters resident chained
-    by (Overlay number) e enters overlaid = stub_callable w site live fits key c.site c.unit c.routine c.pointer bound most c.has_unit c.has_routine c.made c.ends (λ z. c.far) c.stack c.short c.body place number c.far e enters overlaid chained c.named c.refusals
+    by (Image number) e enters resident = far_callable w site live fits key c.site c.unit c.routine c.pointer bound most c.has_unit c.has_routine c.made c.ends c.even c.stack c.short c.body place number c.far e enters resident chained
+    by (Overlay number) e enters overlaid = stub_callable w site live fits key c.site c.unit c.routine c.pointer bound most c.has_unit c.has_routine c.made c.ends c.even c.stack c.short c.body place number c.far e enters overlaid chained c.named c.refusals

@@ -95,7 +95,7 @@ module _ (w : World) (site : Site) (live : Live) (fits : Fits w site live) (ends
         by false e =
             let few = c.short in
             let reach = through_reached w site live fits s r a n k vs b at size j q l room place first second c.site.segment (c.site.at 0) chained c.enters (asks_flag c.site.segment (w.program.overlaid key.unit) s.flag c.overlaid (and_not (w.program.overlaid key.unit) s.flag e)) call_stands.0.0 call_stands.0.1 in
-            called_flows w site c.site live fits key c.unit c.routine c.pointer c.has_unit c.has_routine c.made c.ends result wanted (j + 1) (λ z. let y = sym c.far ∙ z in absurd (cc)) chained (λ z. c.far) c.stack around s left m turns r a (n + size + 1) vs
+            called_flows w site c.site live fits key c.unit c.routine c.pointer c.has_unit c.has_routine c.made c.ends result wanted (j + 1) (λ z. let y = sym c.far ∙ z in absurd (cc)) chained c.even c.stack around s left m turns r a (n + size + 1) vs
             (subst (λ far. Reaches w live far (record { segment = site.segment; offset = site.at (j + 1) }) c.site.segment (n + size + 1) (c.site.at 0) vs r) (sym c.far) reach) some call_stands.1 (omega (arith, few, paid)) (λ z. let y = sym e ∙ z in absurd (cc)) bound fewer (c.body (j + 1))
         by true e =
             subst (λ o. Goal o) (sym (called-entered w.program w.choice (run w.program w.choice) vs result live.frame u key c.unit c.routine c.has_unit c.has_routine)) (handed (2 * length vs == c.routine.arguments))

@@ -1,5 +1,5 @@
 -- Routines that a statement can call: of its own unit, near or far, and far ones of the image.
-use Rattle.std.proofs.Common.{◌≡◌, ℕ, ◌+◌, ◌≤◌, Bool, true, false, not, List, length, Some, arith, refl, sym, ap, subst, ◌∙◌}
+use Rattle.std.proofs.Common.{◌≡◌, ℕ, ◌+◌, ◌≤◌, Bool, true, false, not, List, length, Some, arith, refl, sym, ap, subst, ◌∙◌, ◌%◌}
 use Rattle.std.specs.Prelude.{IsTrue, ◌&&◌, slice_get}
 use Rattle.x86_table.specs.Standing.{IsSpelledAt, Stands}
 use Rattle.flat_code.specs.declared.memory.Place.{Place}
@@ -29,7 +29,7 @@ never true true h e = absurd (cc)
 never true false h e = let z = h refl in absurd (cc)
 never false y h e = absurd (cc)
 
-module _ (w : World) (site : Site) (live : Live) (fits : Fits w site live) (key : Key) (callee : Site) (unit : UnitCode) (r : Routine) (pointer bound most : ℕ) (has_unit : Some unit ≡ w.program.unit key.unit) (has_routine : Some r ≡ slice_get unit.routines key.number) (made : Made w callee key.unit unit r pointer) (ends : EndsErrors w live callee.context.addresses.error_routine) (all_far : IsTrue w.framed → r.far ≡ true) (stack : HasStack w live.frame r) (short : length (framed_lines callee.context pointer r) ≤ most) (body : (k : ℕ) → BodyFlows w callee key.unit unit r pointer live (record { segment = site.segment; offset = site.at k }) bound) where
+module _ (w : World) (site : Site) (live : Live) (fits : Fits w site live) (key : Key) (callee : Site) (unit : UnitCode) (r : Routine) (pointer bound most : ℕ) (has_unit : Some unit ≡ w.program.unit key.unit) (has_routine : Some r ≡ slice_get unit.routines key.number) (made : Made w callee key.unit unit r pointer) (ends : EndsErrors w live callee.context.addresses.error_routine) (even : IsTrue w.framed → r.locals % 2 ≡ 0) (stack : HasStack w live.frame r) (short : length (framed_lines callee.context pointer r) ≤ most) (body : (k : ℕ) → BodyFlows w callee key.unit unit r pointer live (record { segment = site.segment; offset = site.at k }) bound) where
   -- a routine of the same unit, whose overlays are installed where its code runs
   pub own_callable : (number : ℕ) → callee.segment ≡ site.segment → site.at (site.labels number) ≡ callee.at 0 → (w.program.overlaid key.unit ≡ true → w.program.overlaid live.frame.unit ≡ true) → Callable w site live key (call_own r.far number) bound most
   own_callable number same entry own = record {
@@ -42,7 +42,7 @@ module _ (w : World) (site : Site) (live : Live) (fits : Fits w site live) (key 
     made = made;
     ends = ends;
     near = λ e. sym same;
-    all_far = all_far;
+    even = even;
     stack = stack;
     reaches = λ s t n k vs a admitted b room stands. by r.far s t n k vs a b room stands;
     refused = λ around s t n k m left ip vs a turns b room stands some paid e. absurd (never (w.program.overlaid key.unit) s.flag (λ z. a.set (own z)) e);
@@ -75,7 +75,7 @@ module _ (w : World) (site : Site) (live : Live) (fits : Fits w site live) (key 
     made = made;
     ends = ends;
     near = λ e. let z = sym far ∙ e in absurd (cc);
-    all_far = all_far;
+    even = even;
     stack = stack;
     reaches = λ s t n k vs a admitted b room stands.
         let x = reaches_more w live true (record { segment = site.segment; offset = site.at (k + 1) }) (Image number) (n + 1) (n + 2) (callee.at 0) vs t (omega arith) (far_reached w site live fits s t a n k vs b place (Image number) (callee.at 0) chained room enters tt stands) in

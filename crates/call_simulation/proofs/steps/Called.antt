@@ -62,7 +62,7 @@ suits_of w site name unit r pointer f m linked top =
     let far : link_bytes site.context.far ≡ link_bytes r.far = ap link_bytes m.far in
     record { unit = m.own; names = m.names; link = omega arith; link_small = omega arith; datum = m.datum; vmt = m.vmt; data_segment = m.data_segment; stack_segment = m.stack_segment }
 
-module _ (w : World) (caller : Site) (site : Site) (live : Live) (fits : Fits w caller live) (name : Name) (unit : UnitCode) (r : Routine) (pointer : ℕ) (made : Made w site name unit r pointer) (ends : EndsErrors w live site.context.addresses.error_routine) (result : Option FlatResult) (wanted : HasResultSize result) (j : ℕ) (near : r.far ≡ false → caller.segment ≡ site.segment) (chained : IsTrue w.framed → IsChained w live) (all_far : IsTrue w.framed → r.far ≡ true) (stack : HasStack w live.frame r) (around : Around) (s0 : State) (left m : ℕ) (turns : s0.turns ≡ suc left) (r0 : ResidentState) (a0 : Represents w live s0 r0) (n : ℕ) (vs : List ℕ) (reach : Reaches w live r.far (record { segment = caller.segment; offset = caller.at j }) site.segment n (site.at 0) vs r0) (handed : 2 * length vs ≡ r.arguments) (linked : r.arguments + link_bytes r.far ≤ live.frame.sp) (some : 1 ≤ m) (taken_stands : Stands (IsSpelledAt caller.code) caller.at caller.labels j (ones (taken caller.context result))) (paid : n + 6 + length (framed_lines site.context pointer r) + length (taken caller.context result) ≤ w.rate) where
+module _ (w : World) (caller : Site) (site : Site) (live : Live) (fits : Fits w caller live) (name : Name) (unit : UnitCode) (r : Routine) (pointer : ℕ) (made : Made w site name unit r pointer) (ends : EndsErrors w live site.context.addresses.error_routine) (result : Option FlatResult) (wanted : HasResultSize result) (j : ℕ) (near : r.far ≡ false → caller.segment ≡ site.segment) (chained : IsTrue w.framed → IsChained w live) (even : IsTrue w.framed → r.locals % 2 ≡ 0) (stack : HasStack w live.frame r) (around : Around) (s0 : State) (left m : ℕ) (turns : s0.turns ≡ suc left) (r0 : ResidentState) (a0 : Represents w live s0 r0) (n : ℕ) (vs : List ℕ) (reach : Reaches w live r.far (record { segment = caller.segment; offset = caller.at j }) site.segment n (site.at 0) vs r0) (handed : 2 * length vs ≡ r.arguments) (linked : r.arguments + link_bytes r.far ≤ live.frame.sp) (some : 1 ≤ m) (taken_stands : Stands (IsSpelledAt caller.code) caller.at caller.labels j (ones (taken caller.context result))) (paid : n + 6 + length (framed_lines site.context pointer r) + length (taken caller.context result) ≤ w.rate) where
   abbrev back : Back
   back = record { segment = caller.segment; offset = caller.at j }
 
@@ -120,7 +120,7 @@ module _ (w : World) (caller : Site) (site : Site) (live : Live) (fits : Fits w 
 
   -- ## Error 202
 
-  enough : 66 ≤ reach.end.registers.sp → 0 < r.frame → f.sp < 512 + activation_bytes r → IsAt site.segment (site.at 0) reach.end → Fails w.machine w.framed site.context.addresses.error_routine 6 reach.end 202
+  enough : 66 ≤ reach.end.registers.sp → 0 < r.frame → f.sp < 512 + activation_bytes r → IsAt site.segment (site.at 0) reach.end → Fails w.machine w.framed site.context.addresses.error_routine 7 reach.end 202
   enough room framed_one little here =
       entry_fails w caller site made.placed live fits name unit r back vs s r0 reach.end a reach.entered handed linked 0 made.error room framed_one little here
       (stands_front (IsSpelledAt site.code) site.at site.labels 0 (ones (prologue site.context r)) _ made.stands)
@@ -136,7 +136,7 @@ module _ (w : World) (caller : Site) (site : Site) (live : Live) (fits : Fits w 
       by true sp = let tall = stack.tall one in let shallow = stack.shallow in let h = handed in omega arith
       by false sp = let tall = stack.tall one in let shallow = stack.shallow in let h = handed in omega arith
 
-  refused_errs : (l : ℕ) (x : Fails w.machine w.framed site.context.addresses.error_routine 6 reach.end 202) → Errs w live site.context.addresses.error_routine 202 (record s { turns = l }) (entering reach.end x.registers x.cells site.context.addresses.error_routine)
+  refused_errs : (l : ℕ) (x : Fails w.machine w.framed site.context.addresses.error_routine 7 reach.end 202) → Errs w live site.context.addresses.error_routine 202 (record s { turns = l }) (entering reach.end x.registers x.cells site.context.addresses.error_routine)
   refused_errs l x =
       let e = reach.entered in
       let lower = x.lower in
@@ -169,6 +169,16 @@ module _ (w : World) (caller : Site) (site : Site) (live : Live) (fits : Fits w 
         err = e.err ∙ a.err;
       }
 
+  -- a routine has a line at least
+  framed_some : 1 ≤ length (framed_lines site.context pointer r)
+  framed_some =
+      let home = length site.context.unit.routines in
+      let lines = code_lines site.context (record { home = home; ends = [] }) (home + 1) pointer r.body in
+      let last = Label home ∷ ones (epilogue site.context r) in
+      let whole = length-append (ones (prologue site.context r)) (lines ++ last) in
+      let body = length-append lines last in
+      omega arith
+
   pub refused_flows : 0 < r.frame → f.sp < 512 + activation_bytes r → Flows w caller live around goal_ip s0 r0 (raised 202 s)
   refused_flows one little = by left refl
     where
@@ -181,7 +191,8 @@ module _ (w : World) (caller : Site) (site : Site) (live : Live) (fits : Fits w 
           let few = reach.few in
           let few1 = x.few in
           let work = z.work in
-          let grown = budget_grows w s0.work m (n + 6) (omega arith) some in
+          let size = framed_some in
+          let grown = budget_grows w s0.work m (n + 7) (omega arith) some in
           record {
             count = reach.count + (x.count + z.count);
             end = z.end;
@@ -253,7 +264,7 @@ module _ (w : World) (caller : Site) (site : Site) (live : Live) (fits : Fits w 
     fits_inner = inner_fits w caller site made.placed live fits name unit r back vs s r0 reach.end a reach.entered handed linked room made.error (suits_of w site name unit r pointer f made linked (let sp = a.sp in let top = a.active.top in omega arith))
 
     chained_inner : IsTrue w.framed → IsChained w inner
-    chained_inner e = chained_deeper w caller live fits name unit r back deep (let sp = a.sp in let top = a.active.top in omega arith) (let sp = a.sp in let inside = a.active.inside in let ss = a.active.ss in omega arith) (all_far e) (chained e)
+    chained_inner e = chained_deeper w caller live fits name unit r back deep (let sp = a.sp in let top = a.active.top in omega arith) (let sp = a.sp in let inside = a.active.inside in let ss = a.active.ss in omega arith) (let h = handed in omega arith) (even e) (chained e)
 
     body_flows : Flows w site inner (record { home = length site.context.unit.routines; ends = [] }) (site.at label_at) begun began.end (run w.program w.choice r.body inner.frame begun)
     body_flows =

@@ -1,5 +1,5 @@
 -- What a call comes to, by the tests that it begins with.
-use Rattle.std.proofs.Common.{◌≡◌, ℕ, suc, ◌+◌, ◌*◌, ◌<◌, ◌≤◌, ◌==◌, Bool, true, false, not, List, length, Option, Some, arith, refl, sym, ap, subst, ◌∙◌, ⊎_elim, eqb-true}
+use Rattle.std.proofs.Common.{◌≡◌, ℕ, suc, ◌+◌, ◌*◌, ◌<◌, ◌≤◌, ◌==◌, Bool, true, false, not, List, length, Option, Some, arith, refl, sym, ap, subst, ◌∙◌, ⊎_elim, eqb-true, ◌%◌}
 use Rattle.std.specs.Prelude.{IsTrue, if◌then◌else◌, ◌&&◌, nat_lt, slice_get}
 use Rattle.std.proofs.lemmas.Bool.{cases_lt, lt-ltb, le-ltb}
 use Rattle.common_values.specs.behaviour.Seen.{Undefined}
@@ -28,7 +28,7 @@ and_not true true e h = refl
 and_not true false e h = absurd (cc)
 and_not false y e h = absurd (cc)
 
-module _ (w : World) (caller : Site) (site : Site) (live : Live) (fits : Fits w caller live) (name : Name) (unit : UnitCode) (r : Routine) (pointer : ℕ) (made : Made w site name unit r pointer) (ends : EndsErrors w live site.context.addresses.error_routine) (result : Option FlatResult) (wanted : HasResultSize result) (j : ℕ) (near : r.far ≡ false → caller.segment ≡ site.segment) (chained : IsTrue w.framed → IsChained w live) (all_far : IsTrue w.framed → r.far ≡ true) (stack : HasStack w live.frame r) (around : Around) (s0 : State) (left m : ℕ) (turns : s0.turns ≡ suc left) (r0 : ResidentState) (a0 : Represents w live s0 r0) (n : ℕ) (vs : List ℕ) (reach : Reaches w live r.far (record { segment = caller.segment; offset = caller.at j }) site.segment n (site.at 0) vs r0) (some : 1 ≤ m) (taken_stands : Stands (IsSpelledAt caller.code) caller.at caller.labels j (ones (taken caller.context result))) (paid : n + 6 + length (framed_lines site.context pointer r) + length (taken caller.context result) ≤ w.rate) where
+module _ (w : World) (caller : Site) (site : Site) (live : Live) (fits : Fits w caller live) (name : Name) (unit : UnitCode) (r : Routine) (pointer : ℕ) (made : Made w site name unit r pointer) (ends : EndsErrors w live site.context.addresses.error_routine) (result : Option FlatResult) (wanted : HasResultSize result) (j : ℕ) (near : r.far ≡ false → caller.segment ≡ site.segment) (chained : IsTrue w.framed → IsChained w live) (even : IsTrue w.framed → r.locals % 2 ≡ 0) (stack : HasStack w live.frame r) (around : Around) (s0 : State) (left m : ℕ) (turns : s0.turns ≡ suc left) (r0 : ResidentState) (a0 : Represents w live s0 r0) (n : ℕ) (vs : List ℕ) (reach : Reaches w live r.far (record { segment = caller.segment; offset = caller.at j }) site.segment n (site.at 0) vs r0) (some : 1 ≤ m) (taken_stands : Stands (IsSpelledAt caller.code) caller.at caller.labels j (ones (taken caller.context result))) (paid : n + 6 + length (framed_lines site.context pointer r) + length (taken caller.context result) ≤ w.rate) where
   abbrev f : Frame
   f = live.frame
 
@@ -59,7 +59,7 @@ module _ (w : World) (caller : Site) (site : Site) (live : Live) (fits : Fits w 
     active_goal tested_by =
         ⊎_elim (λ lt. as_if (nat_lt f.sp (activation_bytes r)) true (Over (Undefined 2) s) _ (lt-ltb f.sp (activation_bytes r) lt) (undefined 2))
         (λ room. as_if (nat_lt f.sp (activation_bytes r)) false (Over (Undefined 2) s) _ (le-ltb f.sp (activation_bytes r) room)
-        (activated_flows w caller site live fits name unit r pointer made ends result wanted j near chained all_far stack around s0 left m turns r0 a0 n vs reach handed linked some taken_stands paid room tested_by admitted_by bound fewer body))
+        (activated_flows w caller site live fits name unit r pointer made ends result wanted j near chained even stack around s0 left m turns r0 a0 n vs reach handed linked some taken_stands paid room tested_by admitted_by bound fewer body))
         (cases_lt f.sp (activation_bytes r))
 
     tested_goal : Goal (tested w.program w.choice (run w.program w.choice) name unit r vs result f s)
@@ -79,7 +79,7 @@ module _ (w : World) (caller : Site) (site : Site) (live : Live) (fits : Fits w 
             let little : f.sp < 512 + activation_bytes r = omega (arith, counted, sum, lt) in
             let e = ap (λ b. b && nat_lt (stack_top w.program) (f.sum + r.frame + 512)) (lt-ltb 0 r.frame one) ∙ lt-ltb (stack_top w.program) (f.sum + r.frame + 512) lt in
             as_if (is_too_deep w.program r f.sum) true (raised 202 s) active e
-            (refused_flows w caller site live fits name unit r pointer made ends result wanted j near chained all_far stack around s0 left m turns r0 a0 n vs reach handed linked some taken_stands paid one little)
+            (refused_flows w caller site live fits name unit r pointer made ends result wanted j near chained even stack around s0 left m turns r0 a0 n vs reach handed linked some taken_stands paid one little)
 
         flat_goal : 0 < r.frame → f.sum + r.frame + 512 ≤ stack_top w.program → Goal (tested w.program w.choice (run w.program w.choice) name unit r vs result f s)
         flat_goal one le =
@@ -103,7 +103,7 @@ module _ (w : World) (caller : Site) (site : Site) (live : Live) (fits : Fits w 
       by true e = admitted_goal (eqb-true (2 * length vs) r.arguments e)
       by false e = undefined 1
 
-pub called_flows : (w : World) (caller site : Site) (live : Live) → Fits w caller live → (key : Key) (unit : UnitCode) (r : Routine) (pointer : ℕ) → Some unit ≡ w.program.unit key.unit → Some r ≡ slice_get unit.routines key.number → Made w site key.unit unit r pointer → EndsErrors w live site.context.addresses.error_routine → (result : Option FlatResult) → HasResultSize result → (j : ℕ) → (r.far ≡ false → caller.segment ≡ site.segment) → (IsTrue w.framed → IsChained w live) → (IsTrue w.framed → r.far ≡ true) → HasStack w live.frame r → (around : Around) (s : State) (left m : ℕ) → s.turns ≡ suc left → (r0 : ResidentState) → Represents w live s r0 → (n : ℕ) (vs : List ℕ) → Reaches w live r.far (record { segment = caller.segment; offset = caller.at j }) site.segment n (site.at 0) vs r0 → 1 ≤ m → Stands (IsSpelledAt caller.code) caller.at caller.labels j (ones (taken caller.context result)) → n + 6 + length (framed_lines site.context pointer r) + length (taken caller.context result) ≤ w.rate → ((w.program.overlaid key.unit && not s.flag) ≡ true → Flows w caller live around (caller.at (j + length (taken caller.context result))) s r0 (raised 208 (record s { turns = left; work = s.work + m }))) → (bound : ℕ) → left < bound → BodyFlows w site key.unit unit r pointer live (record { segment = caller.segment; offset = caller.at j }) bound → Flows w caller live around (caller.at (j + length (taken caller.context result))) s r0 (called w.program w.choice (run w.program w.choice) vs result live.frame (record s { turns = left; work = s.work + m }) key)
-called_flows w caller site live fits key unit r pointer has_unit has_routine made ends result wanted j near chained all_far stack around s left m turns r0 a n vs reach some taken_stands paid refused bound fewer body =
+pub called_flows : (w : World) (caller site : Site) (live : Live) → Fits w caller live → (key : Key) (unit : UnitCode) (r : Routine) (pointer : ℕ) → Some unit ≡ w.program.unit key.unit → Some r ≡ slice_get unit.routines key.number → Made w site key.unit unit r pointer → EndsErrors w live site.context.addresses.error_routine → (result : Option FlatResult) → HasResultSize result → (j : ℕ) → (r.far ≡ false → caller.segment ≡ site.segment) → (IsTrue w.framed → IsChained w live) → (IsTrue w.framed → r.locals % 2 ≡ 0) → HasStack w live.frame r → (around : Around) (s : State) (left m : ℕ) → s.turns ≡ suc left → (r0 : ResidentState) → Represents w live s r0 → (n : ℕ) (vs : List ℕ) → Reaches w live r.far (record { segment = caller.segment; offset = caller.at j }) site.segment n (site.at 0) vs r0 → 1 ≤ m → Stands (IsSpelledAt caller.code) caller.at caller.labels j (ones (taken caller.context result)) → n + 6 + length (framed_lines site.context pointer r) + length (taken caller.context result) ≤ w.rate → ((w.program.overlaid key.unit && not s.flag) ≡ true → Flows w caller live around (caller.at (j + length (taken caller.context result))) s r0 (raised 208 (record s { turns = left; work = s.work + m }))) → (bound : ℕ) → left < bound → BodyFlows w site key.unit unit r pointer live (record { segment = caller.segment; offset = caller.at j }) bound → Flows w caller live around (caller.at (j + length (taken caller.context result))) s r0 (called w.program w.choice (run w.program w.choice) vs result live.frame (record s { turns = left; work = s.work + m }) key)
+called_flows w caller site live fits key unit r pointer has_unit has_routine made ends result wanted j near chained even stack around s left m turns r0 a n vs reach some taken_stands paid refused bound fewer body =
     subst (λ o. Flows w caller live around (caller.at (j + length (taken caller.context result))) s r0 o) (sym (called-entered w.program w.choice (run w.program w.choice) vs result live.frame (record s { turns = left; work = s.work + m }) key unit r has_unit has_routine))
-    (entered_flows w caller site live fits key.unit unit r pointer made ends result wanted j near chained all_far stack around s left m turns r0 a n vs reach some taken_stands paid refused bound fewer body)
+    (entered_flows w caller site live fits key.unit unit r pointer made ends result wanted j near chained even stack around s left m turns r0 a n vs reach some taken_stands paid refused bound fewer body)

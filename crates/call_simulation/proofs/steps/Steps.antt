@@ -65,7 +65,7 @@ module _ (w : World) (site : Site) (live : Live) (fits : Fits w site live) (ends
       by false e =
           let few = c.short in
           let reach = c.reaches s r n k vs a (and_not (w.program.overlaid key.unit) s.flag e) b room call_stands in
-          called_flows w site c.site live fits key c.unit c.routine c.pointer c.has_unit c.has_routine c.made c.ends result wanted (k + length lines) c.near chained c.all_far c.stack around s left m turns r a (n + 2) vs reach some taken_stands (omega (arith, few, paid)) (λ z. let y = sym e ∙ z in absurd (cc)) bound fewer (c.body (k + length lines))
+          called_flows w site c.site live fits key c.unit c.routine c.pointer c.has_unit c.has_routine c.made c.ends result wanted (k + length lines) c.near chained c.even c.stack around s left m turns r a (n + 2) vs reach some taken_stands (omega (arith, few, paid)) (λ z. let y = sym e ∙ z in absurd (cc)) bound fewer (c.body (k + length lines))
       by true e =
           subst (λ o. Goal o) (sym (called-entered w.program w.choice (run w.program w.choice) vs result live.frame (record s { turns = left; work = s.work + m }) key c.unit c.routine c.has_unit c.has_routine)) (handed (2 * length vs == c.routine.arguments))
         where

@@ -1,5 +1,5 @@
 -- A routine of an overlay is called through its stub.
-use Rattle.std.proofs.Common.{◌≡◌, ℕ, ◌+◌, ◌≤◌, Bool, true, false, not, length, Some, arith, refl, sym, subst, ◌∙◌}
+use Rattle.std.proofs.Common.{◌≡◌, ℕ, ◌+◌, ◌≤◌, Bool, true, false, not, length, Some, arith, refl, sym, subst, ◌∙◌, ◌%◌}
 use Rattle.std.specs.Prelude.{IsTrue, ◌&&◌, slice_get}
 use Rattle.flat_code.specs.declared.memory.Place.{Place}
 use Rattle.flat_code.specs.Program.{Key, Routine, UnitCode}
@@ -20,7 +20,7 @@ not_set x false e = refl
 not_set true true e = absurd (cc)
 not_set false true e = absurd (cc)
 
-module _ (w : World) (site : Site) (live : Live) (fits : Fits w site live) (key : Key) (callee : Site) (unit : UnitCode) (r : Routine) (pointer bound most : ℕ) (has_unit : Some unit ≡ w.program.unit key.unit) (has_routine : Some r ≡ slice_get unit.routines key.number) (made : Made w callee key.unit unit r pointer) (ends : EndsErrors w live callee.context.addresses.error_routine) (all_far : IsTrue w.framed → r.far ≡ true) (stack : HasStack w live.frame r) (short : length (framed_lines callee.context pointer r) ≤ most) (body : (k : ℕ) → BodyFlows w callee key.unit unit r pointer live (record { segment = site.segment; offset = site.at k }) bound) where
+module _ (w : World) (site : Site) (live : Live) (fits : Fits w site live) (key : Key) (callee : Site) (unit : UnitCode) (r : Routine) (pointer bound most : ℕ) (has_unit : Some unit ≡ w.program.unit key.unit) (has_routine : Some r ≡ slice_get unit.routines key.number) (made : Made w callee key.unit unit r pointer) (ends : EndsErrors w live callee.context.addresses.error_routine) (even : IsTrue w.framed → r.locals % 2 ≡ 0) (stack : HasStack w live.frame r) (short : length (framed_lines callee.context pointer r) ≤ most) (body : (k : ℕ) → BodyFlows w callee key.unit unit r pointer live (record { segment = site.segment; offset = site.at k }) bound) where
   pub stub_callable : (place : Place) (number : ℕ) → r.far ≡ true → callee.segment ≡ Overlay number → EntersAt w.machine place (Overlay number) (callee.at 0) → w.program.overlaid key.unit ≡ true → (IsTrue w.framed → IsChained w live) → IsCode w.machine (record { segment = w.machine.error_routine.segment; offset = w.machine.error_routine.offset }) → EndsErrors w live (record { segment = w.machine.error_routine.segment; offset = w.machine.error_routine.offset }) → Callable w site live key (call_far place) bound most
   stub_callable place number far in_overlay enters overlaid chained named refusals = record {
     site = callee;
@@ -32,7 +32,7 @@ module _ (w : World) (site : Site) (live : Live) (fits : Fits w site live) (key 
     made = made;
     ends = ends;
     near = λ e. let z = sym far ∙ e in absurd (cc);
-    all_far = all_far;
+    even = even;
     stack = stack;
     reaches = λ s t n k vs a admitted b room stands.
         let x = far_reached w site live fits s t a n k vs b place (Overlay number) (callee.at 0) chained room enters (admitted overlaid) stands in

@@ -27,6 +27,11 @@ return_bytes far = if far then 4 else 2
 abbrev pub saved_at : Routine → Frame → ℕ
 saved_at r f = f.sp - (r.arguments + link_bytes r.far)
 
+-- the word that a frame keeps: the caller's BP, and 1 more in a far routine
+abbrev pub kept_bp : Bool → ℕ → ℕ
+kept_bp true bp = bp + 1
+kept_bp false bp = bp
+
 -- a word more is fixed, at a linear address
 abbrev pub with_fixed : (ℕ → Option ℕ) → ℕ → ℕ → ℕ → Option ℕ
 with_fixed fixed a v place = if place == a then Some (v % 256) else (if place == a + 1 then Some (v / 256) else fixed place)
@@ -44,7 +49,7 @@ with_return false place back records = records
 abbrev pub callee : World → Name → UnitCode → Routine → Live → Back → Live
 callee w name unit r live back = record {
   frame = frame_of name unit r live.frame;
-  fixed = with_fixed (fixed_return r.far live.fixed (16 * w.choice.stack_segment + saved_at r live.frame + 2) back.offset) (16 * w.choice.stack_segment + saved_at r live.frame) live.frame.bp;
+  fixed = with_fixed (fixed_return r.far live.fixed (16 * w.choice.stack_segment + saved_at r live.frame + 2) back.offset) (16 * w.choice.stack_segment + saved_at r live.frame) (kept_bp r.far live.frame.bp);
   records = with_return r.far (saved_at r live.frame + 2) back live.records;
 }
 

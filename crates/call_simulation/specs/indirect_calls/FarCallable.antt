@@ -1,5 +1,5 @@
 -- When a routine can be called by a far pointer.
-use Rattle.std.specs.Prelude.{◌≡◌, ℕ, ◌≤◌, Bool, true, false, length, Some, slice_get}
+use Rattle.std.specs.Prelude.{◌≡◌, ℕ, ◌≤◌, Bool, true, false, length, Some, slice_get, ◌%◌, IsTrue}
 use Rattle.flat_code.specs.declared.memory.Place.{Place}
 use Rattle.flat_code.specs.Program.{Key, Routine, UnitCode}
 use Rattle.resident_machine.specs.Program.{Segment, Image, Overlay, Program}
@@ -30,6 +30,7 @@ pub record FarCallable (w : World) (caller : Site) (live : Live) (key : Key) (pl
   pub made : Made w site key.unit unit routine pointer
   pub ends : EndsErrors w live site.context.addresses.error_routine
   pub far : routine.far ≡ true
+  pub even : IsTrue w.framed → routine.locals % 2 ≡ 0
   pub stack : HasStack w live.frame routine
   pub enters : EntersAt w.machine place site.segment (site.at 0)
   pub overlaid : IsOverlaid site.segment (w.program.overlaid key.unit)

@@ -1,5 +1,5 @@
 -- When a statement can call a routine.
-use Rattle.std.specs.Prelude.{◌≡◌, ℕ, suc, ◌+◌, ◌≤◌, ◌&&◌, not, true, false, IsTrue, List, length, Some, slice_get}
+use Rattle.std.specs.Prelude.{◌≡◌, ℕ, suc, ◌+◌, ◌≤◌, ◌&&◌, not, true, false, IsTrue, List, length, Some, slice_get, ◌%◌}
 use Rattle.x86_table.specs.declared.line.Line.{Line}
 use Rattle.x86_table.specs.Standing.{IsSpelledAt, Stands}
 use Rattle.flat_code.specs.Calls.{State, raised}
@@ -23,7 +23,7 @@ pub record Callable (w : World) (caller : Site) (live : Live) (key : Key) (lines
   pub made : Made w site key.unit unit routine pointer
   pub ends : EndsErrors w live site.context.addresses.error_routine
   pub near : routine.far ≡ false → caller.segment ≡ site.segment
-  pub all_far : IsTrue w.framed → routine.far ≡ true
+  pub even : IsTrue w.framed → routine.locals % 2 ≡ 0
   pub stack : HasStack w live.frame routine
   pub reaches : (s : State) (r : ResidentState) (n k : ℕ) (vs : List ℕ) → Represents w live s r → (w.program.overlaid key.unit ≡ true → s.flag ≡ true) → (b : Pushes w.machine w.framed caller.segment n (caller.at k) r vs) → 68 ≤ b.registers.sp → Stands (IsSpelledAt caller.code) caller.at caller.labels k lines →
       Reaches w live routine.far (record { segment = caller.segment; offset = caller.at (k + length lines) }) site.segment (n + 2) (site.at 0) vs r

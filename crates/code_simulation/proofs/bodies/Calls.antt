@@ -53,6 +53,7 @@ module _ (w : World) (R : Mention → Type 0) (x : Layout) (p : PlacedProgram w 
       made = made_of w R x p other there called (sized w R x p other there called has_unit has_routine) placed_there;
       ends = ends_at w R x p other there called placed_there live ends_here;
       far = far;
+      even = placed_there.even;
       stack = has_stack w R x p live other there called has_unit has_routine room;
       enters = placed_there.enters far;
       overlaid = placed_there.home;
@@ -86,7 +87,7 @@ module _ (w : World) (R : Mention → Type 0) (x : Layout) (p : PlacedProgram w 
         let at_other = subst (λ (k : Key). R (ToRoutine k)) same reached in
         own_callable w site live g.fits other (x.site other) there called (x.pointer other) n x.most has_unit has_routine
         (made_of w R x p other there called (sized w R x p other there called has_unit has_routine) beside_it)
-        (ends_at w R x p other there called beside_it live (ends_errors w R x p site live g.fits g.constants)) beside_it.all_far
+        (ends_at w R x p other there called beside_it live (ends_errors w R x p site live g.fits g.constants)) beside_it.even
         (has_stack w R x p live other there called has_unit has_routine room) beside_it.short
         (body site live g.fits g.constants g.chained other there called reached has_unit has_routine room) number
         (ap (λ (k : Key). (x.site k).segment) same ∙ i.beside number at_other)

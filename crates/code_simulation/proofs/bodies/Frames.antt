@@ -13,7 +13,7 @@ use Rattle.effect_simulation.proofs.errors.Whole.{ends}
 use Rattle.statement_simulation.specs.expressions.Evaluates.{IsCode}
 use Rattle.statement_simulation.specs.flow.Outcomes.{EndsErrors}
 use Rattle.statement_simulation.specs.flow.Sites.{World, Site, Live, Fits}
-use Rattle.call_simulation.specs.frames.Callee.{Back, saved_at, fixed_return, callee}
+use Rattle.call_simulation.specs.frames.Callee.{Back, saved_at, kept_bp, fixed_return, callee}
 use Rattle.call_simulation.specs.frames.Chain.{IsChained}
 use Rattle.call_simulation.proofs.frames.Entry.{four_links}
 use Rattle.call_simulation.proofs.frames.Fixed.{with_fixed_other}
@@ -155,7 +155,7 @@ module _ (w : World) (R : Mention → Type 0) (x : Layout) (p : PlacedProgram w 
       let saved = saved_at called live.frame in
       let here = constants place byte e in
       let four = four_links called.far in
-      with_fixed_other (fixed_return called.far live.fixed (base + saved + 2) back.offset) (base + saved) live.frame.bp place (λ z. outside here (omega (arith, z, room, four)) (omega (arith, z, room, four))) (λ z. outside here (omega (arith, z, room, four)) (omega (arith, z, room, four)))
+      with_fixed_other (fixed_return called.far live.fixed (base + saved + 2) back.offset) (base + saved) (kept_bp called.far live.frame.bp) place (λ z. outside here (omega (arith, z, room, four)) (omega (arith, z, room, four))) (λ z. outside here (omega (arith, z, room, four)) (omega (arith, z, room, four)))
       ∙ by called.far four here
     where
       outside : live.fixed place ≡ Some byte → 16 * w.choice.stack_segment ≤ place → place < 16 * w.choice.stack_segment + live.frame.sp → ⊥

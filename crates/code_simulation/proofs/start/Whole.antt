@@ -21,7 +21,6 @@ use Rattle.resident_machine.specs.State as resident
 use Rattle.resident_machine.specs.State.{ResidentState, ResidentStatus}
 use Rattle.resident_machine.specs.machine_lines.Straight.{MayWrite, ones, IsAt}
 use Rattle.resident_machine.proofs.machine_lines.Steps.{leads_on}
-use Rattle.code_templates.specs.code_lines.Addresses.{Plain}
 use Rattle.code_templates.specs.code_lines.Lines.{Around, call_far}
 use Rattle.effect_simulation.specs.effects.Pushed.{Pushes}
 use Rattle.statement_simulation.specs.expressions.Active.{Active}
@@ -51,7 +50,7 @@ first_frame top = record { unit = []; names = []; bp = 0; link = 6; sp = top; su
 
 module _ (w : World) (R : Mention → Type 0) (x : Layout) (p : PlacedProgram w R x) (h : HasStart w R x) where
   abbrev site : Site
-  site = record { segment = Image h.segment; code = h.code; at = h.at; labels = h.labels; context = record { style = Plain; addresses = x.addresses; own = []; unit = no_unit; far = true } }
+  site = record { segment = Image h.segment; code = h.code; at = h.at; labels = h.labels; context = record { addresses = x.addresses; own = []; unit = no_unit; far = true } }
 
   abbrev live : Live
   live = record { frame = first_frame (stack_top w.program); fixed = x.constants; records = [] }
@@ -66,7 +65,7 @@ module _ (w : World) (R : Mention → Type 0) (x : Layout) (p : PlacedProgram w 
   }
 
   chained : IsTrue w.framed → IsChained w live
-  chained e = record { links = []; chain = refl; places = refl }
+  chained e = record { marked = p.marked e; links = []; chain = refl; places = refl; even_bp = refl; even_sp = omega arith }
 
   ends : EndsErrors w live x.addresses.error_routine
   ends = ends_errors w R x p site live fits (λ place byte e. e)

@@ -9,7 +9,7 @@ use Rattle.flat_code.specs.Program.{Name, Key, Routine, UnitCode, named}
 use Rattle.flat_code.specs.Tree.{Step, StoreRoutine}
 use Rattle.cpu_8086.specs.Memory.{address, next_offset}
 use Rattle.resident_machine.specs.machine_lines.Straight.{Placed}
-use Rattle.code_templates.specs.code_lines.Addresses.{Addresses, Plain}
+use Rattle.code_templates.specs.code_lines.Addresses.{Addresses}
 use Rattle.code_templates.specs.code_lines.Lines.{framed_lines}
 use Rattle.effect_simulation.specs.effects.Pointers.{pointer_offset}
 use Rattle.effect_simulation.specs.errors.Routine.{HasErrorRoutine}
@@ -48,7 +48,7 @@ StepPointer w x site pointer _ = Unit {0}
 
 -- A routine that is reached stands at its site, whose code was made for it.
 pub record IsPlaced (w : World) (R : Mention → Type 0) (x : Layout) (key : Key) (unit : UnitCode) (r : Routine) : Type 0 where
-  pub context : (x.site key).context ≡ record { style = Plain; addresses = x.addresses; own = key.unit; unit = unit; far = r.far }
+  pub context : (x.site key).context ≡ record { addresses = x.addresses; own = key.unit; unit = unit; far = r.far }
   pub placed : Placed w.machine (x.site key).segment (x.site key).code (x.site key).at
   pub stands : Stands (IsSpelledAt (x.site key).code) (x.site key).at (x.site key).labels 0 (framed_lines (x.site key).context (x.pointer key) r)
   pub short : length (framed_lines (x.site key).context (x.pointer key) r) ≤ x.most
@@ -61,7 +61,8 @@ pub record IsPlaced (w : World) (R : Mention → Type 0) (x : Layout) (key : Key
   pub expressible : CodeIsExpressible w.program key.unit unit.names r.body
   -- routines of the runtime call none through pointers
   pub direct : r.frame ≡ 0 → HasNoThrough r.body
-  pub all_far : IsTrue w.framed → r.far ≡ true
+  -- BP stays even, so that links can be marked
+  pub even : IsTrue w.framed → r.locals % 2 ≡ 0
 
 -- what is constant, as an activation before the first one sees it
 abbrev pub constant_live : World → Layout → Live
@@ -71,6 +72,7 @@ constant_live w x = record { frame = start_frame w.program; fixed = x.constants;
 pub record PlacedProgram (w : World) (R : Mention → Type 0) (x : Layout) : Type 0 where
   pub well_formed : IsWellFormed w.program
   pub shallow : IsShallow w.program
+  pub marked : IsTrue w.framed → w.machine.marked ≡ true
   pub reaches : Reaches w.program R
   pub legal : IsLegal w.program w.choice R
   pub data_small : w.choice.data_segment < 65536

@@ -26,7 +26,7 @@ use Rattle.flat_code.specs.Program.{Routine}
 use Rattle.flat_code.specs.Tree.{Expr, Number, Byte, Word, AddressOf, SegmentOf, VmtOf, Op, Step, StoreByte, StoreWord, Copy, Leave, Call, CallThrough, Runtime, StoreRoutine, Return, Error, Code, End, Do, If, Loop}
 use Rattle.flat_code.specs.Weights.{address_weight, op_weight, expr_weight, exprs_weight, result_weight, runtime_weight, step_weight, code_weight, routine_weight}
 use Rattle.resident_machine.specs.machine_lines.Straight.{ones}
-use Rattle.code_templates.specs.code_lines.Addresses.{Style, Plain, Context}
+use Rattle.code_templates.specs.code_lines.Addresses.{Context}
 use Rattle.code_templates.specs.code_lines.Operands.{displaced, memory_at, frame_memory, load, links, loads, operand_place, operand}
 use Rattle.code_templates.specs.code_lines.Expressions.{move, fail, op_code, segment_code, expr_code, args_code}
 use Rattle.code_templates.specs.code_lines.Lines.{move_bytes, put, call_own, destination, moved_from, store_byte, store_word, store_two, taken_by, taken, given_by, given, call_own_if, call_code, write_code, read_code, end_code, runtime_code, Around, in_loop, leave, pointer_at, store_routine, step_lines, step_pointers, pointers, labels, tested as test_lines, code_lines, stack_test_if, enter_frame, leave_frame, make_room, prologue, return_code, epilogue, framed_lines, within, routine_lines}
@@ -232,9 +232,10 @@ unfolding word_bytes immediate_width immediate_body immediate_override word_modr
 test_bytes x r zero = omega arith
 test_bytes x r (suc n) = omega arith
 
-enter_bytes : (style : Style) → (bytes (enter_frame style) ≡ 3) × (bytes (leave_frame style) ≡ 3)
+enter_bytes : (far : Bool) → (3 ≤ bytes (enter_frame far)) × (bytes (enter_frame far) ≤ 4) × (bytes (leave_frame far) ≤ 4)
 unfolding word_modrm pair_form pair_body pair_override
-enter_bytes Plain = (refl, refl)
+enter_bytes true = (omega arith, omega arith, omega arith)
+enter_bytes false = (omega arith, omega arith, omega arith)
 
 return_bytes : (far : Bool) (arguments : ℕ) → bytes (return_code far arguments ∷ []) ≤ 3
 unfolding word_bytes
@@ -243,13 +244,13 @@ return_bytes true (suc n) = omega arith
 return_bytes false zero = omega arith
 return_bytes false (suc n) = omega arith
 
-prologue_bytes : (x : Context) (r : Routine) → bytes (prologue x r) ≤ 21
+prologue_bytes : (x : Context) (r : Routine) → bytes (prologue x r) ≤ 22
 prologue_bytes x r =
-    omega (arith, (enter_bytes x.style).0, test_bytes x r r.frame, immediate_size alu.Sub word.Sp (r.locals % 65536), bytes-append (enter_frame x.style) (stack_test_if x r r.frame ++ (make_room r ∷ [])), bytes-append (stack_test_if x r r.frame) (make_room r ∷ []))
+    omega (arith, (enter_bytes r.far).1, test_bytes x r r.frame, immediate_size alu.Sub word.Sp (r.locals % 65536), bytes-append (enter_frame r.far) (stack_test_if x r r.frame ++ (make_room r ∷ [])), bytes-append (stack_test_if x r r.frame) (make_room r ∷ []))
 
-epilogue_bytes : (x : Context) (r : Routine) → bytes (epilogue x r) ≤ 6 + result_weight r.result
+epilogue_bytes : (x : Context) (r : Routine) → bytes (epilogue x r) ≤ 7 + result_weight r.result
 epilogue_bytes x r =
-    omega (arith, given_bytes x r.result, (enter_bytes x.style).1, return_bytes r.far r.arguments, bytes-append (given x r.result) (leave_frame x.style ++ (return_code r.far r.arguments ∷ [])), bytes-append (leave_frame x.style) (return_code r.far r.arguments ∷ []))
+    omega (arith, given_bytes x r.result, (enter_bytes r.far).2, return_bytes r.far r.arguments, bytes-append (given x r.result) (leave_frame r.far ++ (return_code r.far r.arguments ∷ [])), bytes-append (leave_frame r.far) (return_code r.far r.arguments ∷ []))
 
 routine_bytes : (x : Context) (pointer : ℕ) (r : Routine) → code_size (framed_lines x pointer r) ≤ routine_weight r
 routine_bytes x pointer r =
@@ -270,7 +271,7 @@ framed_least x pointer r =
     let home = length x.unit.routines in
     let body = code_lines x (record { home = home; ends = [] }) (home + 1) pointer r.body in
     let last = Label home ∷ ones (epilogue x r) in
-    omega (arith, (enter_bytes x.style).0, immediate_size alu.Sub word.Sp (r.locals % 65536), bytes-append (enter_frame x.style) (stack_test_if x r r.frame ++ (make_room r ∷ [])), bytes-append (stack_test_if x r r.frame) (make_room r ∷ []), code_size-append (ones (prologue x r)) (body ++ last), length-assembled (framed_lines x pointer r))
+    omega (arith, (enter_bytes r.far).0, immediate_size alu.Sub word.Sp (r.locals % 65536), bytes-append (enter_frame r.far) (stack_test_if x r r.frame ++ (make_room r ∷ [])), bytes-append (stack_test_if x r r.frame) (make_room r ∷ []), code_size-append (ones (prologue x r)) (body ++ last), length-assembled (framed_lines x pointer r))
 
 pub routine_least : (x : Context) (pointer : ℕ) (r : Routine) → 6 ≤ length (assembled (routine_lines x pointer r))
 routine_least x pointer r = framed_least (within x r) pointer r

@@ -23,7 +23,7 @@ use Rattle.flat_code.specs.declared.tree.FlatResult.{FlatResult}
 use Rattle.flat_code.specs.Tree.{Expr, Number, Byte, Word, AddressOf, SegmentOf, VmtOf, Op, Step, StoreByte, StoreWord, Copy, Leave, Call, CallThrough, Runtime, StoreRoutine, Return, Error, Code, End, Do, If, Loop}
 use Rattle.flat_code.specs.Program.{Routine}
 use Rattle.resident_machine.specs.machine_lines.Straight.{ones}
-use Rattle.code_templates.specs.code_lines.Addresses.{Addresses, Style, Plain, Context, key_in}
+use Rattle.code_templates.specs.code_lines.Addresses.{Addresses, Context, key_in}
 use Rattle.code_templates.specs.code_lines.Operands.{memory_at, load, links, loads, operand_place, operand}
 use Rattle.code_templates.specs.code_lines.Expressions.{move, op_code, segment_code, expr_code, args_code}
 use Rattle.code_templates.specs.code_lines.Lines.{Around, destination, moved_from, store_byte, put, store_word, store_two, taken_by, taken, given_by, given, call_own, call_own_if, call_code, runtime_code, leave, pointer_at, step_lines, step_pointers, pointers, labels, tested, in_loop, code_lines, enter_frame, leave_frame, make_room, return_code, move_bytes, stack_test_if, prologue, epilogue, framed_lines, routine_lines, within}
@@ -270,19 +270,13 @@ stack_test-comes : (a : Addresses) (x : Context) (r : Routine) (frame : ℕ) →
 stack_test-comes a x r zero = none-come (placed a x)
 stack_test-comes a x r (suc n) = record { comes = refl }
 
-enter-comes : (y : Context) (s : Style) → Comes y (plain (enter_frame Plain)) (enter_frame s)
-enter-comes y Plain = plain-comes y (enter_frame Plain)
-
-leave-comes : (y : Context) (s : Style) (i : Instr) → Comes y (plain (leave_frame Plain ++ (i ∷ []))) (leave_frame s ++ (i ∷ []))
-leave-comes y Plain i = plain-comes y (leave_frame Plain ++ (i ∷ []))
-
 prologue-comes : (a : Addresses) (x : Context) (r : Routine) → Comes (placed a x) (marked_prologue r) (prologue (placed a x) r)
-prologue-comes a x r = both (enter-comes (placed a x) x.style) (both (stack_test-comes a x r r.frame) (plain-comes (placed a x) (make_room r ∷ [])))
+prologue-comes a x r = both (plain-comes (placed a x) (enter_frame r.far)) (both (stack_test-comes a x r r.frame) (plain-comes (placed a x) (make_room r ∷ [])))
 
 epilogue-comes : (a : Addresses) (x : Context) (r : Routine) → x.far ≡ r.far → Comes (placed a x) (marked_epilogue r) (epilogue (placed a x) r)
 epilogue-comes a x r same =
     let one : Comes (placed a x) (marked_given r.far r.result) (given (placed a x) r.result) = subst (λ far. Comes (placed a x) (marked_given far r.result) (given (placed a x) r.result)) same (given-comes a x r.result) in
-    both one (leave-comes (placed a x) x.style (return_code r.far r.arguments))
+    both one (plain-comes (placed a x) (leave_frame r.far ++ (return_code r.far r.arguments ∷ [])))
 
 body-makes : (a : Addresses) (x : Context) (pointer : ℕ) (r : Routine) → x.far ≡ r.far → Makes (placed a x) (marked_body x.unit pointer r) (code_lines (placed a x) (at_body x.unit) (length x.unit.routines + 1) pointer r.body ++ (Label (length x.unit.routines) ∷ []))
 body-makes a x pointer r same =

@@ -14,13 +14,8 @@ pub record Addresses : Type 0 where
   pub clear_routine : Place
   pub flag_routine : Place
 
--- How frames look: in plain ones the word at BP is the caller's BP.
-pub data Style : Type 0 where
-  Plain : Style
-
--- the style, the addresses, the unit with its name, and the routine whose code is made
+-- the addresses, the unit with its name, and whether the routine is far whose code is made
 pub record Context : Type 0 where
-  pub style : Style
   pub addresses : Addresses
   pub own : Name
   pub unit : UnitCode

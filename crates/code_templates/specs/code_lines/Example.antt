@@ -6,7 +6,7 @@ use Rattle.flat_code.specs.declared.tree.FlatOp.TheVariants as op
 use Rattle.flat_code.specs.Tree.{Number, Word, Op, StoreWord, Copy, Leave, Call, Return, End, Do, If, Loop}
 use Rattle.flat_code.specs.Program.{Routine, UnitCode}
 use Rattle.resident_machine.specs.machine_lines.Straight.{ones}
-use Rattle.code_templates.specs.code_lines.Addresses.{Addresses, Plain, Context}
+use Rattle.code_templates.specs.code_lines.Addresses.{Addresses, Context}
 use Rattle.code_templates.specs.code_lines.Expressions.{expr_code, op_code}
 use Rattle.code_templates.specs.code_lines.Lines.{step_lines, routine_lines}
 
@@ -49,19 +49,19 @@ abbrev pub example_unit : UnitCode
 example_unit = record { names = []; routines = repeated ∷ successor ∷ []; globals = []; vmts = []; initial = None }
 
 abbrev pub in_far : Context
-in_far = record { style = Plain; addresses = somewhere; own = []; unit = example_unit; far = true }
+in_far = record { addresses = somewhere; own = []; unit = example_unit; far = true }
 
 abbrev pub in_near : Context
-in_near = record { style = Plain; addresses = somewhere; own = []; unit = example_unit; far = false }
+in_near = record { addresses = somewhere; own = []; unit = example_unit; far = false }
 
--- PUSH BP; MOV BP,SP; CMP SP,514; JAE +8; MOV AX,202; JMP FAR 0080:0010; SUB SP,2;
+-- INC BP; PUSH BP; MOV BP,SP; CMP SP,514; JAE +8; MOV AX,202; JMP FAR 0080:0010; SUB SP,2;
 -- MOV AX,[BP+6]; PUSH AX; MOV AX,1; MOV CX,AX; POP AX; ADD AX,CX; MOV [BP-2],AX; JMP +0;
--- MOV AX,[BP-2]; MOV SP,BP; POP BP; RETF 2
+-- MOV AX,[BP-2]; MOV SP,BP; POP BP; DEC BP; RETF 2
 abbrev pub successor_bytes : List ℕ
 successor_bytes =
-    0x55 ∷ 0x8B ∷ 0xEC ∷ 0x81 ∷ 0xFC ∷ 0x02 ∷ 0x02 ∷ 0x73 ∷ 0x08 ∷ 0xB8 ∷ 0xCA ∷ 0x00 ∷ 0xEA ∷ 0x10 ∷ 0x00 ∷ 0x80 ∷ 0x00 ∷ 0x81 ∷ 0xEC ∷ 0x02 ∷ 0x00
+    0x45 ∷ 0x55 ∷ 0x8B ∷ 0xEC ∷ 0x81 ∷ 0xFC ∷ 0x02 ∷ 0x02 ∷ 0x73 ∷ 0x08 ∷ 0xB8 ∷ 0xCA ∷ 0x00 ∷ 0xEA ∷ 0x10 ∷ 0x00 ∷ 0x80 ∷ 0x00 ∷ 0x81 ∷ 0xEC ∷ 0x02 ∷ 0x00
     ∷ 0x8B ∷ 0x46 ∷ 0x06 ∷ 0x50 ∷ 0xB8 ∷ 0x01 ∷ 0x00 ∷ 0x8B ∷ 0xC8 ∷ 0x58 ∷ 0x03 ∷ 0xC1 ∷ 0x89 ∷ 0x46 ∷ 0xFE ∷ 0xE9 ∷ 0x00 ∷ 0x00
-    ∷ 0x8B ∷ 0x46 ∷ 0xFE ∷ 0x8B ∷ 0xE5 ∷ 0x5D ∷ 0xCA ∷ 0x02 ∷ 0x00 ∷ []
+    ∷ 0x8B ∷ 0x46 ∷ 0xFE ∷ 0x8B ∷ 0xE5 ∷ 0x5D ∷ 0x4D ∷ 0xCA ∷ 0x02 ∷ 0x00 ∷ []
 
 -- PUSH BP; MOV BP,SP; SUB SP,0; CLD; MOV AX,[0102]; PUSH AX; MOV AX,10; MOV CX,AX; POP AX; CMP AX,CX; MOV AX,0; JGE +1; INC AX;
 -- OR AX,AX; JNE +3; JMP +7; PUSH CS; CALL (to be filled); JMP +3; JMP +3; JMP -40; MOV SP,BP; POP BP; RET

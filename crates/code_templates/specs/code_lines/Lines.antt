@@ -1,6 +1,6 @@
 -- The lines of statements and routines.
 --
--- A frame is, from the top: the arguments, the return address with CS in far routines, the caller's BP at BP, the locals. The routine removes its arguments. Results come in AL, AX or DX:AX. DS is the data segment but inside a Copy from far memory and a DOS call, and DF is clear.
+-- A frame is, from the top: the arguments, the return address with CS in far routines, the caller's BP at BP, marked in far routines, the locals. The routine removes its arguments. Results come in AL, AX or DX:AX. DS is the data segment but inside a Copy from far memory and a DOS call, and DF is clear.
 use Rattle.std.specs.Prelude.{ℕ, zero, suc, ◌+◌, ◌%◌, Bool, true, false, min, List, [], ◌∷◌, ◌++◌, length, Option, Some, None, slice_get, slice_index_or}
 use Rattle.common_values.specs.integers.Words.{w16, word_of}
 use Rattle.x86_table.specs.declared.instr.AluOp.TheVariants as alu
@@ -26,7 +26,7 @@ use Rattle.flat_code.specs.declared.tree.FlatResult.{FlatResult}
 use Rattle.flat_code.specs.Tree.{Step, StoreByte, StoreWord, Copy, Leave, Call, CallThrough, Runtime, StoreRoutine, Return, Error, Code, End, Do, If, Loop}
 use Rattle.flat_code.specs.Program.{Routine, runtime_key}
 use Rattle.resident_machine.specs.machine_lines.Straight.{ones}
-use Rattle.code_templates.specs.code_lines.Addresses.{Style, Plain, Context, key_in}
+use Rattle.code_templates.specs.code_lines.Addresses.{Context, key_in}
 use Rattle.code_templates.specs.code_lines.Operands.{memory_at, frame_memory, load, links, loads, operand_place, operand}
 use Rattle.code_templates.specs.code_lines.Expressions.{move, apply, fail, expr_code, args_code}
 
@@ -210,11 +210,14 @@ code_lines x around label pointer (Loop body next) =
 
 -- ## Routines
 
-abbrev pub enter_frame : Style → List Instr
-enter_frame Plain = instr.Push word.Bp ∷ move word.Bp word.Sp ∷ []
+-- The word at BP is the caller's BP, which is even, and 1 more in a far routine.
+abbrev pub enter_frame : Bool → List Instr
+enter_frame true = instr.Inc word.Bp ∷ instr.Push word.Bp ∷ move word.Bp word.Sp ∷ []
+enter_frame false = instr.Push word.Bp ∷ move word.Bp word.Sp ∷ []
 
-abbrev pub leave_frame : Style → List Instr
-leave_frame Plain = move word.Sp word.Bp ∷ instr.Pop word.Bp ∷ []
+abbrev pub leave_frame : Bool → List Instr
+leave_frame true = move word.Sp word.Bp ∷ instr.Pop word.Bp ∷ instr.Dec word.Bp ∷ []
+leave_frame false = move word.Sp word.Bp ∷ instr.Pop word.Bp ∷ []
 
 -- SP that is too low for the locals and 512 bytes below is error 202
 abbrev pub stack_test : Context → Routine → List Instr
@@ -230,7 +233,7 @@ abbrev pub make_room : Routine → Instr
 make_room r = instr.AluImmediate alu.Sub (immediate.Word (word_rm.Reg word.Sp) (r.locals % 65536))
 
 abbrev pub prologue : Context → Routine → List Instr
-prologue x r = enter_frame x.style ++ (stack_test_if x r r.frame ++ (make_room r ∷ []))
+prologue x r = enter_frame r.far ++ (stack_test_if x r r.frame ++ (make_room r ∷ []))
 
 -- the arguments are removed
 abbrev pub return_code : Bool → ℕ → Instr
@@ -240,7 +243,7 @@ return_code false zero = instr.Ret
 return_code false (suc n) = instr.RetDrop (suc n)
 
 abbrev pub epilogue : Context → Routine → List Instr
-epilogue x r = given x r.result ++ (leave_frame x.style ++ (return_code r.far r.arguments ∷ []))
+epilogue x r = given x r.result ++ (leave_frame r.far ++ (return_code r.far r.arguments ∷ []))
 
 -- The labels below the number of the unit's routines are the routines' own.
 abbrev pub framed_lines : Context → ℕ → Routine → List Line

@@ -25,7 +25,6 @@ use Rattle.flat_code.specs.declared.tree.FlatOp.TheVariants as op
 use Rattle.flat_code.specs.declared.tree.FlatResult.{FlatResult}
 use Rattle.flat_code.specs.Tree.{Expr, Number, Byte, Word, AddressOf, SegmentOf, VmtOf, Op, Step, StoreByte, StoreWord, Copy, Leave, Call, CallThrough, Runtime, StoreRoutine, Return, Error, Code, End, Do, If, Loop}
 use Rattle.flat_code.specs.Program.{Routine, UnitCode}
-use Rattle.code_templates.specs.code_lines.Addresses.{Plain}
 use Rattle.code_templates.specs.code_lines.Operands.{memory_at, frame_memory, load, loads, operand_place, operand}
 use Rattle.code_templates.specs.code_lines.Expressions.{move, on_word, compare_with, negative, magnitudes, signed_by, segment_code, op_code}
 use Rattle.code_templates.specs.code_lines.Lines.{Around, add_to, move_bytes, put, write_code, read_code, end_code, leave, step_pointers, pointers, labels, tested, in_loop, enter_frame, leave_frame, make_room, return_code}
@@ -243,10 +242,10 @@ marked_stack_test r zero = []
 marked_stack_test r (suc frame) = plain (compare_sp r ∷ instr.JumpShort cond.AboveOrEqual 8 ∷ []) ++ marked_fail 202
 
 abbrev pub marked_prologue : Routine → List MarkedLine
-marked_prologue r = plain (enter_frame Plain) ++ (marked_stack_test r r.frame ++ plain (make_room r ∷ []))
+marked_prologue r = plain (enter_frame r.far) ++ (marked_stack_test r r.frame ++ plain (make_room r ∷ []))
 
 abbrev pub marked_epilogue : Routine → List MarkedLine
-marked_epilogue r = marked_given r.far r.result ++ plain (leave_frame Plain ++ (return_code r.far r.arguments ∷ []))
+marked_epilogue r = marked_given r.far r.result ++ plain (leave_frame r.far ++ (return_code r.far r.arguments ∷ []))
 
 -- The labels below the number of the unit's routines are the routines' own; the next one is the end of the body.
 abbrev pub at_body : UnitCode → Around

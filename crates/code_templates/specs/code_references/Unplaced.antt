@@ -1,7 +1,7 @@
 -- No address is known: each is 0, and of a routine only its frame.
 use Rattle.std.specs.Prelude.{Bool, [], None}
 use Rattle.flat_code.specs.declared.memory.Place.{Place}
-use Rattle.code_templates.specs.code_lines.Addresses.{Addresses, Plain, Context}
+use Rattle.code_templates.specs.code_lines.Addresses.{Addresses, Context}
 
 abbrev pub nowhere : Place
 nowhere = record { segment = 0; offset = 0 }
@@ -20,4 +20,4 @@ unplaced = record {
 
 -- the code of a far or near routine, whichever it is
 abbrev pub in_frame : Bool → Context
-in_frame far = record { style = Plain; addresses = unplaced; own = []; unit = record { names = []; routines = []; globals = []; vmts = []; initial = None }; far = far }
+in_frame far = record { addresses = unplaced; own = []; unit = record { names = []; routines = []; globals = []; vmts = []; initial = None }; far = far }

@@ -28,7 +28,6 @@ use Rattle.flat_code.specs.declared.tree.FlatResult.{FlatResult}
 use Rattle.flat_code.specs.Program.{Routine, UnitCode}
 use Rattle.flat_code.specs.Tree.{Expr, Number, Byte, Word, AddressOf, SegmentOf, VmtOf, Op, Step, StoreByte, StoreWord, Copy, Leave, Call, CallThrough, Runtime, StoreRoutine, Return, Error, Code, End, Do, If, Loop}
 use Rattle.code_templates.specs.code_lines.Operands.{memory_at, loads, operand}
-use Rattle.code_templates.specs.code_lines.Addresses.{Plain}
 use Rattle.code_templates.specs.code_lines.Expressions.{move, on_word, negative, magnitudes, signed_by, segment_code, op_code}
 use Rattle.code_templates.specs.code_lines.Lines.{Around, move_bytes, write_code, read_code, end_code, leave, step_pointers, pointers, labels, tested, in_loop, enter_frame, leave_frame, make_room, return_code}
 use Rattle.code_templates.specs.declared.code_references.marks.MarkedLine.{MarkedLine}
@@ -317,8 +316,8 @@ pub routine-good : (unit : UnitCode) (pointer : ℕ) (r : Routine) → AreGood (
 routine-good unit pointer r =
     let k = length unit.routines in
     let around : IsAbove k (at_body unit) = record { home = omega arith; ends = tt } in
-    let prologue : AreGood k (marked_prologue r) = both (plain-good k (enter_frame Plain)) (both (stack_test-good k r r.frame) (plain-good k (make_room r ∷ []))) in
+    let prologue : AreGood k (marked_prologue r) = both (plain-good k (enter_frame r.far)) (both (stack_test-good k r r.frame) (plain-good k (make_room r ∷ []))) in
     let last : AreGood k (bare (Label k ∷ [])) = record { all = (omega arith, tt) } in
     let body : AreGood k (marked_body unit pointer r) = both (code-good unit r.far (at_body unit) (k + 1) pointer r.body around (omega arith)) last in
-    let epilogue : AreGood k (marked_epilogue r) = both (given-good k r.far r.result) (plain-good k (leave_frame Plain ++ (return_code r.far r.arguments ∷ []))) in
+    let epilogue : AreGood k (marked_epilogue r) = both (given-good k r.far r.result) (plain-good k (leave_frame r.far ++ (return_code r.far r.arguments ∷ []))) in
     both prologue (both body epilogue)

@@ -1,5 +1,5 @@
 -- Sizes of lines before and after near jumps are made short, and of the code of routines.
-use Rattle.std.proofs.Common.{arith, ◌≡◌, ℕ, ◌+◌, ◌≤◌, Bool, List, [], ◌∷◌, ◌++◌, length, map, refl, sym, ap, subst, inl, inr}
+use Rattle.std.proofs.Common.{arith, ◌≡◌, ℕ, ◌+◌, ◌≤◌, Bool, true, false, List, [], ◌∷◌, ◌++◌, length, map, refl, sym, ap, subst, inl, inr}
 use Rattle.std.specs.List.{AllByRecursion, sum_by}
 use Rattle.std.proofs.lemmas.List.Sums.{sum_by-cons}
 use Rattle.object_file.specs.declared.object_unit.object.Code8086.{Code8086}
@@ -14,7 +14,7 @@ use Rattle.flat_code.specs.declared.unit.FlatUnit.{FlatUnit}
 use Rattle.flat_code.specs.Plain.{view_routine, view_unit}
 use Rattle.flat_code.specs.Program.{Name, Routine, UnitCode}
 use Rattle.flat_code.specs.Weights.{routine_weight, unit_weight}
-use Rattle.code_templates.specs.code_lines.Addresses.{Plain, Context}
+use Rattle.code_templates.specs.code_lines.Addresses.{Context}
 use Rattle.code_templates.specs.code_lines.Lines.{enter_frame, make_room, within, routine_lines}
 use Rattle.code_templates.proofs.code_lines.Weights.{routine_weighs}
 use Rattle.code_templates.specs.declared.code_references.marks.MarkedLine.{MarkedLine}
@@ -58,7 +58,7 @@ filled_size (x ∷ xs) [] h = absurd h
 filled_size (x ∷ xs) (y ∷ ys) h = omega (arith, line_filled x y h.0, filled_size xs ys h.1)
 
 abbrev without_addresses : UnitCode → Bool → Context
-without_addresses unit far = record { style = Plain; addresses = unplaced; own = []; unit = unit; far = far }
+without_addresses unit far = record { addresses = unplaced; own = []; unit = unit; far = far }
 
 marked_most : (unit : UnitCode) (pointer : ℕ) (r : Routine) → code_size (lines_of (marked_routine unit pointer r)) ≤ routine_weight r
 marked_most unit pointer r =
@@ -117,9 +117,10 @@ fixed_kept [] ys h = omega arith
 fixed_kept (m ∷ ms) [] h = absurd h
 fixed_kept (m ∷ ms) (y ∷ ys) h = omega (arith, line_kept m.line y h.0, fixed_kept ms ys h.1)
 
-enter_fixed : all_fixed (plain (enter_frame Plain)) ≡ 3
+enter_fixed : (far : Bool) → 3 ≤ all_fixed (plain (enter_frame far))
 unfolding pair_form pair_body pair_override word_modrm
-enter_fixed = refl
+enter_fixed true = omega arith
+enter_fixed false = omega arith
 
 room_fixed : (r : Routine) → all_fixed (plain (make_room r ∷ [])) ≡ 4
 unfolding immediate_width immediate_body immediate_override word_modrm word_bytes
@@ -127,10 +128,10 @@ room_fixed r = refl
 
 routine_fixed : (unit : UnitCode) (pointer : ℕ) (r : Routine) → 6 ≤ all_fixed (marked_routine unit pointer r)
 routine_fixed unit pointer r =
-    let enter = plain (enter_frame Plain) in
+    let enter = plain (enter_frame r.far) in
     let test = marked_stack_test r r.frame in
     let room = plain (make_room r ∷ []) in
-    omega (arith, fixed-append (marked_prologue r) (marked_body unit pointer r ++ marked_epilogue r), fixed-append enter (test ++ room), fixed-append test room, enter_fixed, room_fixed r)
+    omega (arith, fixed-append (marked_prologue r) (marked_body unit pointer r ++ marked_epilogue r), fixed-append enter (test ++ room), fixed-append test room, enter_fixed r.far, room_fixed r)
 
 least : (names : List Name) (unit : UnitCode) (p : ℕ) (rs : List FlatRoutine) (layouts : List (List Line)) → AreLaidOut unit p rs layouts → AllByRecursion (λ (code : Code8086). 6 ≤ length code.code) (codes_of names unit p rs layouts)
 least names unit p [] [] h = tt

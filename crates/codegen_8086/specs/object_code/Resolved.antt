@@ -11,7 +11,7 @@ use Rattle.x86_table.specs.Standing.{IsSpelledAt, Stands}
 use Rattle.flat_code.specs.declared.memory.Place.{Place}
 use Rattle.flat_code.specs.Plain.{first_name}
 use Rattle.flat_code.specs.Program.{Name, Key, UnitCode, Routine, named, runtime_key}
-use Rattle.code_templates.specs.code_lines.Addresses.{Addresses, Plain, Context, name_or_own}
+use Rattle.code_templates.specs.code_lines.Addresses.{Addresses, Context, name_or_own}
 use Rattle.code_templates.specs.code_lines.Lines.{routine_lines}
 use Rattle.codegen_8086.specs.object_code.References.{name_in}
 
@@ -66,7 +66,7 @@ resolved a own names p bytes (one ∷ refs) =
 -- ## The code of a routine
 
 abbrev pub routine_context : Addresses → Name → UnitCode → Routine → Context
-routine_context a own unit r = record { style = Plain; addresses = a; own = own; unit = unit; far = r.far }
+routine_context a own unit r = record { addresses = a; own = own; unit = unit; far = r.far }
 
 -- The lines of a routine stand in bytes from p on, and the labels of the unit's routines lead to where these stand.
 pub record StandsFrom (a : Addresses) (own : Name) (unit : UnitCode) (pointer : ℕ) (r : Routine) (p : ℕ) (bytes : List ℕ) : Type 0 where

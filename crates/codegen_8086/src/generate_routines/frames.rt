@@ -7,8 +7,8 @@ ghost use Rattle.x86_table.specs.declared.instr.Instr.TheVariants as instr;
 ghost use Rattle.x86_table.specs.declared.operand.WordOperand.TheVariants as word_rm;
 ghost use Rattle.x86_table.specs.declared.operand.WordReg.TheVariants as word;
 ghost use Rattle.flat_code.specs.Plain.{view_routine, view_unit};
-ghost use Rattle.code_templates.specs.code_lines.Addresses.{Plain};
 ghost use Rattle.code_templates.specs.code_lines.Lines.{enter_frame, leave_frame, return_code};
+ghost use Rattle.code_templates.specs.code_references.Marks.{plain};
 ghost use Rattle.code_templates.specs.code_references.Marked.{stored, compare_sp, marked_stack_test, marked_prologue, marked_epilogue, marked_routine};
 
 use crate::generate_code::{Numbers, push_body};
@@ -58,19 +58,23 @@ fn make_room(locals: u32) -> Instr
     on_sp(AluOp::Sub, (locals % 0x1_0000) as u16)
 }
 
-fn enter_frame() -> [Instr; 2]
-    ensures { result ≡ enter_frame Plain }
+// The caller's BP is kept, with 1 more in a far routine, and BP leads to it.
+fn push_enter_frame(lines: &mut MarkedLines, far: bool) -> Result<(), AllocError>
+    ensures { OnOk result (lines.new ≡ lines.old ++ plain (enter_frame far)) }
 {
-    [
-        Instr::Push(WordReg::Bp),
-        move_word(WordReg::Bp, WordReg::Sp),
-    ]
+    let push = Instr::Push(WordReg::Bp);
+    let set = move_word(WordReg::Bp, WordReg::Sp);
+    if far {
+        push_plain(lines, &[Instr::Inc(WordReg::Bp), push, set])
+    } else {
+        push_plain(lines, &[push, set])
+    }
 }
 
 fn push_prologue(lines: &mut MarkedLines, routine: &FlatRoutine) -> Result<(), AllocError>
     ensures { OnOk result (lines.new ≡ lines.old ++ marked_prologue (view_routine routine.now)) }
 {
-    push_plain(lines, &enter_frame())?;
+    push_enter_frame(lines, routine.far)?;
     push_stack_test(lines, routine)?;
     push_plain(lines, &[make_room(routine.locals)])
 }
@@ -89,14 +93,17 @@ fn return_code(far: bool, arguments: u16) -> Instr
 }
 
 // SP and BP are the caller's again, and the run goes back to it.
-fn leave_frame(far: bool, arguments: u16) -> [Instr; 3]
-    ensures { result ≡ leave_frame Plain ++ (return_code far arguments ∷ []) }
+fn push_leave_frame(lines: &mut MarkedLines, far: bool, arguments: u16) -> Result<(), AllocError>
+    ensures { OnOk result (lines.new ≡ lines.old ++ plain (leave_frame far ++ (return_code far arguments ∷ []))) }
 {
-    [
-        move_word(WordReg::Sp, WordReg::Bp),
-        Instr::Pop(WordReg::Bp),
-        return_code(far, arguments),
-    ]
+    let set = move_word(WordReg::Sp, WordReg::Bp);
+    let pop = Instr::Pop(WordReg::Bp);
+    let back = return_code(far, arguments);
+    if far {
+        push_plain(lines, &[set, pop, Instr::Dec(WordReg::Bp), back])
+    } else {
+        push_plain(lines, &[set, pop, back])
+    }
 }
 
 fn push_epilogue(lines: &mut MarkedLines, routine: &FlatRoutine) -> Result<(), AllocError>
@@ -104,7 +111,7 @@ fn push_epilogue(lines: &mut MarkedLines, routine: &FlatRoutine) -> Result<(), A
 {
     push_given(lines, routine.far, routine.result)?;
     let arguments = (routine.arguments % 0x1_0000) as u16;
-    push_plain(lines, &leave_frame(routine.far, arguments))
+    push_leave_frame(lines, routine.far, arguments)
 }
 
 /// Appends the lines of a routine of a unit, whose arguments have fewer than 65,536 bytes, where the numbers are those of the

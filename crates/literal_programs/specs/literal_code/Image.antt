@@ -1,5 +1,5 @@
 -- The executable of a program of literals.
-use Rattle.std.specs.Prelude.{ℕ, ◌+◌, ◌-◌, ◌*◌, ◌/◌, List, [], ◌∷◌, ◌++◌, length, replicate}
+use Rattle.std.specs.Prelude.{ℕ, ◌+◌, ◌-◌, ◌*◌, ◌/◌, true, List, [], ◌∷◌, ◌++◌, length, replicate}
 use Rattle.literal_programs.specs.declared.literal_code.act.Act.{Act}
 use Rattle.literal_programs.specs.declared.literal_code.image.Memory.{Memory}
 use Rattle.mz_file.specs.declared.executable.Exe.{Exe}
@@ -47,5 +47,6 @@ executable_of memory pool acts = record {
     heap = memory.heap;
     data_segment = data_segment acts;
     data_bytes = length pool + 1;
+    marked = true;
   };
 }

@@ -138,6 +138,7 @@ fn assemble(alloc: Global, program: &LiteralProgram, memory: Memory) -> Result<E
             heap: memory.heap,
             data_segment,
             data_bytes: program.pool.len() as u16 + 1,
+            marked: true,
         },
     })
 }

@@ -97,6 +97,7 @@ fn no_overlays(alloc: Global) -> Block
         heap: 0,
         data_segment: 9,
         data_bytes: 12,
+        marked: false,
     }
 }
 

@@ -31,6 +31,14 @@ const THREE: [u8; 56] = [
     0x90, 0x90, 0x90, 0x90, 0x90, 0x90, 0x90, 0x90,
 ];
 
+/// Overlays A, of two paragraphs, and B. The routine of A, whose frame is marked, calls a near one of its own, which calls
+/// that of B, whose stub stands at 0210h.
+const NEAR: [u8; 43] = [
+    0x54, 0x4F, 0x56, 0x31, 0x01, 0x00, 0x02, 0x00, 0x01, 0x41, 0x14, 0x00, 0x01, 0x00, 0x45, 0x55,
+    0x8B, 0xEC, 0xE8, 0x03, 0x00, 0x5D, 0x4D, 0xCB, 0x55, 0x8B, 0xEC, 0x9A, 0x20, 0x00, 0xA0, 0x01,
+    0x5D, 0xC3, 0x10, 0x00, 0x01, 0x42, 0x01, 0x00, 0x00, 0x00, 0xCB,
+];
+
 /// Calls the first entry of the stub at 0200h, and then INT 21h.
 const CALLS_A: [u8; 7] = [0x9A, 0x20, 0x00, 0x00, 0x02, 0xCD, 0x21];
 
@@ -40,7 +48,7 @@ const CALLS_A_AND_B: [u8; 12] = [
 ];
 
 /// What the executable says: its stubs, the flag at 0150h:0000h and the error routine at 0150h:0010h.
-fn block_of(alloc: Global, stubs: &[u16]) -> Result<Block, AllocError> {
+fn block_of(alloc: Global, stubs: &[u16], marked: bool) -> Result<Block, AllocError> {
     let mut segments = Segments::new(alloc);
     for stub in stubs {
         segments.push(stub.wrapping_sub(0x70))?;
@@ -60,6 +68,7 @@ fn block_of(alloc: Global, stubs: &[u16]) -> Result<Block, AllocError> {
         heap: 0,
         data_segment: 0xE0,
         data_bytes: 12,
+        marked,
     })
 }
 
@@ -142,8 +151,19 @@ fn folder(alloc: Global, failing: &[u64], bytes: &[u8]) -> Result<MemoryFiles, A
 
 /// The manager of the overlays of a file, whose stubs stand at these segments, with a buffer of so many paragraphs.
 fn manager(alloc: Global, bytes: &[u8], stubs: &[u16], room: u16) -> Result<Ovr, Fail> {
+    manager_by(alloc, bytes, stubs, room, false)
+}
+
+/// The same, where frames are marked or not.
+fn manager_by(
+    alloc: Global,
+    bytes: &[u8],
+    stubs: &[u16],
+    room: u16,
+    marked: bool,
+) -> Result<Ovr, Fail> {
     let index = read_ovr(alloc, bytes)?;
-    let block = block_of(alloc, stubs)?;
+    let block = block_of(alloc, stubs, marked)?;
     Ok(overlays(alloc, &index, &block, room)?.ok_or("they fit")?)
 }
 
@@ -166,6 +186,15 @@ fn three(alloc: Global) -> Result<Scene, Fail> {
         machine: machine_with(alloc, &CALLS_A_AND_B, &THREE_STUBS)?,
         ovr: manager(alloc, &THREE, &THREE_STUBS, 3)?,
         files: folder(alloc, &[], &THREE)?,
+    })
+}
+
+/// The overlay with a near routine and the other one, in a buffer of two paragraphs.
+fn near(alloc: Global, marked: bool) -> Result<Scene, Fail> {
+    Ok(Scene {
+        machine: machine_with(alloc, &CALLS_A, &TWO_STUBS)?,
+        ovr: manager_by(alloc, &NEAR, &TWO_STUBS, 2, marked)?,
+        files: folder(alloc, &[], &NEAR)?,
     })
 }
 
@@ -228,6 +257,23 @@ fn two_overlays_take_turns_in_one_place(rt: HostRuntime) -> Result<(), Fail> {
         [0x9FFF, 0, 0x00EA, 0xFF00, 0x9F]
     );
     assert_eq!(rt; stub_at(&scene.machine, 0x0210), [0, 0, 0x3FCD, 0, 0]);
+    Ok(())
+}
+
+#[test]
+fn a_near_routine_of_an_overlay(rt: HostRuntime) -> Result<(), Fail> {
+    let mut scene = near(rt.alloc(), true)?;
+    assert_eq!(rt; run(&mut scene), Ok(3));
+    assert_eq!(rt;
+        scene.ovr.tally(),
+        Tally {
+            loads: 3,
+            patched: 1
+        }
+    );
+    assert_eq!(rt; state(&scene.machine), [0x0100, 7, 0x0200, 3, 0x1234]);
+    let mut scene = near(rt.alloc(), false)?;
+    assert_eq!(rt; run(&mut scene), Err(ServiceStop::BadChain { bp: 0x01FA }));
     Ok(())
 }
 

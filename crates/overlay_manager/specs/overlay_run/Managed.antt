@@ -47,7 +47,7 @@ abbrev pub IsTrappedIn : List ℕ → Managed → State → Managed → Option T
 IsTrappedIn bytes p t q None = q ≡ is_stopped p why.NoStub p.manager
 IsTrappedIn bytes p t q (Some trap) =
     MatchBool (is_refused p.manager.installed t trap) (q ≡ with_trap (goes_on p (refused p.manager.error_routine t) p.manager))
-    (MatchResult (chain_of t) (λ links. IsLoaded bytes p t trap q) (λ bad. q ≡ is_stopped p (why.BadChain bad) p.manager))
+    (MatchResult (chain_of p.manager.marked t) (λ links. IsLoaded bytes p t trap q) (λ bad. q ≡ is_stopped p (why.BadChain bad) p.manager))
 
 -- INT 3Fh, past which the machine stands at t
 abbrev pub IsTrapped : List ℕ → Managed → State → Managed → Type 0
@@ -57,7 +57,7 @@ IsTrapped bytes p t q = IsTrappedIn bytes p t q (trap_of p.manager.stubs t)
 abbrev pub IsClearedBy : Managed → State → Managed → Bool → Type 0
 IsClearedBy p t q true = q ≡ goes_on p (record t { memory = cleared p.manager t }) (cleared_manager p.manager t)
 IsClearedBy p t q false =
-    MatchResult (chain_of t) (λ links. q ≡ goes_on p (record t { memory = cleared p.manager t }) (cleared_manager p.manager t))
+    MatchResult (chain_of p.manager.marked t) (λ links. q ≡ goes_on p (record t { memory = cleared p.manager t }) (cleared_manager p.manager t))
     (λ bad. q ≡ is_stopped p (why.BadChain bad) p.manager)
 
 abbrev pub IsCleared : Managed → State → Managed → Type 0

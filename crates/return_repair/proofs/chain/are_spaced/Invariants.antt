@@ -7,8 +7,8 @@ use Rattle.return_repair.proofs.chain.are_spaced.Given as goal
 -- what is left of the links decides
 abbrev pub invariant-loop-link : goal.invariant-loop-link
 invariant-loop-link l =
-    (l.link < 65536) × IsOk (chain l.machine.memory l.machine.registers.ss l.link)
-    × (are_spaced (links_of (chain l.machine.memory l.machine.registers.ss l.link)) ≡ are_spaced (links_of (chain_of l.machine)))
+    (l.link < 65536) × IsOk (chain l.marked l.machine.memory l.machine.registers.ss l.link)
+    × (are_spaced (links_of (chain l.marked l.machine.memory l.machine.registers.ss l.link)) ≡ are_spaced (links_of (chain_of l.marked l.machine)))
 
 abbrev pub decreases-loop-link : goal.decreases-loop-link
 decreases-loop-link l = height l.link
