@@ -1,62 +1,55 @@
-//! Texts as lexemes, and what a reader answers as a text.
+//! What a reader answers.
 
 use expression_parser::ReadError;
-use pascal_grammar::lexeme_list::lexemes_of;
-use pascal_grammar::{Lexeme, Position};
-use std::alloc::{AllocError, Global};
-use tp_lexer::{Text, tokens};
-use type_layout::{Bytes, FileName, Sequence};
+use pascal_grammar::Lexeme;
+use test_rows::{Line, put, put_numbered, put_shown};
+use type_layout::Place;
 
-/// The lexemes of a text.
-pub fn lexemes(alloc: Global, source: &str) -> Result<Sequence<Lexeme>, AllocError> {
-    let mut texts = Vec::new(alloc);
-    if let Some(name) = FileName::new("a.pas") {
-        let bytes = Bytes::from_slice(alloc, source.as_bytes())?;
-        match texts.push(Text { name, bytes }) {
-            Ok(()) => {}
-            Err(_) => return Err(AllocError),
-        }
-    }
-    if texts.is_empty() {
-        return Err(AllocError);
-    }
-    match tokens(alloc, texts.as_slice(), 0, &[]) {
-        Ok(list) => lexemes_of(alloc, list.as_slice()),
-        Err(_) => Err(AllocError),
+/// Writes a line and a column.
+pub(crate) fn put_place(out: &mut Line, place: Place) {
+    put_numbered(out, "", u64::from(place.line));
+    put_numbered(out, ":", u64::from(place.column));
+}
+
+// The place of the lexeme from which so many are left.
+fn put_left(out: &mut Line, lexemes: &[Lexeme], left: usize) {
+    match lexemes.get(lexemes.len().wrapping_sub(left)) {
+        Some(lexeme) => put_place(out, lexeme.position.place),
+        None => put(out, "end"),
     }
 }
 
-/// The line and column of the lexeme from which so many are left.
-pub fn write_place(out: &mut String, lexemes: &[Lexeme], left: usize) -> Result<(), AllocError> {
-    if left == 0 || left > lexemes.len() {
-        return out.push_str("end");
-    }
-    let Position { place, .. } = lexemes[lexemes.len() - left].position;
-    let line = place.line;
-    let column = place.column;
-    write!(out, "{line}:{column}")
-}
-
-/// The fault and its place.
-pub fn write_error(
-    out: &mut String,
-    lexemes: &[Lexeme],
-    error: &ReadError,
-) -> Result<(), AllocError> {
+/// Writes the fault and its place.
+pub(crate) fn put_error(out: &mut Line, lexemes: &[Lexeme], error: &ReadError) {
     match error {
-        ReadError::NoMemory => Err(AllocError),
+        ReadError::NoMemory => put(out, "no memory"),
         ReadError::Syntax(left) => {
-            out.push_str("Syntax ")?;
-            write_place(out, lexemes, *left)
+            put(out, "Syntax ");
+            put_left(out, lexemes, *left);
         }
         ReadError::LeftOut(omission, left) => {
-            let feature = omission.feature();
-            write!(out, "{feature:?} ")?;
-            write_place(out, lexemes, *left)
+            put_shown(out, &omission.feature());
+            put(out, " ");
+            put_left(out, lexemes, *left);
         }
         ReadError::TooDeep(left) => {
-            out.push_str("TooDeep ")?;
-            write_place(out, lexemes, *left)
+            put(out, "TooDeep ");
+            put_left(out, lexemes, *left);
+        }
+    }
+}
+
+/// Writes the fault and its place, or the place of what stands behind what was read.
+pub(crate) fn put_outcome<T>(
+    out: &mut Line,
+    lexemes: &[Lexeme],
+    read: &Result<(T, &[Lexeme]), ReadError>,
+) {
+    match read {
+        Err(error) => put_error(out, lexemes, error),
+        Ok((_, rest)) => {
+            put(out, "to ");
+            put_left(out, lexemes, rest.len());
         }
     }
 }

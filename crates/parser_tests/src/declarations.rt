@@ -1,11 +1,14 @@
-use crate::declaration_tests::outcome::lexemes;
+//! Declarations and blocks.
+
+use crate::outcome::put_outcome;
 use expression_parser::ReadError;
 use pascal_grammar::Lexeme;
-use std::alloc::{AllocError, Global};
+use std::alloc::Global;
 use syntax_tree::source_tree::{
     Block, ConstantDeclaration, Declaration, DeclarationPart, Routine, RoutineHeader,
 };
 use syntax_tree::type_tree::MethodHeader;
+use test_rows::{Line, put};
 use tp_parser::declaration_parser::{read_block, read_declarations};
 
 fn part(part: &DeclarationPart) -> &'static str {
@@ -79,46 +82,20 @@ fn shape(declarations: &[Declaration]) -> &'static str {
     }
 }
 
-fn has_shape(alloc: Global, source: &str, expected: &str) -> Result<bool, AllocError> {
-    let list = lexemes(alloc, source)?;
-    let same = match read_declarations(alloc, 200, list.as_slice()) {
-        Ok((declarations, rest)) if rest.is_empty() => shape(declarations.as_slice()) == expected,
-        _ => false,
-    };
-    Ok(same)
+fn shape_read(read: &Result<(Vec<Declaration>, &[Lexeme]), ReadError>) -> &'static str {
+    match read {
+        Ok((declarations, rest)) if rest.is_empty() => shape(declarations.as_slice()),
+        _ => "none or more",
+    }
 }
 
-#[test]
-fn makes_declarations(rt: HostRuntime) {
-    let rows = [
-        ("", "none"),
-        ("const a = 1; b: c = 2;", "plain and typed constants"),
-        ("type a = b; c = d;", "two types"),
-        ("var a, b: c; d: e;", "variables, two of them of one type"),
-        ("procedure p; forward;", "forward procedure"),
-        (
-            "function f: a; forward;",
-            "forward function with its result",
-        ),
-        ("function f; forward;", "forward function"),
-        ("procedure p; begin end;", "routine"),
-        ("function f: a; var b: c; begin end;", "routine with a part"),
-        (
-            "procedure p; procedure q; begin end; procedure r; forward; begin end;",
-            "routine with two inside",
-        ),
-        ("procedure a.b; begin end;", "procedure of an object"),
-        ("function a.b: c; begin end;", "function of an object"),
-        ("constructor a.b; begin end;", "constructor"),
-        ("destructor a.b; begin end;", "destructor"),
-        (
-            "const a = 1; procedure p; begin end; var b: c;",
-            "a part, a routine, a part",
-        ),
-    ];
-    for (source, expected) in rows {
-        let same = has_shape(rt.alloc(), source, expected);
-        assert!(&rt; same == Ok(true), "{source}");
+/// Writes what the trees of declarations hold, or the outcome.
+pub(crate) fn put_declarations(alloc: Global, out: &mut Line, as_tree: bool, lexemes: &[Lexeme]) {
+    let read = read_declarations(alloc, 200, lexemes);
+    if as_tree {
+        put(out, shape_read(&read));
+    } else {
+        put_outcome(out, lexemes, &read);
     }
 }
 
@@ -129,10 +106,8 @@ fn block_read(read: &Result<(Block, &[Lexeme]), ReadError>) -> &'static str {
     }
 }
 
-#[test]
-fn makes_a_block(rt: HostRuntime) -> Result<(), AllocError> {
-    let list = lexemes(rt.alloc(), "var a: b; begin a := 1 end")?;
-    let read = read_block(rt.alloc(), 200, list.as_slice());
-    assert!(&rt; block_read(&read) == "routine with a part");
-    Ok(())
+/// Writes what the tree of a block holds.
+pub(crate) fn put_block(alloc: Global, out: &mut Line, lexemes: &[Lexeme]) {
+    let read = read_block(alloc, 200, lexemes);
+    put(out, block_read(&read));
 }
