@@ -28,90 +28,24 @@ use Rattle.tp_meaning.specs.Shapes.{stored_among}
 use Rattle.tp_meaning.specs.Store.{Object, Store, object_at, if_there}
 use Rattle.tp_meaning.specs.Programs.{Sort, definition}
 use Rattle.tp_meaning.specs.Operators.{truth, is_true, is_boolean, unary_number, unary, arithmetic, logic, computed_as, computed, relation, related_or, on_ordinals, on_texts, on_sets, same_pointer, equality, binary, decided, converted, is_between, within, ranged, element_of, spanned}
-use Rattle.store_typing.specs.types.Forms.{Number, all_members, Link}
+use Rattle.store_typing.specs.types.Forms.{Number, Link}
 use Rattle.store_typing.specs.stores.Worlds.{World, LiesWithin, IsHeld}
 use Rattle.store_typing.specs.stores.Places.{IsText, IsValueBy, IsValueOf}
 use Rattle.store_typing.specs.stores.Stores.{Finds}
 use Rattle.store_typing.proofs.stores.Paths.{finds_bind}
-use Rattle.store_typing.proofs.stores.Steps.{as_ordinal, of_ordinal}
 use Rattle.store_typing.proofs.operators.Ranges.{kept_held, meant_held, and_word, or_word, xor_word, shifted_word, number_word}
 use Rattle.store_typing.specs.operators.Laws.{OperatorLaws}
 use Rattle.store_typing.proofs.stores.Sets.{more_lies}
+use Rattle.store_typing.proofs.operators.Kinds.{number_value, ordinal_value, truth_held, truth_value, text_value, of_text, IsAny, set_value, as_set}
 use Rattle.store_typing.proofs.operators.Stored.{wide, some_stored, ordinal_of_family, ordinal_if_integer}
 
 module _ (w : World) where
-  -- ---- values by their kinds
-
-  pub record NumberAt (h : Host) (v : Value) : Type 0 where
-    pub z : ℤ
-    pub is : v ≡ Ordinal z
-    pub held : IsHeld w (Number h) (Ordinal z)
-
-  pub number_at : (h : Host) (v : Value) → IsHeld w (Number h) v → NumberAt h v
-  number_at h (Ordinal z) held = record { z = z; is = refl; held = held }
-  number_at h v held = absurd held
-
-  pub number_value : (sort : Sort) (h : Host) (v : Value) → stored_as (definition sort) ≡ Some h → IsValueOf w sort v → NumberAt h v
-  number_value sort h v e is = number_at h v (of_ordinal w sort h v (definition sort) e is)
-
-  pub ordinal_value : (sort : Sort) (h : Host) (z : ℤ) → stored_as (definition sort) ≡ Some h → IsHeld w (Number h) (Ordinal z) → IsValueOf w sort (Ordinal z)
-  ordinal_value sort h z e held = as_ordinal w sort h (Ordinal z) (definition sort) e held
-
-  pub truth_held : (b : Bool) → IsHeld w (Number host.Boolean) (truth b)
-  truth_held true = refl
-  truth_held false = refl
-
-  pub truth_value : (sort : Sort) (b : Bool) → IsBoolean (definition sort) → IsValueOf w sort (truth b)
-  truth_value sort b e = as_ordinal w sort host.Boolean (truth b) (definition sort) e (truth_held b)
-
-  pub record TextAt (v : Value) : Type 0 where
-    pub bytes : List ℕ
-    pub is : v ≡ Text bytes
-    pub text : IsText bytes
-
-  text_by : (sort : Sort) (max : ℕ) (v : Value) → IsValueBy w sort (Some (type.Str max)) v → TextAt v
-  text_by sort max (Text bytes) is = record { bytes = bytes; is = refl; text = is }
-  text_by sort max v is = absurd is
-
-  text_at : (sort : Sort) (o : Option TypeDef) (v : Value) → IsString o → IsValueBy w sort o v → TextAt v
-  text_at sort (Some (type.Str max)) v string is = text_by sort max v is
-  text_at sort o v string is = absurd string
-
-  pub text_value : (sort : Sort) (v : Value) → IsString (definition sort) → IsValueOf w sort v → TextAt v
-  text_value sort v string is = text_at sort (definition sort) v string is
-
-  as_text : (sort : Sort) (o : Option TypeDef) (bytes : List ℕ) → IsString o → IsText bytes → IsValueBy w sort o (Text bytes)
-  as_text sort (Some (type.Str max)) bytes string is = is
-  as_text sort o bytes string is = absurd string
-
-  pub of_text : (sort : Sort) (bytes : List ℕ) → IsString (definition sort) → IsText bytes → IsValueOf w sort (Text bytes)
-  of_text sort bytes string is = as_text sort (definition sort) bytes string is
-
-  -- a set, whose elements are below 256
-  abbrev IsAny : List ℕ → Type 0
-  IsAny set = All (LiesWithin 0 32) set
-
-  set_by : (v : Value) → IsHeld w all_members v → (set : List ℕ) × (v ≡ Elements set) × IsAny set
-  set_by (Elements set) is = (set, refl, is)
-  set_by v is = absurd is
-
-  set_at : (sort : Sort) (o : Option TypeDef) (v : Value) → IsSet o → IsValueBy w sort o v → (set : List ℕ) × (v ≡ Elements set) × IsAny set
-  set_at sort (Some (type.SetOf base)) v s is = set_by v is
-  set_at sort o v s is = absurd s
-
-  set_value : (sort : Sort) (v : Value) → IsSet (definition sort) → IsValueOf w sort v → (set : List ℕ) × (v ≡ Elements set) × IsAny set
-  set_value sort v s is = set_at sort (definition sort) v s is
-
-  as_set : (sort : Sort) (o : Option TypeDef) (set : List ℕ) → IsSet o → IsAny set → IsValueBy w sort o (Elements set)
-  as_set sort (Some (type.SetOf base)) set s is = is
-  as_set sort o set s is = absurd s
-
   -- ---- one operand
 
   complement_held : (h : Host) (z : ℤ) → IsHeld w (Number h) (Ordinal z) → (op : UnaryOp) → IsHeld w (Number h) (Ordinal (unary_number op h z))
   complement_held h z held Plus = held
   complement_held h z held Minus = kept_held h (neg_ℤ z)
-  complement_held host.Boolean z held Not = truth_held (not (is_true z))
+  complement_held host.Boolean z held Not = truth_held w (not (is_true z))
   complement_held host.ShortInt z held Not = kept_held host.ShortInt (neg_ℤ z -ℤ pos 1)
   complement_held host.Byte z held Not = kept_held host.Byte (neg_ℤ z -ℤ pos 1)
   complement_held host.Integer z held Not = kept_held host.Integer (neg_ℤ z -ℤ pos 1)
@@ -123,9 +57,9 @@ module _ (w : World) where
   unary_stored : (sort of : Sort) (op : UnaryOp) (v : Value) (h : Host) → stored_as (definition sort) ≡ Some h → stored_as (definition of) ≡ Some h → IsValueOf w of v
       → Finds (IsValueOf w sort) (unary op (stored_as (definition sort)) v)
   unary_stored sort of op v h e e' is =
-      let n = number_value of h v e' is in
+      let n = number_value w of h v e' is in
       subst (λ (s : Option Host). Finds (IsValueOf w sort) (unary op s v)) (sym e)
-      (subst (λ (x : Value). Finds (IsValueOf w sort) (unary op (Some h) x)) (sym n.is) (ordinal_value sort h (unary_number op h n.z) e (complement_held h n.z n.held op)))
+      (subst (λ (x : Value). Finds (IsValueOf w sort) (unary op (Some h) x)) (sym n.is) (ordinal_value w sort h (unary_number op h n.z) e (complement_held h n.z n.held op)))
 
   unary_arithmetic : (sort of : Sort) (op : UnaryOp) (v : Value) → IsArithmetic (definition sort) (definition of) → IsValueOf w of v → Finds (IsValueOf w sort) (unary op (stored_as (definition sort)) v)
   unary_arithmetic sort of op v fits is = let s = wide (definition sort) fits.0 in unary_stored sort of op v s.stored s.is (fits.1 ∙ s.is) is
@@ -195,15 +129,15 @@ module _ (w : World) where
 
     computed_numbers : (op : BinaryOp) → Computes op → (h : Host) (never : is_boolean h ≡ false) (x y : ℤ) → stored_as (definition sort) ≡ Some h → Finds (IsValueOf w sort) (computed op (stored_as (definition sort)) x y)
     computed_numbers op computes h never x y e =
-        let made = finds_bind (IsNumber h) (IsValueOf w sort) (arithmetic op (stored_among h) x y) (λ z. Ok (Ordinal z)) (computes h x y) (λ z held. ordinal_value sort h z e held) in
+        let made = finds_bind (IsNumber h) (IsValueOf w sort) (arithmetic op (stored_among h) x y) (λ z. Ok (Ordinal z)) (computes h x y) (λ z held. ordinal_value w sort h z e held) in
         subst (λ (s : Option Host). Finds (IsValueOf w sort) (computed op s x y)) (sym e)
         (subst (λ (t : Bool). Finds (IsValueOf w sort) (computed_as t op h x y)) (sym never) made)
 
     two_ordinals : (op : BinaryOp) → ((o : Ordering) → relation op o ≡ None) → (h h' : Host) → stored_as (definition left) ≡ Some h → stored_as (definition right) ≡ Some h'
         → ((x y : ℤ) → Finds (IsValueOf w sort) (computed op (stored_as (definition sort)) x y)) → Goal op
     two_ordinals op none h h' e e' computes =
-        let x = number_value left h a e is_a in
-        let y = number_value right h' b e' is_b in
+        let x = number_value w left h a e is_a in
+        let y = number_value w right h' b e' is_b in
         with_both op (Ordinal x.z) (Ordinal y.z) x.is y.is
         (related_finds op (relation op (int_cmp x.z y.z)) (computed op (stored_as (definition sort)) x.z y.z) (none (int_cmp x.z y.z)) (computes x.z y.z))
 
@@ -224,14 +158,14 @@ module _ (w : World) where
         two_ordinals op none host.Boolean host.Boolean (fits.0).1 (fits.1).1 (λ x y.
         subst (λ (s : Option Host). Finds (IsValueOf w sort) (computed op s x y)) (sym e)
         (let c = decides (is_true x) (is_true y) in
-        subst (λ (f : Found Bool). Finds (IsValueOf w sort) (f >>= λ d. Ok (truth d))) (sym c.1) (truth_value sort c.0 e)))
+        subst (λ (f : Found Bool). Finds (IsValueOf w sort) (f >>= λ d. Ok (truth d))) (sym c.1) (truth_value w sort c.0 e)))
 
     sets : (op : BinaryOp) → ((x y : List ℕ) → IsAny x → IsAny y → (set : List ℕ) × (on_sets op x y ≡ Ok (Elements set)) × IsAny set) → AreSets (definition sort) (definition left) (definition right) → Goal op
     sets op gives fits =
-        let x = set_value left a fits.1 is_a in
-        let y = set_value right b fits.2 is_b in
+        let x = set_value w left a fits.1 is_a in
+        let y = set_value w right b fits.2 is_b in
         let c = gives x.0 y.0 x.2 y.2 in
-        with_both op (Elements x.0) (Elements y.0) x.1 y.1 (subst (Finds (IsValueOf w sort)) (sym c.1) (as_set sort (definition sort) c.0 fits.0 c.2))
+        with_both op (Elements x.0) (Elements y.0) x.1 y.1 (subst (Finds (IsValueOf w sort)) (sym c.1) (as_set w sort (definition sort) c.0 fits.0 c.2))
 
     either_set : (x y : List ℕ) → IsAny x → IsAny y → IsAny (union x y)
     either_set x y p q = All-append (LiesWithin 0 32) x (filter (λ e. not (contains x e)) y) p (All-filter (λ e. not (contains x e)) (LiesWithin 0 32) y q)
@@ -256,14 +190,14 @@ module _ (w : World) where
 
     strings : AreStrings (definition sort) (definition left) (definition right) → Goal Add
     strings fits =
-        let x = text_value left a fits.1 is_a in
-        let y = text_value right b fits.2 is_b in
-        with_both Add (Text x.bytes) (Text y.bytes) x.is y.is (of_text sort (joined x.bytes y.bytes) fits.0 (joined_text x.bytes y.bytes x.text y.text))
+        let x = text_value w left a fits.1 is_a in
+        let y = text_value w right b fits.2 is_b in
+        with_both Add (Text x.bytes) (Text y.bytes) x.is y.is (of_text w sort (joined x.bytes y.bytes) fits.0 (joined_text x.bytes y.bytes x.text y.text))
 
     -- ---- relations
 
     told : IsBoolean (definition sort) → (f : Found Value) (c : Bool) → f ≡ Ok (truth c) → Finds (IsValueOf w sort) f
-    told e f c is = subst (Finds (IsValueOf w sort)) (sym is) (truth_value sort c e)
+    told e f c is = subst (Finds (IsValueOf w sort)) (sym is) (truth_value w sort c e)
 
     abbrev Relates : BinaryOp → Type 0
     Relates op = (o : Ordering) → (c : Bool) × (relation op o ≡ Some c)
@@ -273,31 +207,31 @@ module _ (w : World) where
       alike : AreStoredAlike (definition left) (definition right) → Goal op
       alike f =
           let s = some_stored (stored_as (definition left)) f.ordinal in
-          let x = number_value left s.0 a s.1 is_a in
-          let y = number_value right s.0 b (sym f.same ∙ s.1) is_b in
+          let x = number_value w left s.0 a s.1 is_a in
+          let y = number_value w right s.0 b (sym f.same ∙ s.1) is_b in
           let c = relates (int_cmp x.z y.z) in
           with_both op (Ordinal x.z) (Ordinal y.z) x.is y.is (told e (on_ordinals op (stored_as (definition sort)) x.z y.z) c.0 (ap (λ (o : Option Bool). related_or o (computed op (stored_as (definition sort)) x.z y.z)) c.1))
 
       both : (IsString (definition left) × IsString (definition right)) → Goal op
       both f =
-          let x = text_value left a f.0 is_a in
-          let y = text_value right b f.1 is_b in
+          let x = text_value w left a f.0 is_a in
+          let y = text_value w right b f.1 is_b in
           let c = texts x.bytes y.bytes in
           with_both op (Text x.bytes) (Text y.bytes) x.is y.is (told e (on_texts op x.bytes y.bytes) c.0 c.1)
 
     set_relation : (op : BinaryOp) → ((x y : List ℕ) → (c : Bool) × (on_sets op x y ≡ Ok (truth c))) → IsBoolean (definition sort) → AreSetsBoth (definition left) (definition right) → Goal op
     set_relation op tells e fits =
-        let x = set_value left a fits.0 is_a in
-        let y = set_value right b fits.1 is_b in
+        let x = set_value w left a fits.0 is_a in
+        let y = set_value w right b fits.1 is_b in
         let c = tells x.0 y.0 in
         with_both op (Elements x.0) (Elements y.0) x.1 y.1 (told e (on_sets op x.0 y.0) c.0 c.1)
 
     member : IsBoolean (definition sort) → IsSome (family_of (definition left)) → IsSet (definition right) → Goal In
     member e is s =
         let o = ordinal_of_family (definition left) is in
-        let x = number_value left o.0 a o.1 is_a in
-        let y = set_value right b s is_b in
-        with_both In (Ordinal x.z) (Elements y.0) x.is y.1 (truth_value sort (is_member y.0 x.z) e)
+        let x = number_value w left o.0 a o.1 is_a in
+        let y = set_value w right b s is_b in
+        with_both In (Ordinal x.z) (Elements y.0) x.is y.1 (truth_value w sort (is_member y.0 x.z) e)
 
     there : (o : Option Object) (serial : ℕ) → Finds (λ (n : ℕ). Unit {0}) (if_there o serial)
     there None serial = tt
@@ -359,10 +293,10 @@ module _ (w : World) where
 
   decided_if : (sort : Sort) (test : Bool) (v : Value) → IsBoolean (definition sort) → (if test then None else Some (truth false)) ≡ Some v → IsValueOf w sort v
   decided_if sort true v e is = absurd cc
-  decided_if sort false v e is = subst (IsValueOf w sort) (same_Some (truth false) v is) (truth_value sort false e)
+  decided_if sort false v e is = subst (IsValueOf w sort) (same_Some (truth false) v is) (truth_value w sort false e)
 
   decided_or : (sort : Sort) (test : Bool) (v : Value) → IsBoolean (definition sort) → (if test then Some (truth true) else None) ≡ Some v → IsValueOf w sort v
-  decided_or sort true v e is = subst (IsValueOf w sort) (same_Some (truth true) v is) (truth_value sort true e)
+  decided_or sort true v e is = subst (IsValueOf w sort) (same_Some (truth true) v is) (truth_value w sort true e)
   decided_or sort false v e is = absurd cc
 
   decided_value : (sort : Sort) (op : BinaryOp) (early : Bool) (a v : Value) → MayBeEarly op early (definition sort) → decided op early a ≡ Some v → IsValueOf w sort v
@@ -389,12 +323,12 @@ module _ (w : World) where
     ordinal : (IsSome (stored_as (definition sort)) × IsSome (stored_as (definition of))) → Finds (IsValueOf w sort) (converted (definition sort) v)
     ordinal f =
         let s = some_stored (stored_as (definition of)) f.1 in
-        let n = number_value of s.0 v s.1 is in
+        let n = number_value w of s.0 v s.1 is in
         subst (λ (x : Value). Finds (IsValueOf w sort) (converted (definition sort) x)) (sym n.is) (converted_ordinal sort (definition sort) n.z f.0)
 
     string : (IsString (definition sort) × IsChar (definition of)) → Finds (IsValueOf w sort) (converted (definition sort) v)
     string f =
-        let n = number_value of host.Char v f.1 is in
+        let n = number_value w of host.Char v f.1 is in
         subst (λ (x : Value). Finds (IsValueOf w sort) (converted (definition sort) x)) (sym n.is) (converted_string sort (definition sort) n.z f.0 n.held)
 
   pub within_finds : (P : ℤ → Type 0) (low high z : ℤ) → P z → Finds P (within low high z)
@@ -406,9 +340,9 @@ module _ (w : World) where
   ranged_finds : (sort : Sort) (low high : ℤ) (v : Value) → IsSome (stored_as (definition sort)) → IsValueOf w sort v → Finds (IsValueOf w sort) (ranged low high v)
   ranged_finds sort low high v s is =
       let h = some_stored (stored_as (definition sort)) s in
-      let n = number_value sort h.0 v h.1 is in
+      let n = number_value w sort h.0 v h.1 is in
       subst (λ (x : Value). Finds (IsValueOf w sort) (ranged low high x)) (sym n.is)
-      (finds_bind (IsNumber h.0) (IsValueOf w sort) (within low high n.z) (λ z. Ok (Ordinal z)) (within_finds (IsNumber h.0) low high n.z n.held) (λ z held. ordinal_value sort h.0 z h.1 held))
+      (finds_bind (IsNumber h.0) (IsValueOf w sort) (within low high n.z) (λ z. Ok (Ordinal z)) (within_finds (IsNumber h.0) low high n.z n.held) (λ z held. ordinal_value w sort h.0 z h.1 held))
 
   element_number : (z : ℤ) → Finds (λ (n : ℕ). n < 256) (element_of (Ordinal z))
   element_number (negsuc n) = tt
@@ -423,7 +357,7 @@ module _ (w : World) where
   element_finds : (of : Sort) (v : Value) → IsSome (family_of (definition of)) → IsValueOf w of v → Finds (λ (n : ℕ). n < 256) (element_of v)
   element_finds of v s is =
       let h = ordinal_of_family (definition of) s in
-      let n = number_value of h.0 v h.1 is in
+      let n = number_value w of h.0 v h.1 is in
       subst (λ (x : Value). Finds (λ (n : ℕ). n < 256) (element_of x)) (sym n.is) (element_number n.z)
 
   abbrev AreSmall : List ℕ → Type 0
@@ -441,8 +375,8 @@ module _ (w : World) where
   spanned_finds of to set v x are s t is is' =
       let h = ordinal_of_family (definition of) s in
       let k = ordinal_of_family (definition to) t in
-      let m = number_value of h.0 v h.1 is in
-      let n = number_value to k.0 x k.1 is' in
+      let m = number_value w of h.0 v h.1 is in
+      let n = number_value w to k.0 x k.1 is' in
       subst (λ (y : Value). Finds AreSmall (spanned set y x)) (sym m.is)
       (subst (λ (y : Value). Finds AreSmall (spanned set (Ordinal m.z) y)) (sym n.is) (spanned_numbers set m.z n.z are))
 
