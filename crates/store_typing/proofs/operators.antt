@@ -1,4 +1,4 @@
 pub mod Ranges
 pub mod Stored
-pub mod Kinds
+pub mod OperandKinds
 pub mod Operators

@@ -36,7 +36,7 @@ use Rattle.store_typing.proofs.stores.Paths.{finds_bind}
 use Rattle.store_typing.proofs.operators.Ranges.{kept_held, meant_held, and_word, or_word, xor_word, shifted_word, number_word}
 use Rattle.store_typing.specs.operators.Laws.{OperatorLaws}
 use Rattle.store_typing.proofs.stores.Sets.{more_lies}
-use Rattle.store_typing.proofs.operators.Kinds.{number_value, ordinal_value, truth_held, truth_value, text_value, of_text, IsAny, set_value, as_set}
+use Rattle.store_typing.proofs.operators.OperandKinds.{number_value, ordinal_value, truth_held, truth_value, text_value, of_text, IsAny, set_value, as_set}
 use Rattle.store_typing.proofs.operators.Stored.{wide, some_stored, ordinal_of_family, ordinal_if_integer}
 
 module _ (w : World) where

@@ -15,7 +15,7 @@ use Rattle.store_typing.specs.types.Forms.{Number}
 use Rattle.store_typing.specs.stores.Worlds.{World, IsHeld}
 use Rattle.store_typing.specs.stores.Places.{IsAt, IsText, IsValueOf}
 use Rattle.store_typing.proofs.operators.Stored.{ordinal_if_integer}
-use Rattle.store_typing.proofs.operators.Kinds.{number_value, text_value}
+use Rattle.store_typing.proofs.operators.OperandKinds.{number_value, text_value}
 use Rattle.store_typing.specs.standard.Operands.{IsOperand}
 
 some_stored : (s : Option Host) → IsSome s → (h : Host) × (s ≡ Some h)

@@ -29,7 +29,7 @@ use Rattle.store_typing.specs.stores.Places.{IsText, IsValueOf}
 use Rattle.store_typing.specs.stores.Stores.{Finds}
 use Rattle.store_typing.proofs.stores.Paths.{finds_bind}
 use Rattle.store_typing.proofs.operators.Ranges.{is_held, kept_held}
-use Rattle.store_typing.proofs.operators.Kinds.{ordinal_value, truth_held, truth_value, of_text}
+use Rattle.store_typing.proofs.operators.OperandKinds.{ordinal_value, truth_held, truth_value, of_text}
 use Rattle.store_typing.specs.standard.Operands.{IsOperand, AreOperands, HoldsNumber, IsResult}
 use Rattle.store_typing.specs.standard.Laws.{IsSoundCall}
 use Rattle.store_typing.proofs.standard.Arguments.{NumberGiven, integer_given, ordinal_given, char_given, text_given, taken_text, dropped_text}

@@ -34,7 +34,7 @@ use Rattle.store_typing.proofs.stores.Paths.{finds_bind}
 use Rattle.store_typing.proofs.stores.Seen.{reached_known, object_seen, parent_object}
 use Rattle.store_typing.proofs.stores.Instances.{class_found}
 use Rattle.store_typing.proofs.operators.Ranges.{is_held}
-use Rattle.store_typing.proofs.operators.Kinds.{ordinal_value}
+use Rattle.store_typing.proofs.operators.OperandKinds.{ordinal_value}
 use Rattle.store_typing.specs.standard.Operands.{IsOperand}
 use Rattle.store_typing.specs.standard.Laws.{HasClasses, IsSoundCall}
 use Rattle.store_typing.proofs.standard.Arguments.{variable_named}

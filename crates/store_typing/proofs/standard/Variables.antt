@@ -30,7 +30,7 @@ use Rattle.store_typing.proofs.stores.Seen.{seen_form, ordinal_form}
 use Rattle.store_typing.proofs.stores.Steps.{as_ordinal, same_form, cell_found, text_found, length_found, put_over, assigns}
 use Rattle.store_typing.proofs.stores.Texts.{text_has}
 use Rattle.store_typing.proofs.operators.Ranges.{is_held, kept_held}
-use Rattle.store_typing.proofs.operators.Kinds.{number_at}
+use Rattle.store_typing.proofs.operators.OperandKinds.{number_at}
 use Rattle.store_typing.specs.standard.Laws.{IsTypedLater}
 
 stored_alike : (a b : Table) (one other : TypeDef) → AreAlike a one b other → stored_as (Some one) ≡ stored_as (Some other)

@@ -24,7 +24,7 @@ use Rattle.program_typing.proofs.store_typing_proofs.stores.Grown.{grows_by, at_
 use Rattle.program_typing.proofs.store_typing_proofs.stores.Seen.{target_place}
 use Rattle.program_typing.proofs.store_typing_proofs.stores.Steps.{loads}
 use Rattle.program_typing.proofs.store_typing_proofs.operators.Stored.{ordinal_of_family}
-use Rattle.program_typing.proofs.store_typing_proofs.operators.Kinds.{number_value}
+use Rattle.program_typing.proofs.store_typing_proofs.operators.OperandKinds.{number_value}
 use Rattle.program_typing.specs.lvalues.Laws.{PartLaws}
 use Rattle.program_typing.proofs.lvalues.Parts.{part_laws}
 use Rattle.program_typing.specs.programs.Outcomes.{IsTypedState, world, after, Ends}

@@ -31,7 +31,7 @@ use Rattle.program_typing.specs.store_typing.stores.Worlds.{Made, World, IsHeld,
 use Rattle.program_typing.specs.store_typing.stores.Places.{IsAt, IsValueBy, IsValueOf}
 use Rattle.program_typing.proofs.store_typing_proofs.stores.Paths.{finds_more}
 use Rattle.program_typing.proofs.store_typing_proofs.stores.Steps.{as_ordinal}
-use Rattle.program_typing.proofs.store_typing_proofs.operators.Kinds.{number_value}
+use Rattle.program_typing.proofs.store_typing_proofs.operators.OperandKinds.{number_value}
 use Rattle.program_typing.proofs.store_typing_proofs.operators.Ranges.{is_held}
 use Rattle.program_typing.specs.store_typing.standard.Operands.{HoldsNumber, IsLikeNumber, GivesResult, IsResult}
 use Rattle.program_typing.specs.store_typing.standard.Laws.{HasClasses, IsSoundEffect, IsSoundCall}

@@ -18,7 +18,7 @@ use Rattle.program_typing.specs.tp_meaning.Statements.{then_next, chosen, tested
 use Rattle.program_typing.specs.store_typing.stores.Worlds.{World}
 use Rattle.program_typing.specs.store_typing.stores.Places.{IsValueOf}
 use Rattle.program_typing.specs.store_typing.stores.Stores.{IsTypedStore, Finds}
-use Rattle.program_typing.proofs.store_typing_proofs.operators.Kinds.{number_value}
+use Rattle.program_typing.proofs.store_typing_proofs.operators.OperandKinds.{number_value}
 use Rattle.program_typing.proofs.store_typing_proofs.operators.Operators.{within_finds}
 use Rattle.program_typing.specs.programs.Outcomes.{IsTypedState, after, Ends}
 use Rattle.program_typing.proofs.programs.Ends.{ends_bind, ends_done, ends_found, ends_changed}

@@ -35,7 +35,7 @@ use Rattle.program_typing.specs.store_typing.stores.Stores.{Finds}
 use Rattle.program_typing.proofs.store_typing_proofs.stores.Seen.{place_seen, place_above, value_joins}
 use Rattle.program_typing.proofs.store_typing_proofs.stores.Steps.{assigns, copies}
 use Rattle.program_typing.proofs.store_typing_proofs.operators.Stored.{ordinal_of_family}
-use Rattle.program_typing.proofs.store_typing_proofs.operators.Kinds.{ordinal_value}
+use Rattle.program_typing.proofs.store_typing_proofs.operators.OperandKinds.{ordinal_value}
 use Rattle.program_typing.proofs.store_typing_proofs.standard.Variables.{ordinal_simple}
 use Rattle.program_typing.specs.lvalues.Frames.{IsActive, AreHeld}
 use Rattle.program_typing.specs.programs.Outcomes.{IsTypedState, world, Ends}

@@ -25,7 +25,7 @@ use Rattle.program_typing.specs.store_typing.stores.Stores.{Finds}
 use Rattle.program_typing.proofs.store_typing_proofs.stores.Steps.{assigns}
 use Rattle.program_typing.proofs.store_typing_proofs.stores.Grown.{grows_by, at_grows}
 use Rattle.program_typing.proofs.store_typing_proofs.operators.Ranges.{is_held}
-use Rattle.program_typing.proofs.store_typing_proofs.operators.Kinds.{ordinal_value}
+use Rattle.program_typing.proofs.store_typing_proofs.operators.OperandKinds.{ordinal_value}
 use Rattle.program_typing.proofs.store_typing_proofs.standard.Variables.{ordinal_simple, number_put, text_put}
 use Rattle.program_typing.specs.programs.Outcomes.{IsTypedState, world, Ends}
 use Rattle.program_typing.proofs.programs.Ends.{ends_done, ends_changed}
