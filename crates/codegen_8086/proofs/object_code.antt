@@ -3,3 +3,4 @@ pub mod Bytes
 pub mod Fills
 pub mod Stood
 pub mod Codes
+pub mod Named

@@ -1,3 +1,4 @@
 pub mod References
 pub mod Objects
 pub mod Resolved
+pub mod Named

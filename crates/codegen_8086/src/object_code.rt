@@ -2,4 +2,4 @@
 
 mod laws;
 
-pub use laws::code_law;
+pub use laws::{code_law, reference_law};

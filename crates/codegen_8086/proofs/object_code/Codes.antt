@@ -1,5 +1,5 @@
 -- The code of a routine, its references filled in, is the routine's lines.
-use Rattle.std.proofs.Common.{arith, ◌≡◌, ℕ, ◌+◌, ◌≤◌, Bool, true, false, List, [], ◌∷◌, ◌++◌, length, map, take, drop, refl, sym, ap, subst, ◌∙◌, append_assoc, length-append}
+use Rattle.std.proofs.Common.{arith, ◌≡◌, ℕ, zero, suc, ◌+◌, ◌≤◌, Bool, true, false, List, [], ◌∷◌, ◌++◌, length, map, take, drop, refl, sym, ap, subst, ◌∙◌, append_assoc, length-append, inl, inr}
 use Rattle.std.specs.Prelude.{if◌then◌else◌}
 use Rattle.std.proofs.lemmas.List.{drop_at, length-map}
 use Rattle.x86_table.specs.declared.instr.Instr.{Instr}
@@ -8,6 +8,7 @@ use Rattle.x86_table.specs.Lines.{code_size, marks, label_place, bytes_from, pla
 use Rattle.x86_table.specs.Spelling.{spelling}
 use Rattle.x86_table.specs.Standing.{IsSpelledAt, label_line_from, label_line, LabelsAreOnce, Alike, Stands, offset_of}
 use Rattle.x86_table.proofs.Filling.{alike_offset_of, alike_label_place, alike_jumps_reach, alike_labels_once}
+use Rattle.x86_table.proofs.Places.{length-assembled}
 use Rattle.x86_table.proofs.Stand.{lines_stand_at}
 use Rattle.flat_code.specs.declared.unit.FlatRoutine.{FlatRoutine}
 use Rattle.flat_code.specs.Plain.{view_routine}
@@ -20,10 +21,10 @@ use Rattle.code_templates.proofs.code_references.Filled.{lines_filled, once_kept
 use Rattle.code_templates.proofs.code_references.Placed.{routine-makes}
 use Rattle.codegen_8086.specs.object_code.Objects.{IsLaidOut, code_of}
 use Rattle.codegen_8086.specs.object_code.References.{refs_at}
-use Rattle.codegen_8086.specs.object_code.Resolved.{NamesLead, resolved, routine_context, CodeFor}
+use Rattle.codegen_8086.specs.object_code.Resolved.{NamesLead, resolved, routine_context, IsWithin, CodeFor}
 use Rattle.codegen_8086.proofs.object_code.Good.{AllGood, routine-good}
 use Rattle.codegen_8086.proofs.object_code.Fills.{near_of, fills, lines_alike, shorts_alike, fills_shorten, bytes_filled}
-use Rattle.codegen_8086.proofs.object_code.Stood.{offsets, labels_of, extended, lines_stood}
+use Rattle.codegen_8086.proofs.object_code.Stood.{offsets, labels_of, extended, offsets_each, lines_stood}
 
 -- ---- lengths
 
@@ -55,6 +56,21 @@ spelled_there front back pre post code i h =
     ∙ ap (λ z. front ++ z) (append_assoc pre (s ++ post) back ∙ ap (λ z. pre ++ z) (append_assoc s post back))
     ∙ sym (append_assoc front pre (s ++ (post ++ back))) in
     (post ++ back, ap (drop (length front + length pre)) e ∙ drop_at (front ++ pre) (s ++ (post ++ back)) (length front + length pre) (length-append front pre))
+
+-- ---- offsets in a segment
+
+taken_size : (j : ℕ) (xs : List Line) → code_size (take j xs) ≤ code_size xs
+taken_size zero [] = omega arith
+taken_size zero (x ∷ xs) = omega arith
+taken_size (suc j) [] = omega arith
+taken_size (suc j) (x ∷ xs) = omega (arith, taken_size j xs)
+
+in_segment : (front back code : List ℕ) (ws : List Line) (k : ℕ) → code ≡ assembled ws → offset_of (length front) ws k ≤ length (front ++ (code ++ back))
+in_segment front back code ws k h =
+    let whole = length-append front (code ++ back) in
+    let behind = length-append code back in
+    let size : length code ≡ code_size ws = ap (λ (z : List ℕ). length z) h ∙ length-assembled ws in
+    omega (arith, whole, behind, size, taken_size k ws)
 
 -- ---- the whole
 
@@ -97,10 +113,13 @@ code_stands own unit pointer r ys lead laid a front back =
     let e : 0 + i ≡ i = omega arith in
     ap (offset_of p ys) e in
     let stood : Stands (IsSpelledAt whole) high labels 0 (map (placed_line x) ms) = lines_stood (IsSpelledAt whole) x (offset_of p ys) (label_line zs) n k high labels 0 p ms ys ext within (omega arith) count_ys here good stood_ys in
+    let line_within : (j : ℕ) → IsWithin a own whole (offset_of p ys j) = λ j.
+    subst (λ (at : ℕ → ℕ). IsWithin a own whole (at j)) (alike_offset_of p ys ws alike_ws) (inl (in_segment front back code ws j bytes)) in
     record {
       at = high;
       labels = labels;
       begins = ext.same 0 (omega arith) ∙ (omega arith);
       leads = ext.leads;
       stands = subst (λ ls. Stands (IsSpelledAt whole) high labels 0 ls) placed stood;
+      bounded = λ k. offsets_each (IsWithin a own whole) (offset_of p ys) (near_of x) n k line_within (λ number. inr (number, refl));
     }

@@ -59,6 +59,14 @@ extended at lines near n k =
           ap (offsets at near n) e ∙ chosen (nat_lt n (n + 1 + l)) (near (n + 1 + l - (n + 1))) (at (n + 1 + l)) (below n (n + 1 + l) f) ∙ ap near g;
     }
 
+either_way : (P : ℕ → Type 0) (b : Bool) (x y : ℕ) → P x → P y → P (if b then x else y)
+either_way P true x y h g = h
+either_way P false x y h g = g
+
+-- each is that of a line, or of a routine
+pub offsets_each : (P : ℕ → Type 0) (at near : ℕ → ℕ) (n k : ℕ) → ((j : ℕ) → P (at j)) → ((number : ℕ) → P (near number)) → P (offsets at near n k)
+offsets_each P at near n k of_lines of_routines = either_way P (nat_lt n k) (near (k - (n + 1))) (at k) (of_routines (k - (n + 1))) (of_lines k)
+
 -- ---- one line
 
 call_size : (d : ℕ) → length (spelling (instr.CallNear d)) ≡ 3

@@ -1,5 +1,5 @@
 -- Code with its references filled, for addresses and a place, and what it is for it to be a routine's code.
-use Rattle.std.specs.Prelude.{◌≡◌, ℕ, zero, suc, ◌+◌, ◌*◌, ◌%◌, ◌<◌, if◌then◌else◌, List, [], ◌∷◌, ◌++◌, length, take, drop, slice_index_or}
+use Rattle.std.specs.Prelude.{◌≡◌, ◌⊎◌, ℕ, zero, suc, ◌+◌, ◌*◌, ◌%◌, ◌<◌, ◌≤◌, if◌then◌else◌, List, [], ◌∷◌, ◌++◌, length, take, drop, slice_index_or}
 use Rattle.type_layout.specs.Words.{same_bytes}
 use Rattle.object_file.specs.declared.object_unit.object.Code8086.{Code8086}
 use Rattle.object_file.specs.declared.object_unit.object.Ref.{Ref}
@@ -68,13 +68,18 @@ resolved a own names p bytes (one ∷ refs) =
 abbrev pub routine_context : Addresses → Name → UnitCode → Routine → Context
 routine_context a own unit r = record { addresses = a; own = own; unit = unit; far = r.far }
 
--- The lines of a routine stand in bytes from p on, and the labels of the unit's routines lead to where these stand.
+-- an offset in these bytes or at their end, or that of a routine of the unit
+abbrev pub IsWithin : Addresses → Name → List ℕ → ℕ → Type 0
+IsWithin a own bytes offset = (offset ≤ length bytes) ⊎ ((number : ℕ) × (offset ≡ a.near (record { unit = own; number = number })))
+
+-- The lines of a routine stand in bytes from p on, and the labels of the unit's routines lead to where these stand. No line has an offset elsewhere.
 pub record StandsFrom (a : Addresses) (own : Name) (unit : UnitCode) (pointer : ℕ) (r : Routine) (p : ℕ) (bytes : List ℕ) : Type 0 where
   pub at : ℕ → ℕ
   pub labels : ℕ → ℕ
   pub begins : at 0 ≡ p
   pub leads : (number : ℕ) → number < length unit.routines → at (labels number) ≡ a.near (record { unit = own; number = number })
   pub stands : Stands (IsSpelledAt bytes) at labels 0 (routine_lines (routine_context a own unit r) pointer r)
+  pub bounded : (k : ℕ) → IsWithin a own bytes (at k)
 
 -- For all addresses, and wherever it stands, the code with its references filled is the routine's lines for these addresses.
 abbrev pub CodeFor : Name → UnitCode → ℕ → Routine → Code8086 → Type 0
