@@ -1,6 +1,7 @@
 -- Bytes that are put in place of others, and words of segments among them.
-use Rattle.std.proofs.Common.{◌≡◌, ℕ, zero, suc, ◌+◌, ◌-◌, ◌%◌, ◌/◌, ◌<◌, ◌≤◌, ◌⊎◌, ⊎_elim, inl, inr, List, [], ◌∷◌, ◌++◌, length, take, drop, set, get_or, refl, sym, ap, ap₂, ◌∙◌, arith, length-append}
-use Rattle.std.proofs.lemmas.List.{get_or-append-add, get_or-take, get_or-drop, get_or-set_other, take-set-lt, take-set-le, drop-set-lt, drop-set-add, length-take-le, length-set}
+use Rattle.std.proofs.Common.{◌≡◌, ℕ, zero, suc, ◌+◌, ◌*◌, ◌-◌, ◌%◌, ◌/◌, ◌<◌, ◌≤◌, ◌⊎◌, ⊎_elim, inl, inr, List, [], ◌∷◌, ◌++◌, length, take, drop, set, get_or, refl, sym, ap, ap₂, ◌∙◌, arith}
+use Rattle.std.proofs.lemmas.List.{get_or-append-add, get_or-take, get_or-drop, get_or-set_other, take-set-le, drop-set-lt, drop-set-add, length-take-le, length-set}
+use Rattle.std.proofs.Math.Seq.{take-set-lt}
 use Rattle.cpu_8086.specs.Memory.{word_of, low_byte, high_byte}
 use Rattle.x86_table.specs.Spelling.{word_bytes}
 use Rattle.mz_file.specs.Load.{loaded_segment, with_loaded_segment}
@@ -21,8 +22,12 @@ set_left (x ∷ xs) ys zero y h = refl
 set_left (x ∷ xs) ys (suc i) y h = ap (λ zs. x ∷ zs) (set_left xs ys i y (omega (arith, h)))
 
 set_right : (xs ys : List ℕ) (i y : ℕ) → set (xs ++ ys) (length xs + i) y ≡ xs ++ set ys i y
-set_right [] ys i y = refl
-set_right (x ∷ xs) ys i y = ap (λ zs. x ∷ zs) (set_right xs ys i y)
+set_right [] ys i y =
+    let e : 0 + i ≡ i = omega arith in
+    ap (λ k. set ys k y) e
+set_right (x ∷ xs) ys i y =
+    let e : length (x ∷ xs) + i ≡ suc (length xs + i) = omega arith in
+    ap (λ k. set (x ∷ (xs ++ ys)) k y) e ∙ ap (λ zs. x ∷ zs) (set_right xs ys i y)
 
 -- ---- a byte that is not among those that are put in
 
@@ -31,7 +36,7 @@ abbrev pub IsClear : ℕ → ℕ → ℕ → Type 0
 IsClear offset count i = (i < offset) ⊎ (offset + count ≤ i)
 
 module _ (bytes new : List ℕ) (offset : ℕ) (inside : offset + length new ≤ length bytes) where
-  rest : List ℕ
+  abbrev rest : List ℕ
   rest = drop (offset + length new) bytes
 
   size : length (take offset bytes) ≡ offset
@@ -83,9 +88,6 @@ first_clear offset count place clear = ⊎_elim (λ h. inl (omega (arith, h))) (
 
 second_clear : (offset count place : ℕ) → IsWordClear offset count place → IsClear offset count (place + 1)
 second_clear offset count place clear = ⊎_elim (λ h. inl (omega (arith, h))) (λ h. inr (omega (arith, h))) clear
-
-pub length-loaded : (bytes : List ℕ) (place : ℕ) → length (with_loaded_segment bytes place) ≡ length bytes
-length-loaded bytes place = length-set (set bytes place _) (place + 1) _ ∙ length-set bytes place _
 
 -- a word that is made a loaded segment may be made one before
 pub loaded_clear : (bytes new : List ℕ) (offset place : ℕ) → offset + length new ≤ length bytes → IsWordClear offset (length new) place

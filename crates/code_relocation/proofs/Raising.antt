@@ -13,7 +13,7 @@ use Rattle.code_templates.specs.code_lines.Addresses.{Addresses}
 use Rattle.codegen_8086.specs.object_code.Resolved.{far_words, word_in, filling, key_of, replaced, resolved, runtime_place}
 use Rattle.mz_file.specs.Load.{with_loaded_segment}
 use Rattle.code_relocation.specs.Raised.{loaded_place, loaded_addresses, width_of, segment_by, segment_places, AreApart, AreSeparate, with_loaded, RaisingLaw}
-use Rattle.code_relocation.proofs.Bytes.{IsWordClear, length-loaded, loaded_clear, word_kept, segment_loaded, far_loaded}
+use Rattle.code_relocation.proofs.Bytes.{IsWordClear, loaded_clear, word_kept, segment_loaded, far_loaded}
 
 -- ---- lengths
 
@@ -74,7 +74,7 @@ one_loaded a kind.Runtime key end there offset bytes inside =
 
 module _ (a : Addresses) (own : Name) (names : List Name) (p : ℕ) where
   -- the bytes in which a reference is filled
-  filled : List ℕ → Ref → List ℕ
+  abbrev filled : List ℕ → Ref → List ℕ
   filled bytes r = replaced r.offset (filling a r.kind (key_of own names r) (p + r.offset + 2) (word_in r.offset bytes)) bytes
 
   filled_length : (bytes : List ℕ) (r : Ref) → r.offset + width_of r.kind ≤ length bytes → length (filled bytes r) ≡ length bytes

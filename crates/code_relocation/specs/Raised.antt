@@ -41,12 +41,12 @@ width_of kind.Runtime = 4
 
 -- where the word of a segment stands, if there is one
 abbrev pub segment_by : RefKind → ℕ → List ℕ
-segment_by kind.FarRoutine offset = offset + 2 ∷ []
+segment_by kind.FarRoutine offset = (offset + 2) ∷ []
 segment_by kind.NearRoutine offset = []
 segment_by kind.DataOffset offset = []
 segment_by kind.DataSegment offset = offset ∷ []
 segment_by kind.Vmt offset = []
-segment_by kind.Runtime offset = offset + 2 ∷ []
+segment_by kind.Runtime offset = (offset + 2) ∷ []
 
 -- the relocations, or fixups, of code: one for each word of a segment
 abbrev pub segment_places : List Ref → List ℕ

@@ -21,10 +21,10 @@ use Rattle.flat_code.specs.Program.{Name, Routine, UnitCode}
 use Rattle.flat_code.specs.Legal.{Mention, ToRoutine, Names, AddressNames, ExprNames, ExprsName, ResultNames, RuntimeNames, StepNames, CodeNames}
 use Rattle.code_templates.specs.code_lines.Operands.{loads, operand}
 use Rattle.code_templates.specs.code_lines.Expressions.{move, op_code, segment_code}
-use Rattle.code_templates.specs.code_lines.Lines.{Around, add_to, move_bytes, step_pointers, pointers, labels, leave, tested, in_loop, enter_frame, leave_frame, make_room, return_code}
+use Rattle.code_templates.specs.code_lines.Lines.{Around, move_bytes, step_pointers, pointers, labels, leave, tested, in_loop, enter_frame, leave_frame, make_room, return_code}
 use Rattle.code_templates.specs.code_references.Unplaced.{in_frame}
 use Rattle.code_templates.specs.code_references.Marks.{bare, plain}
-use Rattle.code_templates.specs.code_references.Marked.{at_place, byte_load, word_load, address_load, byte_put, word_put, marked_loads, marked_fail, marked_op, marked_expr, marked_args, destination_in, marked_destination, moved_by, marked_moved, marked_store_byte, marked_store_word, marked_store_two, marked_taken_by, marked_taken, marked_given_by, marked_given, marked_own, marked_own_if, marked_call, marked_runtime, marked_step, marked_code, marked_stack_test, marked_prologue, marked_body, marked_epilogue, marked_routine, at_body, stored, step_stored}
+use Rattle.code_templates.specs.code_references.Marked.{at_place, byte_load, word_load, address_load, byte_put, word_put, marked_loads, marked_op, marked_expr, marked_args, destination_in, marked_destination, moved_by, marked_moved, marked_store_byte, marked_store_word, marked_taken_by, marked_taken, marked_given_by, marked_given, marked_own, marked_own_if, marked_call, marked_runtime, marked_step, marked_code, marked_stack_test, marked_prologue, marked_body, marked_epilogue, at_body, stored, step_stored}
 use Rattle.code_templates.specs.declared.code_references.marks.MarkedLine.{MarkedLine}
 use Rattle.code_templates.specs.declared.code_references.marks.Target.{Target}
 use Rattle.code_templates.specs.declared.code_references.marks.Target.TheVariants as to
