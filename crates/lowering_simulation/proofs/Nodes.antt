@@ -49,9 +49,9 @@ module _ (few : ℕ) (program : FlatProgram) (choice : Choice) (f : Frame) where
       (at_once (run program choice (If value taken other End) f) (run program choice code f) t u e) (begun_charged few (1 + expr_size value) t) h
 
   pub test : {A : Type 0} (P : Relation A) → Testing few program choice f P
-  test P weight turns zero value taken other t lands r is yes no = side P weight turns value taken other other t lands r (λ left. decided value taken other 0 (with_turns t left) is) (no refl)
-  test P weight turns (suc v) value taken other t lands r is yes no =
-      side P weight turns value taken other taken t lands r (λ left. decided value taken other (suc v) (with_turns t left) is) (yes (λ e. absurd (omega (arith, e))))
+  test P weight turns zero value taken other t lands r is holds fails = side P weight turns value taken other other t lands r (λ left. decided value taken other 0 (with_turns t left) is) (fails refl)
+  test P weight turns (suc v) value taken other t lands r is holds fails =
+      side P weight turns value taken other taken t lands r (λ left. decided value taken other (suc v) (with_turns t left) is) (holds (λ e. absurd (omega (arith, e))))
 
   pub halts : {A : Type 0} (P : Relation A) → Halting few program choice f P
   halts P turns v code value result next t lands s is x c =

@@ -49,8 +49,8 @@ module _ (few weight : ℕ) (program : Program) (target : FlatProgram) (choice :
       (bind few stays Nothing weight (length units * weight) s.turns (started target choice (run target choice) unit.name (initial_of (target.unit unit.name))) (λ o. flat.and_then o (starts (map name_of units))) t falls_through falls_through
       (meaning.started program (meaning.run program) unit unit.initial s) (λ v. meaning.all_started program (meaning.run program) units)
       (around_and_then (starts (map name_of units)) ((zero_turn_laws target choice).units (map name_of units)))
-      (All-head parts s t x holds)
-      (λ v s' t' fewer x' holds'. units_follow units (All-tail parts) s' t' x' holds'))
+      (All-head (PartFollows few weight program target choice R) unit units parts s t x holds)
+      (λ v s' t' fewer x' holds'. units_follow units (All-tail (PartFollows few weight program target choice R) unit units parts) s' t' x' holds'))
     where
       swapped : (a b c : ℕ) → c ≡ b + a → a + b ≡ c
       swapped a b c p = omega (arith, p)
@@ -59,8 +59,8 @@ module _ (few weight : ℕ) (program : Program) (target : FlatProgram) (choice :
   front_silent : (front rest : List Name) → All (HasNoStart target) front → (t : flat.State) → starts (front ++ rest) t ≡ starts rest t
   front_silent [] rest none t = refl
   front_silent (name ∷ front) rest none t =
-      ap (λ (initial : Option ℕ). flat.and_then (started target choice (run target choice) name initial t) (starts (front ++ rest))) (All-head none)
-      ∙ front_silent front rest (All-tail none) t
+      ap (λ (initial : Option ℕ). flat.and_then (started target choice (run target choice) name initial t) (starts (front ++ rest))) (All-head (HasNoStart target) name front none)
+      ∙ front_silent front rest (All-tail (HasNoStart target) name front none) t
 
 -- ---- what is shown
 

@@ -197,15 +197,6 @@ around_looped go after = record { over = λ standing t. refl; still = still }
     still out err (Returned t) p = p
     still out err (Over standing t) p = p
 
-pub around_finished : (go : State → Outcome) → IsStillAfter go → Context (λ o. finished o go)
-around_finished go after = record { over = λ standing t. refl; still = still }
-  where
-    still : (out err : List ℕ) (o : Outcome) → IsStill out err o → IsStill out err (finished o go)
-    still out err (Next t) p = still_as out err t (go t) p.1 (after t p.0)
-    still out err (Left loops t) p = still_as out err t (go t) p.1 (after t p.0)
-    still out err (Returned t) p = still_as out err t (go t) p.1 (after t p.0)
-    still out err (Over standing t) p = p
-
 pub around_both : (outer inner : Outcome → Outcome) → Context outer → Context inner → Context (λ o. outer (inner o))
 around_both outer inner c d = record {
   over = λ standing t. ap outer (d.over standing t) ∙ c.over standing t;
