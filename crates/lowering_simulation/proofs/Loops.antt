@@ -16,11 +16,11 @@ use Rattle.flat_code.specs.Tree.{Expr, expr_size, Code, ◌then◌}
 use Rattle.flat_code.specs.Program.{FlatProgram, Choice}
 use Rattle.flat_code.specs.Gives.{with_turns}
 use Rattle.flat_code.specs.Calls as flat
-use Rattle.flat_code.specs.Meaning.{Frame, value_of, spent, spend, looped, chosen, begun, run}
+use Rattle.flat_code.specs.Meaning.{Frame, value_of, spent, spend, looped, begun, run}
 use Rattle.flat_code.proofs.Nodes.{run-alone, run-then}
 use Rattle.flat_code.proofs.Steps.{chosen-zero, chosen-other, loop-alone}
 use Rattle.lowering_simulation.specs.Meets.{SourceMemory, FlatMemory, source_memory, flat_memory, Relation, SameTexts, IsCharged, falls_through, lands_by, Meets, Context}
-use Rattle.lowering_simulation.specs.Loops.{taken_code, round_code, while_code, while_weight, Tells, WhileParts, WhileFollows}
+use Rattle.lowering_simulation.specs.Loops.{taken_code, round_code, while_code, while_weight, WhileParts, WhileFollows}
 use Rattle.lowering_simulation.proofs.Waits.{run_still, around_and_then, around_looped, around_both}
 use Rattle.lowering_simulation.proofs.Meets.{charged, at_once, alike, bind, before, arrives, turn}
 use Rattle.lowering_simulation.proofs.Nodes.{decided}

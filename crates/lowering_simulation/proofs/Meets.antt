@@ -7,7 +7,7 @@ use Rattle.tp_meaning.specs.Found as found
 use Rattle.tp_meaning.specs.Outcomes as source
 use Rattle.flat_code.specs.Calls as flat
 use Rattle.flat_code.specs.Gives.{with_turns}
-use Rattle.lowering_simulation.specs.Meets.{source_memory, flat_memory, Relation, Landing, SameTexts, charge, IsCharged, IsStill, StandsSo, Meets, Context}
+use Rattle.lowering_simulation.specs.Meets.{source_memory, flat_memory, Relation, Landing, charge, IsCharged, IsStill, StandsSo, Meets, Context}
 use Rattle.lowering_simulation.specs.Laws.{Follows, GoesTo, Weakening, Binding, Preceding, Arriving, Turning, Raising, Looking, FollowingLaws}
 
 -- ---- charges
@@ -151,6 +151,7 @@ bind {B = B} few P Q first rest turns f k t lands ends (source.Done a s) next c 
   where
     goes : (left : ℕ) → k (f (with_turns t (h.spent + left))) ≡ k (lands a (with_turns h.end left))
     goes left = ap k (h.runs left)
+
     after_stands : (standing : Standing) (s' : source.State) → StandsSo few rest s.turns (λ u. k (lands a u)) h.end standing s' → StandsSo few (first + rest) turns (λ u. k (f u)) t standing s'
     after_stands standing s' w = record {
       spent = h.spent + w.spent;
@@ -160,6 +161,7 @@ bind {B = B} few P Q first rest turns f k t lands ends (source.Done a s) next c 
       texts = w.texts;
       paid = charged_twice (charge few turns t) (charge few s.turns h.end) (charge few 0 w.end) first rest h.paid w.paid;
     }
+
     after : (o : source.Outcome B) → Meets few rest s.turns (λ u. k (lands a u)) h.end ends Q o → Meets few (first + rest) turns (λ u. k (f u)) t ends Q o
     after (source.Done b s') w = record {
       spent = h.spent + w.spent;
@@ -190,6 +192,7 @@ turn few P weight paid f g t u lands go s e p x small next = by_turns s.turns re
   where
     some : (left : ℕ) → f (with_turns t (1 + left)) ≡ g (with_turns u left)
     some left = ap (λ n. f (with_turns t n)) (let sum : 1 + left ≡ suc left = omega arith in sum) ∙ e (suc left)
+
     by_turns : (n : ℕ) → s.turns ≡ n → Meets few weight n f t lands P (source.spent n go s)
     by_turns zero is = record { spent = 0; end = with_turns u 0; runs = e 0; enough = λ z. omega arith; texts = x; paid = p 0 }
     by_turns (suc n) is =

@@ -1,9 +1,9 @@
 -- Lists, conditions and the end of a run.
-use Rattle.std.proofs.Common.{◌≡◌, ℕ, zero, suc, ◌+◌, ◌≤◌, List, [], ◌∷◌, Option, refl, sym, ap, ◌∙◌, arith}
+use Rattle.std.proofs.Common.{◌≡◌, ℕ, zero, suc, ◌+◌, ◌≤◌, List, [], ◌∷◌, refl, sym, ap, ◌∙◌, arith}
 use Rattle.std.specs.Prelude.{Ok}
 use Rattle.common_values.specs.behaviour.Seen.{Ended}
 use Rattle.tp_meaning.specs.Outcomes as source
-use Rattle.flat_code.specs.Tree.{Expr, expr_size, Step, Runtime, step_size, Code, End, If, ◌then◌}
+use Rattle.flat_code.specs.Tree.{Expr, expr_size, Runtime, step_size, Code, End, If, ◌then◌}
 use Rattle.flat_code.specs.Memory.{Found, ◌>>=◌}
 use Rattle.flat_code.specs.Program.{FlatProgram, Choice}
 use Rattle.flat_code.specs.Gives.{with_turns}

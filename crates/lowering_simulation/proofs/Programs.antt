@@ -1,5 +1,5 @@
 -- The starts of the units one after another, and what is shown then.
-use Rattle.std.proofs.Common.{◌≡◌, ℕ, zero, suc, ◌+◌, ◌-◌, ◌*◌, ◌≤◌, List, [], ◌∷◌, ◌++◌, length, map, Option, Some, None, refl, sym, ap, ◌∙◌, subst, arith}
+use Rattle.std.proofs.Common.{◌≡◌, ℕ, suc, ◌+◌, ◌-◌, ◌*◌, ◌≤◌, List, [], ◌∷◌, ◌++◌, length, map, Option, refl, sym, ap, ◌∙◌, subst, arith}
 use Rattle.std.specs.Prelude.{All}
 use Rattle.std.proofs.lemmas.List.Elements.{All-head, All-tail}
 use Rattle.std.proofs.Math.Nat.{mul-add, add-mul, suc-mul, mul-one}
@@ -13,10 +13,10 @@ use Rattle.tp_meaning.specs.Meaning.{mean}
 use Rattle.flat_code.specs.Program.{Name, FlatProgram, Choice}
 use Rattle.flat_code.specs.Gives.{with_turns}
 use Rattle.flat_code.specs.Calls as flat
-use Rattle.flat_code.specs.Meaning.{run, start_state, started, initial_of, all_started, FlatSeen, seen_of, flat_run}
-use Rattle.lowering_simulation.specs.Meets.{SourceMemory, FlatMemory, source_memory, flat_memory, Relation, SameTexts, charge, IsStill, Arrives, StandsSo, StandsStill, falls_through, Meets}
+use Rattle.flat_code.specs.Meaning.{run, start_state, started, initial_of, all_started, FlatSeen, seen_of}
+use Rattle.lowering_simulation.specs.Meets.{source_memory, flat_memory, Relation, SameTexts, charge, IsStill, StandsSo, falls_through, Meets}
 use Rattle.lowering_simulation.specs.Laws.{Follows}
-use Rattle.lowering_simulation.specs.Programs.{Between, PartFollows, HasNoStart, PartsFollow, FollowsAtRate, ProgramFollows}
+use Rattle.lowering_simulation.specs.Programs.{Between, PartFollows, HasNoStart, ProgramFollows}
 use Rattle.lowering_simulation.proofs.Waits.{zero_turn_laws, around_and_then}
 use Rattle.lowering_simulation.proofs.Meets.{none_left, alike, bind}
 
@@ -89,9 +89,10 @@ module _ (few weight turns : ℕ) (f : Follows) (t : flat.State) (input : List �
 
   stands_shown : (standing : Standing) (s : source.State) (h : StandsSo few weight turns f t standing s) → Stands turns h.spent standing standing → ShowsAtRate (few + weight) turns h.spent (meaning.seen_so standing s) (seen h.spent)
   stands_shown standing s h stands =
-      subst (λ o. ShowsAtRate (few + weight) turns h.spent (meaning.seen_so standing s) (seen_of input o)) (sym h.runs)
-      (record { out = h.texts.0; err = h.texts.1; stands = stands },
-      λ defined. paid_at_rate few weight turns (length input) (length h.end.input) h.end.work (subst (λ n. charge few 0 h.end ≤ n + weight) charged h.paid))
+      subst (λ o. ShowsAtRate (few + weight) turns h.spent (meaning.seen_so standing s) (seen_of input o)) (sym h.runs) (
+        record { out = h.texts.0; err = h.texts.1; stands = stands },
+        λ defined. paid_at_rate few weight turns (length input) (length h.end.input) h.end.work (subst (λ n. charge few 0 h.end ≤ n + weight) charged h.paid),
+      )
 
   still_shown : (n m act : ℕ) (s : source.State) (o : flat.Outcome) → IsStill s.out s.err o → Shows n m (meaning.seen_so (Undefined act) s) (seen_of input o).seen
   still_shown n m act s (flat.Next u) p = record { out = p.1.0; err = p.1.1; stands = tt }
@@ -116,8 +117,8 @@ program_follows R few weight program target choice input parts holds never turns
     let g : Follows = all_started target choice (run target choice) rest in
     let source_run = meaning.all_started program (meaning.run program) program.units begun in
     let same : (left : ℕ) → f (with_turns start left) ≡ g (with_turns start left) =
-        λ left. ap (λ (names : List Name). all_started target choice (run target choice) names (with_turns start left)) parts.order
-            ∙ front_silent few weight program target choice R parts.front rest parts.silent (with_turns start left) in
+    λ left. ap (λ (names : List Name). all_started target choice (run target choice) names (with_turns start left)) parts.order
+    ∙ front_silent few weight program target choice R parts.front rest parts.silent (with_turns start left) in
     let follows = alike few Nothing total turns f g start falls_through source_run same (units_follow few weight program target choice R program.units parts.parts begun start (refl, refl) holds) in
     let charged : charge few turns start ≡ few * (turns + length input) = from_none (few * (turns + length input)) in
     let result = shown few total turns f start input charged source_run follows (never turns) in

@@ -1,25 +1,23 @@
 -- Calls of the runtime's routines, and of those of the sources as far as their activations.
-use Rattle.std.proofs.Common.{◌≡◌, ℕ, suc, ◌+◌, ◌*◌, ◌≤◌, ◌<◌, Bool, true, false, List, length, Option, Some, None, refl, sym, ap, ◌∙◌, subst, arith, eq-eqb}
-use Rattle.std.specs.Prelude.{if◌then◌else◌, ◌==◌, ◌&&◌, not, slice_get, Ok}
+use Rattle.std.proofs.Common.{◌≡◌, ℕ, suc, ◌+◌, ◌*◌, ◌<◌, Bool, true, false, List, length, refl, sym, ap, ◌∙◌, subst, arith, eq-eqb}
+use Rattle.std.specs.Prelude.{if◌then◌else◌, ◌&&◌, not}
 use Rattle.common_values.specs.behaviour.Seen.{Undefined}
-use Rattle.tp_meaning.specs.Trees as trees
-use Rattle.tp_meaning.specs.Trees.{Value, Spot}
+use Rattle.tp_meaning.specs.Trees.{Value}
 use Rattle.tp_meaning.specs.Found as found
 use Rattle.tp_meaning.specs.Programs.{is_overlaid}
 use Rattle.tp_meaning.specs.Outcomes as source
-use Rattle.tp_meaning.specs.Activations.{Activation, Callee, callee_of}
+use Rattle.tp_meaning.specs.Activations.{Callee}
 use Rattle.tp_meaning.specs.Calls as calls
 use Rattle.tp_meaning.specs.Calls.{Runs}
-use Rattle.flat_code.specs.declared.tree.FlatResult.{FlatResult}
-use Rattle.flat_code.specs.Tree.{Expr, exprs_size, Step, Runtime, Call, End, Do}
+use Rattle.flat_code.specs.Tree.{exprs_size, Runtime, Call, End, Do}
 use Rattle.flat_code.specs.Memory.{Found}
-use Rattle.flat_code.specs.Program.{Key, Routine, UnitCode, FlatProgram, Choice, runtime_key}
+use Rattle.flat_code.specs.Program.{Key, FlatProgram, Choice}
 use Rattle.flat_code.specs.Gives.{with_turns}
 use Rattle.flat_code.specs.Calls as flat
-use Rattle.flat_code.specs.Meaning.{Frame, values_of, key_of, with_found, spend, runtime_of, called, begun, run}
+use Rattle.flat_code.specs.Meaning.{Frame, key_of, with_found, spend, runtime_of, called, begun, run}
 use Rattle.flat_code.proofs.Nodes.{run-alone}
 use Rattle.flat_code.proofs.Steps.{runtime-routine, called-entered}
-use Rattle.lowering_simulation.specs.Meets.{Relation, Landing, SameTexts, IsCharged, Meets}
+use Rattle.lowering_simulation.specs.Meets.{Relation, Landing, SameTexts, Meets}
 use Rattle.lowering_simulation.specs.Laws.{Follows}
 use Rattle.lowering_simulation.specs.Routines.{RuntimeCall, RoutineCall, Entering, CallLaws}
 use Rattle.lowering_simulation.proofs.Meets.{charged, at_once, alike, raised}
@@ -61,13 +59,13 @@ module _ (few : ℕ) (target : FlatProgram) (choice : Choice) (f : Frame) (P : R
       let deeper : source.Does Value = λ s. source.and_then (source.raised_if (calls.is_too_deep program callee g.sum) 202 s) (λ z. rest) in
       let admit : Bool = target.overlaid name && not t.flag in
       let outcome : found.Found Callee → source.Outcome Value = λ x. source.and_then (source.found x s) (λ (callee : Callee). λ s.
-          source.and_then (source.raised_if (is_overlaid program key.unit && not s.installed) 208 s) (λ z. λ s.
-          source.and_then (source.raised_if (calls.is_too_deep program callee g.sum) 202 s) (λ z. calls.activated again callee g own class xs))) in
+      source.and_then (source.raised_if (is_overlaid program key.unit && not s.installed) 208 s) (λ z. λ s.
+      source.and_then (source.raised_if (calls.is_too_deep program callee g.sum) 202 s) (λ z. calls.activated again callee g own class xs))) in
       subst (λ o. Meets few weight turns (λ u. called target choice (run target choice) args result f u flat_key) t lands P (outcome o)) (sym stands.callee_is)
       (alike few P weight turns (λ u. called target choice (run target choice) args result f u flat_key) (λ u. if admit then flat.raised 208 u else tested u) t lands
       (source.and_then (source.raised_if (is_overlaid program key.unit && not s.installed) 208 s) (λ z. deeper))
       (λ left. called-entered target choice (run target choice) args result f (with_turns t left) flat_key unit r (sym stands.unit_is) (sym stands.routine_is)
-          ∙ ap (λ b. if b then flat.admitted target choice (run target choice) name unit r args result f (with_turns t left) else flat.Over (Undefined 1) (with_turns t left)) (eq-eqb (2 * length args) r.arguments stands.fits))
+      ∙ ap (λ b. if b then flat.admitted target choice (run target choice) name unit r args result f (with_turns t left) else flat.Over (Undefined 1) (with_turns t left)) (eq-eqb (2 * length args) r.arguments stands.fits))
       (if_raised weight turns 208 admit (is_overlaid program key.unit && not s.installed) tested t lands deeper s overlaid (omega arith) x
       (if_raised weight turns 202 (flat.is_too_deep target r f.sum) (calls.is_too_deep program callee g.sum) go t lands rest s deep (omega arith) x h)))
 

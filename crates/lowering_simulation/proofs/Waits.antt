@@ -2,11 +2,11 @@
 use Rattle.std.proofs.Common.{◌≡◌, ℕ, zero, suc, ◌+◌, ◌*◌, Bool, true, false, List, [], ◌∷◌, ◌++◌, length, Option, Some, None, refl, sym, ap, ◌∙◌, subst}
 use Rattle.std.specs.Prelude.{if◌then◌else◌, ◌%◌, ◌==◌, ◌&&◌, not, nat_lt, slice_get, Ok, Err}
 use Rattle.common_values.specs.integers.Words.{low_byte}
-use Rattle.common_values.specs.behaviour.Seen.{Standing, Ended, Going, Undefined, Stopped}
+use Rattle.common_values.specs.behaviour.Seen.{Ended, Going, Undefined, Stopped}
 use Rattle.flat_code.specs.declared.tree.Address.{Address}
 use Rattle.flat_code.specs.declared.tree.FlatResult.{FlatResult}
 use Rattle.flat_code.specs.Tree.{Step, StoreByte, StoreWord, Copy, Leave, Call, CallThrough, Runtime, StoreRoutine, Return, Error, step_size, expr_size, Code, End, Do, If, Loop}
-use Rattle.flat_code.specs.Memory.{Cells, Found, word_bytes, far_bytes}
+use Rattle.flat_code.specs.Memory.{Found, word_bytes, far_bytes}
 use Rattle.flat_code.specs.declared.memory.Trap.TheVariants.{ByZero, Bad}
 use Rattle.flat_code.specs.Program.{Name, Key, Routine, UnitCode, FlatProgram, Choice}
 use Rattle.flat_code.specs.Meaning.{routine_pointer, Frame, State, Outcome, Next, Left, Returned, Over, and_then, spend, error_text, raised, with_found, begun, with_cells, set_cells, stored_at, copied_at, pointer_at, activation_bytes, is_too_deep, tested, admitted, entered, entered_at, result_bytes, give, frame_of, opened, closed, ended, finished, Does, activated, with_some, called, runtime_of, stored, left, step_of, looped, chosen, runs, run_by, run, value_of, values_of, key_of, start_frame, started, initial_of, all_started}

@@ -3,14 +3,13 @@ use Rattle.std.specs.Prelude.{◌≡◌, ℕ, ◌+◌, ◌*◌, ◌≤◌, All, 
 use Rattle.common_values.specs.behaviour.Seen.{Stopped, Seen, Shows, IsUndefined}
 use Rattle.typed_tree.specs.declared.units.Unit.{Unit as TypedUnit}
 use Rattle.typed_tree.specs.declared.units.Program.{Program}
-use Rattle.tp_meaning.specs.Trees.{Value}
 use Rattle.tp_meaning.specs.Outcomes as source
 use Rattle.tp_meaning.specs.Meaning as meaning
 use Rattle.tp_meaning.specs.Meaning.{mean}
 use Rattle.flat_code.specs.Program.{Name, FlatProgram, Choice}
 use Rattle.flat_code.specs.Calls as flat
 use Rattle.flat_code.specs.Meaning.{run, start_state, started, initial_of, FlatSeen, flat_run}
-use Rattle.lowering_simulation.specs.Meets.{SourceMemory, FlatMemory, source_memory, flat_memory, Relation, SameTexts, falls_through, Meets}
+use Rattle.lowering_simulation.specs.Meets.{SourceMemory, FlatMemory, source_memory, flat_memory, SameTexts, falls_through, Meets}
 
 -- what holds of the memory of both sides between the starts of two units
 abbrev pub Between : Type 1

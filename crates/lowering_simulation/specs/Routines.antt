@@ -1,5 +1,5 @@
 -- The laws of following for calls, of the runtime's routines and of those of the sources.
-use Rattle.std.specs.Prelude.{◌≡◌, ℕ, ◌+◌, ◌*◌, ◌≤◌, ◌&&◌, not, List, length, slice_get, Option, Some, None, Ok}
+use Rattle.std.specs.Prelude.{◌≡◌, ℕ, ◌+◌, ◌*◌, ◌≤◌, ◌&&◌, not, List, length, slice_get, Option, Some, Ok}
 use Rattle.typed_tree.specs.declared.units.Program.{Program}
 use Rattle.tp_meaning.specs.Trees as trees
 use Rattle.tp_meaning.specs.Trees.{Value, Spot}
