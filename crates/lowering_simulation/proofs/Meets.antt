@@ -1,14 +1,14 @@
 -- How parts of a run are put together.
 use Rattle.std.proofs.Common.{◌≡◌, ℕ, zero, suc, ◌+◌, ◌*◌, ◌≤◌, List, ◌++◌, refl, sym, ap, ◌∙◌, subst, arith}
 use Rattle.std.specs.Prelude.{length, Ok, Err}
-use Rattle.std.proofs.Math.Nat.{mod-eq_of_lt, mul-add, mul-suc}
+use Rattle.std.proofs.Math.Nat.{mod-eq_of_lt, mul-suc, mul-zero}
 use Rattle.common_values.specs.behaviour.Seen.{Standing, Ended, Going, Undefined, Stopped}
 use Rattle.tp_meaning.specs.Found as found
 use Rattle.tp_meaning.specs.Outcomes as source
 use Rattle.flat_code.specs.Calls as flat
 use Rattle.flat_code.specs.Gives.{with_turns}
-use Rattle.lowering_simulation.specs.Meets.{source_memory, flat_memory, Relation, Landing, charge, IsCharged, IsStill, StandsSo, Meets, Context}
-use Rattle.lowering_simulation.specs.Laws.{Follows, GoesTo, Weakening, Binding, Preceding, Arriving, Turning, Raising, Looking, FollowingLaws}
+use Rattle.lowering_simulation.specs.Meets.{FlatRun, source_memory, flat_memory, Relation, Landing, charge, IsCharged, IsStill, StandsSo, Meets, Context}
+use Rattle.lowering_simulation.specs.Laws.{GoesTo, Weakening, Binding, Preceding, Arriving, Turning, Raising, Looking, FollowingLaws}
 
 -- ---- charges
 
@@ -25,38 +25,34 @@ charged_twice a b c x y p q = omega arith
 charged_through : (a b c x y : ℕ) → c ≤ b + x → b + x ≤ a + y → c ≤ a + y
 charged_through a b c x y p q = omega arith
 
--- a turn pays so much
-turn_pays : (few turns len : ℕ) → few * (suc turns + len) ≡ few + few * (turns + len)
-turn_pays few turns len =
-    let sum : suc turns + len ≡ suc (turns + len) = omega arith in
-    ap (λ n. few * n) sum ∙ mul-suc few (turns + len) ∙ swapped (few * (turns + len)) few
+-- whatever the turns that are left
+pub charged_at : (few weight turns : ℕ) (t u : flat.State) → IsCharged few weight t u → charge few turns u ≤ charge few turns t + weight
+charged_at few weight turns t u p = more (t.work + few * length t.input) (u.work + few * length u.input) weight (few * turns) p
   where
-    swapped : (a b : ℕ) → a + b ≡ b + a
-    swapped a b = omega arith
+    more : (a b w x : ℕ) → b ≤ a + w → b + x ≤ a + x + w
+    more a b w x p = omega arith
 
 -- turns that are left are charged
 pub none_left : (few turns : ℕ) (t : flat.State) → charge few 0 t ≤ charge few turns t
-none_left few turns t =
-    let none : 0 + length t.input ≡ length t.input = omega arith in
-    more t.work (few * (0 + length t.input)) (few * (turns + length t.input)) (few * length t.input) (few * turns) (ap (λ n. few * n) none) (mul-add few turns (length t.input))
+none_left few turns t = more (t.work + few * length t.input) (few * 0) (few * turns) (mul-zero few)
   where
-    more : (w x y a b : ℕ) → x ≡ a → y ≡ b + a → w + x ≤ w + y
-    more w x y a b p q = omega (arith, p, q)
+    more : (a x y : ℕ) → x ≡ 0 → a + x ≤ a + y
+    more a x y e = omega (arith, e)
 
 -- as many bytes are left, and there is so much more work
 pub charged : (few weight : ℕ) (t u : flat.State) → u.input ≡ t.input → u.work ≤ t.work + weight → IsCharged few weight t u
-charged few weight t u e p turns = more t.work u.work (few * (turns + length t.input)) (few * (turns + length u.input)) weight p (ap (λ (input : List ℕ). few * (turns + length input)) e)
+charged few weight t u e p = more t.work u.work (few * length t.input) (few * length u.input) weight p (ap (λ (input : List ℕ). few * length input) e)
   where
     more : (a b x y w : ℕ) → b ≤ a + w → y ≡ x → b + y ≤ a + x + w
     more a b x y w p e = omega (arith, p, e)
 
 -- no turn of its own is spent
-pub at_once : (f g : Follows) (t u : flat.State) → ((left : ℕ) → f (with_turns t left) ≡ g (with_turns u left)) → GoesTo 0 f t g u
+pub at_once : (f g : FlatRun) (t u : flat.State) → ((left : ℕ) → f (with_turns t left) ≡ g (with_turns u left)) → GoesTo 0 f t g u
 at_once f g t u e left = ap (λ n. f (with_turns t n)) (let none : 0 + left ≡ left = omega arith in none) ∙ e left
 
 -- ---- less asked
 
-stands_weaker : (few weight more turns : ℕ) (f : Follows) (t : flat.State) (standing : Standing) (s : source.State) → weight ≤ more → StandsSo few weight turns f t standing s → StandsSo few more turns f t standing s
+stands_weaker : (few weight more turns : ℕ) (f : FlatRun) (t : flat.State) (standing : Standing) (s : source.State) → weight ≤ more → StandsSo few weight turns f t standing s → StandsSo few more turns f t standing s
 stands_weaker few weight more turns f t standing s p h = record {
   spent = h.spent;
   end = h.end;
@@ -84,7 +80,7 @@ weaker few P wider weight more turns f t lands (source.Over Stopped s) p q h = t
 
 -- ---- flat code alone, and then what follows the source
 
-stands_before : (few spent rest whole turns more : ℕ) (f g : Follows) (t u : flat.State) (standing : Standing) (s : source.State) → GoesTo spent f t g u → more ≤ spent + turns → charge few turns u + rest ≤ charge few more t + whole →
+stands_before : (few spent rest whole turns more : ℕ) (f g : FlatRun) (t u : flat.State) (standing : Standing) (s : source.State) → GoesTo spent f t g u → more ≤ spent + turns → charge few turns u + rest ≤ charge few more t + whole →
     StandsSo few rest turns g u standing s → StandsSo few whole more f t standing s
 stands_before few spent rest whole turns more f g t u standing s e n p h = record {
   spent = spent + h.spent;
@@ -96,7 +92,7 @@ stands_before few spent rest whole turns more f g t u standing s e n p h = recor
 }
 
 -- flat code may spend turns that the source has spent before
-before_turns : {A : Type 0} (few : ℕ) (P : Relation A) (spent rest whole turns more : ℕ) (f g : Follows) (t u : flat.State) (lands : Landing A) (r : source.Outcome A) →
+before_turns : {A : Type 0} (few : ℕ) (P : Relation A) (spent rest whole turns more : ℕ) (f g : FlatRun) (t u : flat.State) (lands : Landing A) (r : source.Outcome A) →
     GoesTo spent f t g u → turns ≤ more → more ≤ spent + turns → charge few turns u + rest ≤ charge few more t + whole → Meets few rest turns g u lands P r → Meets few whole more f t lands P r
 before_turns few P spent rest whole turns more f g t u lands (source.Done a s) e m n p h = record {
   spent = spent + h.spent;
@@ -115,10 +111,10 @@ before_turns few P spent rest whole turns more f g t u lands (source.Over Stoppe
 
 pub before : {A : Type 0} (few : ℕ) (P : Relation A) → Preceding few P
 before few P spent first rest turns f g t u lands r e p h =
-    before_turns few P spent rest (first + rest) turns turns f g t u lands r e (omega arith) (omega arith) (charged_and (charge few turns t) (charge few turns u) first rest (p turns)) h
+    before_turns few P spent rest (first + rest) turns turns f g t u lands r e (omega arith) (omega arith) (charged_and (charge few turns t) (charge few turns u) first rest (charged_at few first turns t u p)) h
 
 -- flat code that does the same from this state
-pub alike : {A : Type 0} (few : ℕ) (P : Relation A) (weight turns : ℕ) (f g : Follows) (t : flat.State) (lands : Landing A) (r : source.Outcome A) →
+pub alike : {A : Type 0} (few : ℕ) (P : Relation A) (weight turns : ℕ) (f g : FlatRun) (t : flat.State) (lands : Landing A) (r : source.Outcome A) →
     ((left : ℕ) → f (with_turns t left) ≡ g (with_turns t left)) → Meets few weight turns g t lands P r → Meets few weight turns f t lands P r
 alike few P weight turns f g t lands r e h = before_turns few P 0 weight weight turns turns f g t t lands r (at_once f g t t e) (omega arith) (omega arith) (omega arith) h
 
@@ -130,13 +126,13 @@ arrives few P spent weight turns f t u lands a s e p x n q = record {
   enough = omega (arith, n);
   fewer = omega (arith, n);
   texts = x;
-  paid = subst (λ k. charge few k u ≤ charge few turns t + weight) n (p turns);
+  paid = subst (λ k. charge few k u ≤ charge few turns t + weight) n (charged_at few weight turns t u p);
   related = q;
 }
 
 -- ---- one part of the source, and what follows it
 
-stands_in : (few first rest turns : ℕ) (f : Follows) (k : flat.Outcome → flat.Outcome) (t : flat.State) (standing : Standing) (s : source.State) → Context k → StandsSo few first turns f t standing s → StandsSo few (first + rest) turns (λ u. k (f u)) t standing s
+stands_in : (few first rest turns : ℕ) (f : FlatRun) (k : flat.Outcome → flat.Outcome) (t : flat.State) (standing : Standing) (s : source.State) → Context k → StandsSo few first turns f t standing s → StandsSo few (first + rest) turns (λ u. k (f u)) t standing s
 stands_in few first rest turns f k t standing s c h = record {
   spent = h.spent;
   end = h.end;
@@ -184,8 +180,12 @@ bind few P Q first rest turns f k t lands ends (source.Over Stopped s) next c h 
 
 -- ---- turns
 
-charged_turn : (few w x y b weight paid : ℕ) → b ≤ w + x + weight → y ≡ few + x → paid ≤ few → b + paid ≤ w + y + weight
-charged_turn few w x y b weight paid p q small = omega (arith, p, q, small)
+-- a turn pays so much
+charged_turn : (few n a b weight paid x : ℕ) → b ≤ a + weight → x ≡ few * n + few → paid ≤ few → b + few * n + paid ≤ a + x + weight
+charged_turn few n a b weight paid x p q small = summed few (few * n) a b weight paid x p q small
+  where
+    summed : (few y a b weight paid x : ℕ) → b ≤ a + weight → x ≡ y + few → paid ≤ few → b + y + paid ≤ a + x + weight
+    summed few y a b weight paid x p q small = omega (arith, p, q, small)
 
 pub turn : {A : Type 0} (few : ℕ) (P : Relation A) → Turning few P
 turn few P weight paid f g t u lands go s e p x small next = by_turns s.turns refl
@@ -194,10 +194,10 @@ turn few P weight paid f g t u lands go s e p x small next = by_turns s.turns re
     some left = ap (λ n. f (with_turns t n)) (let sum : 1 + left ≡ suc left = omega arith in sum) ∙ e (suc left)
 
     by_turns : (n : ℕ) → s.turns ≡ n → Meets few weight n f t lands P (source.spent n go s)
-    by_turns zero is = record { spent = 0; end = with_turns u 0; runs = e 0; enough = λ z. omega arith; texts = x; paid = p 0 }
+    by_turns zero is = record { spent = 0; end = with_turns u 0; runs = e 0; enough = λ z. omega arith; texts = x; paid = charged_at few weight 0 t u p }
     by_turns (suc n) is =
         before_turns few P 1 paid weight n (suc n) f g t u lands (go (record s { turns = n })) some (omega arith) (omega arith)
-        (charged_turn few t.work (few * (n + length t.input)) (few * (suc n + length t.input)) (charge few n u) weight paid (p n) (turn_pays few n (length t.input)) small) (next n is)
+        (charged_turn few n (t.work + few * length t.input) (u.work + few * length u.input) weight paid (few * suc n) p (mul-suc few n) small) (next n is)
 
 -- ---- errors, and what is looked for
 
@@ -210,7 +210,7 @@ raised few P spent weight turns code f t u lands s e p x small =
       runs = e 1 ∙ ap (λ n. flat.Over (Ended n) end) (mod-eq_of_lt small);
       enough = λ z. absurd cc;
       texts = (x.0, ap (λ (bytes : List ℕ). bytes ++ flat.error_text code) x.1);
-      paid = both (charge few 0 u) (charge few turns u) (charge few turns t + weight) (none_left few turns u) (p turns);
+      paid = both (charge few 0 u) (charge few turns u) (charge few turns t + weight) (none_left few turns u) (charged_at few weight turns t u p);
     }
   where
     both : (a b c : ℕ) → a ≤ b → b ≤ c → a ≤ c

@@ -14,7 +14,7 @@ use Rattle.flat_code.proofs.Steps.{test-alone}
 use Rattle.lowering_simulation.specs.Meets.{Relation, Landing, IsCharged, charge, Meets}
 use Rattle.lowering_simulation.specs.Nodes.{Sequencing, Testing, Halting, Undefining, NodeLaws}
 use Rattle.lowering_simulation.proofs.Waits.{still_as, run_still, around_and_then}
-use Rattle.lowering_simulation.proofs.Meets.{none_left, charged, at_once, alike, bind, before}
+use Rattle.lowering_simulation.proofs.Meets.{charged_at, none_left, charged, at_once, alike, bind, before}
 
 ended_charged : (a b c n m : ℕ) → a ≤ b + n → b ≤ c → n ≡ m → a ≤ c + m
 ended_charged a b c n m p q e = omega (arith, p, q, e)
@@ -70,7 +70,7 @@ module _ (few : ℕ) (program : FlatProgram) (choice : Choice) (f : Frame) where
             ∙ ap (λ n. flat.Over (Ended n) end) (sym c);
         enough = λ z. absurd cc;
         texts = x;
-        paid = ended_charged (charge few 0 end) (charge few 0 t) (charge few turns t) n (1 + expr_size value) (begun_charged few n t 0) (none_left few turns t) (omega arith);
+        paid = ended_charged (charge few 0 end) (charge few 0 t) (charge few turns t) n (1 + expr_size value) (charged_at few n 0 t (begun n t) (begun_charged few n t)) (none_left few turns t) (omega arith);
       }
 
   pub undefined : {A : Type 0} (P : Relation A) → Undefining few program choice f P

@@ -14,8 +14,7 @@ use Rattle.flat_code.specs.Program.{Name, FlatProgram, Choice}
 use Rattle.flat_code.specs.Gives.{with_turns}
 use Rattle.flat_code.specs.Calls as flat
 use Rattle.flat_code.specs.Meaning.{run, start_state, started, initial_of, all_started, FlatSeen, seen_of}
-use Rattle.lowering_simulation.specs.Meets.{source_memory, flat_memory, Relation, SameTexts, charge, IsStill, StandsSo, falls_through, Meets}
-use Rattle.lowering_simulation.specs.Laws.{Follows}
+use Rattle.lowering_simulation.specs.Meets.{FlatRun, source_memory, flat_memory, Relation, SameTexts, charge, IsStill, StandsSo, falls_through, Meets}
 use Rattle.lowering_simulation.specs.Programs.{Between, PartFollows, HasNoStart, ProgramFollows}
 use Rattle.lowering_simulation.proofs.Waits.{zero_turn_laws, around_and_then}
 use Rattle.lowering_simulation.proofs.Meets.{none_left, alike, bind}
@@ -65,25 +64,24 @@ module _ (few weight : ℕ) (program : Program) (target : FlatProgram) (choice :
 -- ---- what is shown
 
 -- what is left of the input is not paid
-paid_at_rate : (few weight turns before after work : ℕ) → work + few * (0 + after) ≤ few * (turns + before) + weight → work ≤ (few + weight) * (turns + (before - after) + 1)
+paid_at_rate : (few weight turns before after work : ℕ) → work + few * after + few * 0 ≤ few * (turns + before) + weight → work ≤ (few + weight) * (turns + (before - after) + 1)
 paid_at_rate few weight turns before after work p =
-    let none : few * (0 + after) ≡ few * after = ap (λ n. few * n) (let sum : 0 + after ≡ after = omega arith in sum) in
     let read = turns + (before - after) in
     let more = read + after - (turns + before) in
     let whole : turns + before + more ≡ read + after = omega arith in
     let parts : few * (turns + before) + few * more ≡ few * read + few * after = sym (mul-add few (turns + before) more) ∙ ap (λ n. few * n) whole ∙ mul-add few read after in
     let one : (few + weight) * 1 ≡ few + weight = mul-one (few + weight) in
     let rate : (few + weight) * (read + 1) ≡ few * read + weight * read + (few + weight) = mul-add (few + weight) read 1 ∙ ap (λ n. (few + weight) * read + n) one ∙ ap (λ n. n + (few + weight)) (add-mul few weight read) in
-    summed work (few * after) (few * (turns + before)) (few * more) (few * read) (weight * read) few weight ((few + weight) * (read + 1)) (subst (λ n. work + n ≤ few * (turns + before) + weight) none p) parts rate
+    summed work (few * after) (few * 0) (few * (turns + before)) (few * more) (few * read) (weight * read) few weight ((few + weight) * (read + 1)) p parts rate
   where
-    summed : (w a b k x y few weight r : ℕ) → w + a ≤ b + weight → b + k ≡ x + a → r ≡ x + y + (few + weight) → w ≤ r
-    summed w a b k x y few weight r p q e = omega (arith, p, q, e)
+    summed : (w a z b k x y few weight r : ℕ) → w + a + z ≤ b + weight → b + k ≡ x + a → r ≡ x + y + (few + weight) → w ≤ r
+    summed w a z b k x y few weight r p q e = omega (arith, p, q, e)
 
 -- the target shows what the source does, at a rate
 abbrev ShowsAtRate : ℕ → ℕ → ℕ → Seen → FlatSeen → Type 0
 ShowsAtRate rate turns m x y = Shows turns m x y.seen × ((IsUndefined x.end → ⊥) → y.work ≤ rate * (turns + y.read + 1))
 
-module _ (few weight turns : ℕ) (f : Follows) (t : flat.State) (input : List ℕ) (charged : charge few turns t ≡ few * (turns + length input)) where
+module _ (few weight turns : ℕ) (f : FlatRun) (t : flat.State) (input : List ℕ) (charged : charge few turns t ≡ few * (turns + length input)) where
   abbrev seen : ℕ → FlatSeen
   seen m = seen_of input (f (with_turns t m))
 
@@ -113,16 +111,16 @@ program_follows R few weight program target choice input parts holds never turns
     let total = length program.units * weight in
     let start = start_state target choice input 0 in
     let begun = meaning.start_state program input turns in
-    let f : Follows = all_started target choice (run target choice) target.order in
-    let g : Follows = all_started target choice (run target choice) rest in
+    let f : FlatRun = all_started target choice (run target choice) target.order in
+    let g : FlatRun = all_started target choice (run target choice) rest in
     let source_run = meaning.all_started program (meaning.run program) program.units begun in
     let same : (left : ℕ) → f (with_turns start left) ≡ g (with_turns start left) =
     λ left. ap (λ (names : List Name). all_started target choice (run target choice) names (with_turns start left)) parts.order
     ∙ front_silent few weight program target choice R parts.front rest parts.silent (with_turns start left) in
     let follows = alike few Nothing total turns f g start falls_through source_run same (units_follow few weight program target choice R program.units parts.parts begun start (refl, refl) holds) in
-    let charged : charge few turns start ≡ few * (turns + length input) = from_none (few * (turns + length input)) in
+    let charged : charge few turns start ≡ few * (turns + length input) = swapped (few * length input) (few * turns) ∙ sym (mul-add few turns (length input)) in
     let result = shown few total turns f start input charged source_run follows (never turns) in
     (result.0, result.1.0, result.1.1)
   where
-    from_none : (n : ℕ) → 0 + n ≡ n
-    from_none n = omega arith
+    swapped : (a b : ℕ) → 0 + a + b ≡ b + a
+    swapped a b = omega arith

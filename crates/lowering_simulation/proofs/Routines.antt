@@ -17,8 +17,7 @@ use Rattle.flat_code.specs.Calls as flat
 use Rattle.flat_code.specs.Meaning.{Frame, key_of, with_found, spend, runtime_of, called, begun, run}
 use Rattle.flat_code.proofs.Nodes.{run-alone}
 use Rattle.flat_code.proofs.Steps.{runtime-routine, called-entered}
-use Rattle.lowering_simulation.specs.Meets.{Relation, Landing, SameTexts, Meets}
-use Rattle.lowering_simulation.specs.Laws.{Follows}
+use Rattle.lowering_simulation.specs.Meets.{FlatRun, Relation, Landing, SameTexts, Meets}
 use Rattle.lowering_simulation.specs.Routines.{RuntimeCall, RoutineCall, Entering, CallLaws}
 use Rattle.lowering_simulation.proofs.Meets.{charged, at_once, alike, raised}
 
@@ -42,7 +41,7 @@ module _ (target : FlatProgram) (choice : Choice) (f : Frame) where
 
 module _ (few : ℕ) (target : FlatProgram) (choice : Choice) (f : Frame) (P : Relation Value) where
   -- a test on both sides, an error where it holds
-  if_raised : (weight turns code : ℕ) (b c : Bool) (go : Follows) (t : flat.State) (lands : Landing Value) (next : source.Does Value) (s : source.State) → b ≡ c → code < 256 → SameTexts s t →
+  if_raised : (weight turns code : ℕ) (b c : Bool) (go : FlatRun) (t : flat.State) (lands : Landing Value) (next : source.Does Value) (s : source.State) → b ≡ c → code < 256 → SameTexts s t →
       Meets few weight turns go t lands P (next s) →
       Meets few weight turns (λ u. if b then flat.raised code u else go u) t lands P (source.and_then (source.raised_if c code s) (λ z. next))
   if_raised weight turns code true true go t lands next s e small x h = raised few P 0 weight turns code (flat.raised code) t t lands s (at_once (flat.raised code) (flat.raised code) t t (λ left. refl)) (charged few weight t t refl (omega arith)) x small
@@ -53,8 +52,8 @@ module _ (few : ℕ) (target : FlatProgram) (choice : Choice) (f : Frame) (P : R
   enters : Entering few target choice f P
   enters weight turns program again g key own class xs callee flat_key unit r args result s t lands stands overlaid deep x h =
       let name = flat_key.unit in
-      let go : Follows = flat.activated choice (run target choice) name unit r args result f in
-      let tested : Follows = flat.tested target choice (run target choice) name unit r args result f in
+      let go : FlatRun = flat.activated choice (run target choice) name unit r args result f in
+      let tested : FlatRun = flat.tested target choice (run target choice) name unit r args result f in
       let rest : source.Does Value = calls.activated again callee g own class xs in
       let deeper : source.Does Value = λ s. source.and_then (source.raised_if (calls.is_too_deep program callee g.sum) 202 s) (λ z. rest) in
       let admit : Bool = target.overlaid name && not t.flag in

@@ -10,6 +10,10 @@ use Rattle.flat_code.specs.Memory.{Cells}
 use Rattle.flat_code.specs.Calls as flat
 use Rattle.flat_code.specs.Gives.{with_turns}
 
+-- what flat code does from a state
+abbrev pub FlatRun : Type 0
+FlatRun = flat.State → flat.Outcome
+
 -- ---- what both sides hold
 
 -- what a state of the source holds besides its turns and what was written
@@ -57,19 +61,19 @@ lands_by calls.Left t = flat.Returned t
 
 -- ---- cost
 
--- The work so far, with what the turns of the source and the bytes of the input that are left will pay: so much for each.
+-- The work so far, with what the bytes of the input and the turns of the source that are left will pay: so much for each.
 abbrev pub charge : ℕ → ℕ → flat.State → ℕ
-charge few turns t = t.work + few * (turns + length t.input)
+charge few turns t = t.work + few * length t.input + few * turns
 
 -- From one state to another there is so much work at most, besides what the bytes that were read pay.
 abbrev pub IsCharged : ℕ → ℕ → flat.State → flat.State → Type 0
-IsCharged few weight t end = (turns : ℕ) → charge few turns end ≤ charge few turns t + weight
+IsCharged few weight t end = end.work + few * length end.input ≤ t.work + few * length t.input + weight
 
 -- ---- following
 
 -- Flat code with so many turns arrives where the source gives a value, and leaves the turns that it has besides. The flat run spends no fewer
 -- turns than the source does.
-pub record Arrives {A : Type 0} (few weight turns : ℕ) (f : flat.State → flat.Outcome) (t : flat.State) (lands : Landing A) (P : Relation A) (a : A) (s : source.State) : Type 0 where
+pub record Arrives {A : Type 0} (few weight turns : ℕ) (f : FlatRun) (t : flat.State) (lands : Landing A) (P : Relation A) (a : A) (s : source.State) : Type 0 where
   pub spent : ℕ
   pub end : flat.State
   pub runs : (left : ℕ) → f (with_turns t (spent + left)) ≡ lands a (with_turns end left)
@@ -80,7 +84,7 @@ pub record Arrives {A : Type 0} (few weight turns : ℕ) (f : flat.State → fla
   pub related : P a (source_memory s) (flat_memory end)
 
 -- With so many turns the flat run stands as the source does: it is over in the same way, or goes on where it had no fewer turns.
-pub record StandsSo (few weight turns : ℕ) (f : flat.State → flat.Outcome) (t : flat.State) (standing : Standing) (s : source.State) : Type 0 where
+pub record StandsSo (few weight turns : ℕ) (f : FlatRun) (t : flat.State) (standing : Standing) (s : source.State) : Type 0 where
   pub spent : ℕ
   pub end : flat.State
   pub runs : f (with_turns t spent) ≡ flat.Over standing end
@@ -96,13 +100,13 @@ IsStill out err (flat.Returned t) = (t.turns ≡ 0) × HasTexts out err t
 IsStill out err (flat.Over standing t) = HasTexts out err t
 
 -- With so many turns the flat run has written what the source had written before an undefined act. Nothing else is asked.
-pub record StandsStill (f : flat.State → flat.Outcome) (t : flat.State) (s : source.State) : Type 0 where
+pub record StandsStill (f : FlatRun) (t : flat.State) (s : source.State) : Type 0 where
   pub spent : ℕ
   pub still : IsStill s.out s.err (f (with_turns t spent))
 
 -- Flat code, from a state with any number of turns, follows what comes of a part of the source that began with so many. Its work is at most
 -- `few` for each turn of the source and each byte that is read, and `weight` besides. Of a step that no typed program takes nothing is asked.
-abbrev pub Meets : {A : Type 0} → ℕ → ℕ → ℕ → (flat.State → flat.Outcome) → flat.State → Landing A → Relation A → source.Outcome A → Type 0
+abbrev pub Meets : {A : Type 0} → ℕ → ℕ → ℕ → FlatRun → flat.State → Landing A → Relation A → source.Outcome A → Type 0
 Meets few weight turns f t lands P (source.Done a s) = Arrives few weight turns f t lands P a s
 Meets few weight turns f t lands P (source.Over (Ended code) s) = StandsSo few weight turns f t (Ended code) s
 Meets few weight turns f t lands P (source.Over Going s) = StandsSo few weight turns f t Going s
