@@ -4,3 +4,4 @@ pub mod Nodes
 pub mod Routines
 pub mod Loops
 pub mod Programs
+pub mod Examples

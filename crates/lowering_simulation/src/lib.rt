@@ -14,6 +14,7 @@ ghost use Rattle.lowering_simulation.specs.Nodes.{NodeLaws};
 ghost use Rattle.lowering_simulation.specs.Routines.{CallLaws};
 ghost use Rattle.lowering_simulation.specs.Loops.{WhileFollows};
 ghost use Rattle.lowering_simulation.specs.Programs.{ProgramFollows};
+ghost use Rattle.lowering_simulation.specs.Examples.{ExampleFollows};
 
 /// What parts of the source give, and how it is related to the memory of both sides.
 pub trait Related {
@@ -40,7 +41,7 @@ pub trait Represented {
 /// that both sides spend pays for what comes behind it; an error of the source is raised by flat code for a turn of its own;
 /// of an undefined act nothing is asked but what was written before. So do lists, conditions, the end of a run, calls as far as
 /// their activations, and a `while`. And a program whose units are followed as they begin is shown by flat code, which works at
-/// a rate. It does nothing.
+/// a rate. There is a loop that has what is asked. It does nothing.
 pub fn lowering_simulation_laws<A: Related, B: Related, R: Represented>()
     ensures zero_turns { (program : FlatProgram) (choice : Choice) → ZeroTurnLaws program choice }
     ensures following { (few : ℕ) → FollowingLaws few A.related A.wider B.related }
@@ -48,4 +49,5 @@ pub fn lowering_simulation_laws<A: Related, B: Related, R: Represented>()
     ensures calls { (few : ℕ) (program : FlatProgram) (choice : Choice) (f : Frame) → CallLaws few program choice f R.returned }
     ensures loops { WhileFollows R.between R.decided R.ran R.ended }
     ensures programs { ProgramFollows R.between }
+    ensures example { ExampleFollows }
 {}

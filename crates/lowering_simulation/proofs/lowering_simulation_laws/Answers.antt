@@ -4,6 +4,7 @@ use Rattle.lowering_simulation.proofs.Nodes.{node_laws}
 use Rattle.lowering_simulation.proofs.Routines.{call_laws}
 use Rattle.lowering_simulation.proofs.Loops.{while_follows}
 use Rattle.lowering_simulation.proofs.Programs.{program_follows}
+use Rattle.lowering_simulation.proofs.Examples.{example_follows}
 use Rattle.lowering_simulation.proofs.lowering_simulation_laws.Goals as goal
 
 pub returns-clause-zero_turns : goal.returns-clause-zero_turns
@@ -23,3 +24,6 @@ returns-clause-loops g c = while_follows g.R.Represented.between g.R.Represented
 
 pub returns-clause-programs : goal.returns-clause-programs
 returns-clause-programs g c = program_follows g.R.Represented.between
+
+pub returns-clause-example : goal.returns-clause-example
+returns-clause-example g c = example_follows
