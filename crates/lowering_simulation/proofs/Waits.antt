@@ -12,7 +12,7 @@ use Rattle.flat_code.specs.Program.{Name, Key, Routine, UnitCode, FlatProgram, C
 use Rattle.flat_code.specs.Meaning.{routine_pointer, Frame, State, Outcome, Next, Left, Returned, Over, and_then, spend, error_text, raised, with_found, begun, with_cells, set_cells, stored_at, copied_at, pointer_at, activation_bytes, is_too_deep, tested, admitted, entered, entered_at, result_bytes, give, frame_of, opened, closed, ended, finished, Does, activated, with_some, called, runtime_of, stored, left, step_of, looped, chosen, runs, run_by, run, value_of, values_of, key_of, start_frame, started, initial_of, all_started}
 use Rattle.flat_code.proofs.Turns.{spend-none}
 use Rattle.lowering_simulation.specs.Meets.{HasTexts, IsStill, Context}
-use Rattle.lowering_simulation.specs.Waits.{IsIdle, Waits, ZeroTurnLaws}
+use Rattle.lowering_simulation.specs.Waits.{IsIdle, Waits, ZeroTurnLaws, IsStillAfter, ContextLaws}
 
 -- ---- one after another
 
@@ -169,10 +169,6 @@ still_where r (Over Stopped t) p = absurd p
 pub still_as : (out err : List ℕ) (t : State) (o : Outcome) → HasTexts out err t → IsStill t.out t.err o → IsStill out err o
 still_as out err t o p q = subst (λ x. IsStill x err o) p.0 (subst (λ x. IsStill t.out x o) p.1 q)
 
--- what follows is still where it has no turn left
-abbrev pub IsStillAfter : (State → Outcome) → Type 0
-IsStillAfter go = (s : State) → s.turns ≡ 0 → IsStill s.out s.err (go s)
-
 pub run_still : (program : FlatProgram) (choice : Choice) (code : Code) (f : Frame) → IsStillAfter (run program choice code f)
 run_still program choice code f s e = still_where s (run program choice code f s) (waits_run program choice code f s e)
 
@@ -196,6 +192,18 @@ around_looped go after = record { over = λ standing t. refl; still = still }
     still out err (Left (suc loops) t) p = p
     still out err (Returned t) p = p
     still out err (Over standing t) p = p
+
+pub around_finished : (go : State → Outcome) → IsStillAfter go → Context (λ o. finished o go)
+around_finished go after = record { over = λ standing t. refl; still = still }
+  where
+    still : (out err : List ℕ) (o : Outcome) → IsStill out err o → IsStill out err (finished o go)
+    still out err (Next t) p = still_as out err t (go t) p.1 (after t p.0)
+    still out err (Left loops t) p = still_as out err t (go t) p.1 (after t p.0)
+    still out err (Returned t) p = still_as out err t (go t) p.1 (after t p.0)
+    still out err (Over standing t) p = p
+
+pub context_laws : (go : State → Outcome) → ContextLaws go
+context_laws go = record { list = around_and_then go; loop = around_looped go; activation = around_finished go }
 
 pub around_both : (outer inner : Outcome → Outcome) → Context outer → Context inner → Context (λ o. outer (inner o))
 around_both outer inner c d = record {

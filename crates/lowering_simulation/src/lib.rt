@@ -6,9 +6,9 @@ ghost use Rattle.std.specs.Prelude.{ℕ, Bool};
 ghost use Rattle.tp_meaning.specs.Trees.{Value};
 ghost use Rattle.tp_meaning.specs.Calls.{Flow};
 ghost use Rattle.flat_code.specs.Program.{FlatProgram, Choice};
-ghost use Rattle.flat_code.specs.Meaning.{Frame};
+ghost use Rattle.flat_code.specs.Meaning.{Frame, State, Outcome};
 ghost use Rattle.lowering_simulation.specs.Meets.{SourceMemory, FlatMemory};
-ghost use Rattle.lowering_simulation.specs.Waits.{ZeroTurnLaws};
+ghost use Rattle.lowering_simulation.specs.Waits.{ContextLaws, ZeroTurnLaws};
 ghost use Rattle.lowering_simulation.specs.Laws.{FollowingLaws};
 ghost use Rattle.lowering_simulation.specs.Nodes.{NodeLaws};
 ghost use Rattle.lowering_simulation.specs.Routines.{CallLaws};
@@ -44,6 +44,7 @@ pub trait Represented {
 /// a rate. There is a loop that has what is asked. It does nothing.
 pub fn lowering_simulation_laws<A: Related, B: Related, R: Represented>()
     ensures zero_turns { (program : FlatProgram) (choice : Choice) → ZeroTurnLaws program choice }
+    ensures contexts { (go : State → Outcome) → ContextLaws go }
     ensures following { (few : ℕ) → FollowingLaws few A.related A.wider B.related }
     ensures nodes { (few : ℕ) (program : FlatProgram) (choice : Choice) (f : Frame) → NodeLaws few program choice f A.related B.related }
     ensures calls { (few : ℕ) (program : FlatProgram) (choice : Choice) (f : Frame) → CallLaws few program choice f R.returned }

@@ -1,4 +1,4 @@
-use Rattle.lowering_simulation.proofs.Waits.{zero_turn_laws}
+use Rattle.lowering_simulation.proofs.Waits.{context_laws, zero_turn_laws}
 use Rattle.lowering_simulation.proofs.Meets.{following_laws}
 use Rattle.lowering_simulation.proofs.Nodes.{node_laws}
 use Rattle.lowering_simulation.proofs.Routines.{call_laws}
@@ -9,6 +9,9 @@ use Rattle.lowering_simulation.proofs.lowering_simulation_laws.Goals as goal
 
 pub returns-clause-zero_turns : goal.returns-clause-zero_turns
 returns-clause-zero_turns g c = zero_turn_laws
+
+pub returns-clause-contexts : goal.returns-clause-contexts
+returns-clause-contexts g c = context_laws
 
 pub returns-clause-following : goal.returns-clause-following
 returns-clause-following g c = λ few. following_laws few g.A.Related.related g.A.Related.wider g.B.Related.related
