@@ -9,7 +9,6 @@ use Rattle.typed_tree.specs.declared.units.Program.{Program}
 use Rattle.tp_meaning.specs.Trees.{Value}
 use Rattle.tp_meaning.specs.Outcomes as source
 use Rattle.tp_meaning.specs.Meaning as meaning
-use Rattle.tp_meaning.specs.Meaning.{mean}
 use Rattle.flat_code.specs.Program.{Name, FlatProgram, Choice}
 use Rattle.flat_code.specs.Gives.{with_turns}
 use Rattle.flat_code.specs.Calls as flat

@@ -8,7 +8,6 @@ use Rattle.tp_meaning.specs.Programs.{is_overlaid}
 use Rattle.tp_meaning.specs.Outcomes as source
 use Rattle.tp_meaning.specs.Activations.{Callee}
 use Rattle.tp_meaning.specs.Calls as calls
-use Rattle.tp_meaning.specs.Calls.{Runs}
 use Rattle.flat_code.specs.Tree.{exprs_size, Runtime, Call, End, Do}
 use Rattle.flat_code.specs.Memory.{Found}
 use Rattle.flat_code.specs.Program.{Key, FlatProgram, Choice}
