@@ -1,8 +1,8 @@
 -- The variables of a routine by their numbers.
-use Rattle.std.proofs.Common.{◌≡◌, ℕ, zero, suc, ◌+◌, ◌-◌, ◌≤◌, ◌<◌, List, [], ◌∷◌, ◌++◌, map, length, Option, Some, None, refl, sym, ap, ◌∙◌, arith}
-use Rattle.std.specs.Prelude.{slice_get}
+use Rattle.std.proofs.Common.{◌≡◌, ℕ, zero, suc, ◌+◌, ◌-◌, ◌≤◌, ◌<◌, List, [], ◌∷◌, ◌++◌, map, length, get_or, Option, Some, None, Result, Ok, Err, refl, sym, ap, ◌∙◌, arith}
+use Rattle.std.specs.Prelude.{slice_get, IfOk}
 use Rattle.std.specs.Option.{option_map}
-use Rattle.std.proofs.lemmas.Option.{slice_get_past, slice_get_within}
+use Rattle.std.proofs.lemmas.Option.{slice_get_past, slice_get-get_or}
 use Rattle.type_layout.specs.declared.definitions.TypeId.{TypeId}
 use Rattle.type_layout.specs.declared.definitions.Param.{Param}
 use Rattle.type_layout.specs.declared.definitions.TypeDef.{TypeDef}
@@ -94,3 +94,11 @@ type_of_param routine n param e = param-type routine.header.params (listed routi
 pub type_past_params : (routine : Routine) (n : ℕ) → length routine.header.params ≤ n
     → slice_get (variables_of routine) n ≡ slice_get (listed routine.owner ++ (listed routine.header.result ++ routine.locals)) (n - length routine.header.params)
 type_past_params routine n h = past-type routine.header.params (listed routine.owner ++ (listed routine.header.result ++ routine.locals)) n h
+
+-- where a parameter is placed, its variable is
+pub param_value : {E : Type 0} (types : List TypeDef) (routine : Routine) (n : ℕ) (param : Param) (found : Result PlacedHome E) → n < length routine.header.params → param ≡ get_or routine.header.params n param
+    → IfOk found (λ home. home ≡ placed types routine (home_of_param types n param)) → IfOk found (λ home. option_map (placed types routine) (home_of types routine n) ≡ Some home)
+param_value types routine n param (Ok home) within is e =
+    let there : slice_get routine.header.params n ≡ Some param = slice_get-get_or routine.header.params n param within ∙ ap (λ (p : Param). let o : Option Param = Some p in o) (sym is) in
+    ap (option_map (placed types routine)) (among_params types routine n param there) ∙ ap (λ (h : PlacedHome). let o : Option PlacedHome = Some h in o) (sym e)
+param_value types routine n param (Err error) within is e = tt

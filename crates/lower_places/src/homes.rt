@@ -108,7 +108,7 @@ fn home_from_instance(types: &Types, routine: &Routine, number: usize) -> Result
 
 /// Where the variable with a number lies: the parameters, Self, the result, and the routine's own are numbered in this
 /// order.
-#[tactic(auto, using(crate::proofs::Variables::among_params, crate::proofs::Variables::behind_params))]
+#[tactic(auto, using(crate::proofs::Variables::behind_params))]
 pub fn home_of(types: &Types, routine: &Routine, number: u32) -> Result<Home, AllocError>
     ensures value { IfOk result (λ home. option_map (placed types.now.types routine.now) (home_of types.now.types routine.now number) ≡ Some home) }
     ensures cause { OnErr result ((home_of types.now.types routine.now number ≡ None) ⊎ (2 ^ 31 ≤ frame_of types.now.types routine.now)) }

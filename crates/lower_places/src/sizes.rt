@@ -128,13 +128,19 @@ pub(crate) fn copies_bytes(types: &Types, params: &[Param]) -> Result<u32, Alloc
     Ok(bytes)
 }
 
+fn variable_bytes(types: &Types, ty: &TypeId) -> u32
+    ensures { result ≡ even_size types.now.types ty.now }
+{
+    even_size(types, *ty)
+}
+
 pub(crate) fn variables_bytes(types: &Types, variables: &[TypeId]) -> Result<u32, AllocError>
     ensures value { IfOk result (λ bytes. bytes ≡ sum_by (even_size types.now.types) variables.now) }
     ensures cause { OnErr result (2 ^ 32 ≤ sum_by (even_size types.now.types) variables.now) }
 {
     let mut bytes = 0u32;
     for ty in variables {
-        bytes = sum(bytes, even_size(types, *ty))?;
+        bytes = sum(bytes, variable_bytes(types, ty))?;
     }
     Ok(bytes)
 }

@@ -309,7 +309,6 @@ impl<'a> Scene<'a> {
     }
 
     // The type of a variable of the routine itself, or of what an open `with` holds.
-    #[tactic(auto, using(crate::proofs::SortParts::held_found, crate::proofs::SortParts::held_past))]
     fn inner_sort(&self, number: u32) -> Result<Sort<'a>, AllocError>
         ensures { IfOk result (λ sort. held_sort_or (surroundings_in (view_scene self.now)) number (sort_of_number (surroundings_in (view_scene self.now)) number self.now.routine.now) ≡ Some (view_sort sort)) }
     {

@@ -17,15 +17,16 @@ literals_of_args-loop-arg-preserved t c =
     let within : i < length all = c.loop-arg-test.true in
     let front : drop i all ≡ one ∷ rest = drop-cons all i one within ∙ rw (← add-one i) (ap (λ (x : Arg). x ∷ rest) (sym c.arg-item.is)) in
     let step = arg_step one (view_args rest) in
-    let before : min (length (literals_of_arguments (view_args all))) (2 ^ 32 - 1) ≡ min (c.loop-arg.sum + length (literals_of_arguments (view_args (one ∷ rest)))) (2 ^ 32 - 1) = rw front at c.loop-arg.invariant in
-    omega (arith, step, before)
+    let before : min (length (literals_of_arguments (view_args all))) (2 ^ 32 - 1) ≡ min (c.loop-arg.sum + length (literals_of_arguments (view_args (one ∷ rest)))) (2 ^ 32 - 1) = rw front at c.loop-arg.invariant.1 in
+    (omega arith, omega (arith, step, before))
 
 pub literals_of_args-returns : goal.literals_of_args-returns
 literals_of_args-returns t c =
     let all = c.args.args.now in
     let past : drop c.loop-arg.arg-index all ≡ [] = drop_all c.loop-arg.arg-index all (omega arith) in
-    let last : min (length (literals_of_arguments (view_args all))) (2 ^ 32 - 1) ≡ min (c.loop-arg.sum + 0) (2 ^ 32 - 1) = rw past at c.loop-arg.invariant in
-    omega (arith, last)
+    let last : min (length (literals_of_arguments (view_args all))) (2 ^ 32 - 1) ≡ min (c.loop-arg.sum + 0) (2 ^ 32 - 1) = rw past at c.loop-arg.invariant.1 in
+    let small = c.loop-arg.invariant.0 in
+    omega (arith, last, small)
 
 pub literals_of_elements-loop-element-preserved : goal.literals_of_elements-loop-element-preserved
 literals_of_elements-loop-element-preserved t c =
@@ -36,15 +37,16 @@ literals_of_elements-loop-element-preserved t c =
     let within : i < length all = c.loop-element-test.true in
     let front : drop i all ≡ one ∷ rest = drop-cons all i one within ∙ rw (← add-one i) (ap (λ (x : SetElement). x ∷ rest) (sym c.element-item.is)) in
     let step = element_step one (view_elements rest) in
-    let before : min (length (literals_of_elements (view_elements all))) (2 ^ 32 - 1) ≡ min (c.loop-element.sum + length (literals_of_elements (view_elements (one ∷ rest)))) (2 ^ 32 - 1) = rw front at c.loop-element.invariant in
-    omega (arith, step, before)
+    let before : min (length (literals_of_elements (view_elements all))) (2 ^ 32 - 1) ≡ min (c.loop-element.sum + length (literals_of_elements (view_elements (one ∷ rest)))) (2 ^ 32 - 1) = rw front at c.loop-element.invariant.1 in
+    (omega arith, omega (arith, step, before))
 
 pub literals_of_elements-returns : goal.literals_of_elements-returns
 literals_of_elements-returns t c =
     let all = c.args.elements.now in
     let past : drop c.loop-element.element-index all ≡ [] = drop_all c.loop-element.element-index all (omega arith) in
-    let last : min (length (literals_of_elements (view_elements all))) (2 ^ 32 - 1) ≡ min (c.loop-element.sum + 0) (2 ^ 32 - 1) = rw past at c.loop-element.invariant in
-    omega (arith, last)
+    let last : min (length (literals_of_elements (view_elements all))) (2 ^ 32 - 1) ≡ min (c.loop-element.sum + 0) (2 ^ 32 - 1) = rw past at c.loop-element.invariant.1 in
+    let small = c.loop-element.invariant.0 in
+    omega (arith, last, small)
 
 pub literals_of_expr-returns-in-SetOf : goal.literals_of_expr-returns-in-SetOf
 literals_of_expr-returns-in-SetOf t c =

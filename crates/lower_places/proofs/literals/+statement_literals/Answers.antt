@@ -26,12 +26,14 @@ pub literals_of_stmts-returns : goal.literals_of_stmts-returns
 literals_of_stmts-returns t c =
     let all = c.args.statements.now in
     let past : drop c.loop-stmt.stmt-index all ≡ [] = drop_all c.loop-stmt.stmt-index all (omega arith) in
-    let last : min (length (literals_in_all (view_stmts all))) (2 ^ 32 - 1) ≡ min (c.loop-stmt.sum + 0) (2 ^ 32 - 1) = rw past at c.loop-stmt.invariant in
-    omega (arith, last)
+    let last : min (length (literals_in_all (view_stmts all))) (2 ^ 32 - 1) ≡ min (c.loop-stmt.sum + 0) (2 ^ 32 - 1) = rw past at c.loop-stmt.invariant.1 in
+    let small = c.loop-stmt.invariant.0 in
+    omega (arith, last, small)
 
 pub literals_of_arms-returns : goal.literals_of_arms-returns
 literals_of_arms-returns t c =
     let all = c.args.arms.now in
     let past : drop c.loop-arm.arm-index all ≡ [] = drop_all c.loop-arm.arm-index all (omega arith) in
-    let last : min (length (literals_in_arms (view_arms all))) (2 ^ 32 - 1) ≡ min (c.loop-arm.sum + 0) (2 ^ 32 - 1) = rw past at c.loop-arm.invariant in
-    omega (arith, last)
+    let last : min (length (literals_in_arms (view_arms all))) (2 ^ 32 - 1) ≡ min (c.loop-arm.sum + 0) (2 ^ 32 - 1) = rw past at c.loop-arm.invariant.1 in
+    let small = c.loop-arm.invariant.0 in
+    omega (arith, last, small)

@@ -8,5 +8,6 @@ pub returns : goal.returns
 returns c =
     let all = c.args.items.now in
     let past : drop c.loop-item.item-index all ≡ [] = drop_all c.loop-item.item-index all (omega arith) in
-    let last : min (length (literals_of_taken (map view_taken all))) (2 ^ 32 - 1) ≡ min (c.loop-item.sum + 0) (2 ^ 32 - 1) = rw past at c.loop-item.invariant in
-    omega (arith, last)
+    let last : min (length (literals_of_taken (map view_taken all))) (2 ^ 32 - 1) ≡ min (c.loop-item.sum + 0) (2 ^ 32 - 1) = rw past at c.loop-item.invariant.1 in
+    let small = c.loop-item.invariant.0 in
+    omega (arith, last, small)
