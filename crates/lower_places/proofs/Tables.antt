@@ -1,5 +1,5 @@
 -- What a table gives at ids that it doesn't have.
-use Rattle.std.proofs.Common.{◌≡◌, ℕ, ◌≤◌, List, length, Option, None, Result, Ok, Err, ap, arith}
+use Rattle.std.proofs.Common.{◌≡◌, ◌≤◌, List, length, None, Result, Ok, Err, ap, arith}
 use Rattle.std.specs.Prelude.{OnErr}
 use Rattle.std.proofs.lemmas.List.{get_or_past}
 use Rattle.type_layout.specs.declared.definitions.TypeId.{TypeId}

@@ -1,4 +1,4 @@
-use Rattle.std.proofs.Common.{◌≡◌, ◌∙◌, sym, Option, Some, None}
+use Rattle.std.proofs.Common.{◌∙◌, sym, Option, Some, None}
 use Rattle.type_layout.specs.declared.definitions.Kind.{Kind}
 use Rattle.lower_places.proofs.KindTurns.{kind_turns}
 use Rattle.lower_places.proofs.kinds.kind_from.Goals as goal
