@@ -10,7 +10,8 @@ mod scene;
 mod sorts;
 
 pub use literals::{
-    literals_of_args, literals_of_expr, literals_of_place, literals_of_receiver, literals_of_stmt,
+    literals_of_arg, literals_of_args, literals_of_element, literals_of_expr, literals_of_place,
+    literals_of_receiver, literals_of_stmt,
 };
 pub use names::flat_names;
 pub use reach::{Reach, further};

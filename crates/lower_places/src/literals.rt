@@ -57,8 +57,9 @@ pub fn literals_of_receiver(own: &Option<Box<PlaceExpr>>) -> u32 {
     }
 }
 
+/// The literals of what a set constructor lists.
 #[cycle(literals)]
-fn literals_of_element(element: &SetElement) -> u32 {
+pub fn literals_of_element(element: &SetElement) -> u32 {
     match element {
         SetElement::One(one) => literals_of_expr(one),
         SetElement::Span(low, high) => {
@@ -76,8 +77,9 @@ fn literals_of_elements(elements: &[SetElement]) -> u32 {
     sum
 }
 
+/// The literals of an argument.
 #[cycle(literals)]
-fn literals_of_arg(arg: &Arg) -> u32 {
+pub fn literals_of_arg(arg: &Arg) -> u32 {
     match arg {
         Arg::Value(value) => literals_of_expr(value),
         Arg::Place(place) => literals_of_place(place),
