@@ -1,0 +1,242 @@
+//! Loads and stores, and pointers to places.
+
+use crate::forms::{Form, high_in, low_in, slot_place, text_words, word_in};
+use crate::nodes::{clear, pair, runtime, signed_byte, single, with_result};
+use flat_code::flat_builders::{set, then};
+use flat_code::{Address, FlatExpr, FlatExprs, FlatList, FlatStmt};
+use lower_places::{Reach, Scene, Shape, further};
+use runtime_units::numbers::RuntimeRoutine;
+use std::alloc::{AllocError, Global};
+use type_layout::Host;
+
+/// The segment of a place.
+pub fn segment_of(reach: Reach) -> Result<FlatExpr, AllocError> {
+    match reach {
+        Reach::At(at) => Ok(FlatExpr::SegmentOf(at)),
+        Reach::Beyond(pointer) => Ok(FlatExpr::Word(further(pointer, 2)?)),
+    }
+}
+
+/// The offset of a place.
+pub fn offset_of(reach: Reach) -> FlatExpr {
+    match reach {
+        Reach::At(at) => FlatExpr::AddressOf(at),
+        Reach::Beyond(pointer) => FlatExpr::Word(pointer),
+    }
+}
+
+/// The segment and the offset of a place, as arguments.
+pub fn place_words(alloc: Global, reach: Reach) -> Result<FlatExprs, AllocError> {
+    Ok(vec![in alloc; segment_of(reach)?, offset_of(reach)]?)
+}
+
+// Bytes that are moved from a place to another.
+fn moved(alloc: Global, to: Reach, from: Reach, bytes: u16) -> Result<FlatList, AllocError> {
+    if let (Reach::At(to), Reach::At(from)) = (to, from) {
+        return single(alloc, FlatStmt::Copy { to, from, bytes });
+    }
+    let args = vec![in alloc;
+        segment_of(to)?,
+        offset_of(to),
+        segment_of(from)?,
+        offset_of(from),
+        FlatExpr::Number(bytes),
+    ]?;
+    single(alloc, runtime(RuntimeRoutine::Move, args))
+}
+
+// The number of a host that lies at a place, as a word.
+fn stored_word(alloc: Global, host: Host, at: Address) -> Result<FlatExpr, AllocError> {
+    match host {
+        Host::ShortInt => signed_byte(alloc, FlatExpr::Byte(at)),
+        Host::Byte | Host::Char | Host::Boolean | Host::Enumeration => Ok(FlatExpr::Byte(at)),
+        Host::Integer | Host::Word | Host::LongInt => Ok(FlatExpr::Word(at)),
+    }
+}
+
+// The routine that loads a number of a host.
+fn loading(host: Host) -> RuntimeRoutine {
+    match host {
+        Host::ShortInt => RuntimeRoutine::LoadShort,
+        Host::Byte | Host::Char | Host::Boolean | Host::Enumeration => RuntimeRoutine::LoadByte,
+        Host::Integer | Host::Word | Host::LongInt => RuntimeRoutine::LoadWord,
+    }
+}
+
+/// The number of a host of at most 2 bytes at a place goes to a slot.
+pub fn load_word(
+    scene: &Scene,
+    from: Reach,
+    host: Host,
+    slot: u32,
+) -> Result<FlatList, AllocError> {
+    let alloc = scene.alloc;
+    let to = scene.slot_at(slot, 2)?;
+    match from {
+        Reach::At(at) => single(alloc, set(to, stored_word(alloc, host, at)?)),
+        Reach::Beyond(_) => {
+            let args = place_words(alloc, from)?;
+            single(alloc, with_result(loading(host), args, to, 2))
+        }
+    }
+}
+
+// The string at a place goes to a slot.
+fn load_text(scene: &Scene, from: Reach, slot: u32) -> Result<FlatList, AllocError> {
+    let to = Reach::At(slot_place(scene, slot, 256)?);
+    single(
+        scene.alloc,
+        assigned(scene.alloc, to, 255, segment_of(from)?, offset_of(from))?,
+    )
+}
+
+fn assigned(
+    alloc: Global,
+    to: Reach,
+    max: u8,
+    segment: FlatExpr,
+    offset: FlatExpr,
+) -> Result<FlatStmt, AllocError> {
+    let args = vec![in alloc;
+        segment_of(to)?,
+        offset_of(to),
+        FlatExpr::Number(u16::from(max)),
+        segment,
+        offset,
+    ]?;
+    Ok(runtime(RuntimeRoutine::Assign, args))
+}
+
+// Bytes so far from BP become zeros, if there are any.
+fn cleared(alloc: Global, at: i32, count: u16) -> Result<FlatList, AllocError> {
+    if count == 0 {
+        return Ok(Vec::new(alloc));
+    }
+    single(alloc, clear(alloc, at, count)?)
+}
+
+// Whether a place is reached through the slot of 4 bytes there.
+fn is_through(from: Reach, slot: i32) -> bool {
+    match from {
+        Reach::At(Address::Through { slot: pointer, .. }) => pointer == slot,
+        _ => false,
+    }
+}
+
+// So many bytes of a set lie at a place, from the one with a number on; all 32 go to a slot.
+fn load_set(
+    scene: &Scene,
+    from: Reach,
+    first: u16,
+    bytes: u16,
+    slot: u32,
+) -> Result<FlatList, AllocError> {
+    let alloc = scene.alloc;
+    let to = scene.slot_at(slot, 32)?;
+    let part = to.checked_add(i32::from(first)).ok_or(AllocError)?;
+    let copied = moved(alloc, Reach::At(Address::Local(part)), from, bytes)?;
+    if !is_through(from, scene.slot_at(slot, 4)?) {
+        return then(cleared(alloc, to, 32)?, copied);
+    }
+    let behind = part.checked_add(i32::from(bytes)).ok_or(AllocError)?;
+    let rest = 32u16.saturating_sub(first).saturating_sub(bytes);
+    let around = then(cleared(alloc, to, first)?, cleared(alloc, behind, rest)?)?;
+    then(copied, around)
+}
+
+/// A far pointer to a place goes to a slot of 4 bytes.
+pub fn point(scene: &Scene, to: Reach, slot: u32) -> Result<FlatList, AllocError> {
+    let alloc = scene.alloc;
+    let low = scene.slot_at(slot, 4)?;
+    let high = scene.slot_at(slot, 2)?;
+    match to {
+        Reach::At(
+            Address::Through {
+                slot: pointer,
+                plus: 0,
+            },
+        ) if pointer == low => Ok(Vec::new(alloc)),
+        Reach::At(at) => pair(
+            alloc,
+            set(low, FlatExpr::AddressOf(at)),
+            set(high, FlatExpr::SegmentOf(at)),
+        ),
+        Reach::Beyond(from) => single(
+            alloc,
+            FlatStmt::Copy {
+                to: Address::Local(low),
+                from,
+                bytes: 4,
+            },
+        ),
+    }
+}
+
+/// The value at a place goes to a slot; of a structured value a far pointer to it.
+pub fn load(scene: &Scene, from: Reach, shape: Shape, slot: u32) -> Result<FlatList, AllocError> {
+    match shape {
+        Shape::Number { host, .. } if host.width() <= 2 => load_word(scene, from, host, slot),
+        Shape::Number { .. } | Shape::Far => {
+            moved(scene.alloc, Reach::At(slot_place(scene, slot, 4)?), from, 4)
+        }
+        Shape::Text { .. } => load_text(scene, from, slot),
+        Shape::Set { first, bytes } => load_set(scene, from, first, bytes, slot),
+        Shape::Whole { .. } => point(scene, from, slot),
+    }
+}
+
+// The number in a slot of 2 bytes goes to a place of a host.
+fn store_word(scene: &Scene, to: Reach, host: Host, slot: u32) -> Result<FlatList, AllocError> {
+    let alloc = scene.alloc;
+    let one_byte = host.width() == 1;
+    match to {
+        Reach::At(to) => {
+            let value = word_in(scene, slot)?;
+            single(
+                alloc,
+                if one_byte {
+                    FlatStmt::StoreByte { to, value }
+                } else {
+                    FlatStmt::StoreWord { to, value }
+                },
+            )
+        }
+        Reach::Beyond(_) => {
+            let from = Reach::At(slot_place(scene, slot, 2)?);
+            moved(alloc, to, from, if one_byte { 1 } else { 2 })
+        }
+    }
+}
+
+/// The value in a slot goes to a place that is no record, array or object. With `literal` the slot holds a far pointer to a
+/// string, as that of a string constant does.
+pub fn store(
+    scene: &Scene,
+    to: Reach,
+    shape: Shape,
+    slot: u32,
+    literal: bool,
+) -> Result<FlatList, AllocError> {
+    let alloc = scene.alloc;
+    match shape {
+        Shape::Number { host, .. } if host.width() <= 2 => store_word(scene, to, host, slot),
+        Shape::Number { .. } | Shape::Far => {
+            moved(alloc, to, Reach::At(slot_place(scene, slot, 4)?), 4)
+        }
+        Shape::Text { max } => {
+            let form = if literal { Form::Literal } else { Form::Text };
+            let (segment, offset) = text_words(scene, form, slot)?;
+            single(alloc, assigned(alloc, to, max, segment, offset)?)
+        }
+        Shape::Set { first, bytes } => {
+            let set = slot_place(scene, slot, 32)?;
+            moved(alloc, to, Reach::At(further(set, first)?), bytes)
+        }
+        Shape::Whole { .. } => Err(AllocError),
+    }
+}
+
+/// The segment and the offset of the far pointer in a slot of 4 bytes, as arguments.
+pub fn pointer_words(scene: &Scene, slot: u32) -> Result<FlatExprs, AllocError> {
+    Ok(vec![in scene.alloc; high_in(scene, slot)?, low_in(scene, slot)?]?)
+}
