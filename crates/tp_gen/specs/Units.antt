@@ -30,23 +30,37 @@ units_of seed units = map (unit_in seed units) (range_with_len 0 units)
 -- the other units that are used, each named once
 abbrev pub uses_text : ℕ → ℕ → List ℕ
 uses_text first second =
-    if first == second then concat (codes "uses G" ∷ decimal first ∷ codes ";\n" ∷ [])
-    else concat (codes "uses G" ∷ decimal first ∷ codes ", G" ∷ decimal second ∷ codes ";\n" ∷ [])
+    if first == second then concat (codes "uses G" ∷ decimal first ∷ codes ";" ∷ [])
+    else concat (codes "uses G" ∷ decimal first ∷ codes ", G" ∷ decimal second ∷ codes ";" ∷ [])
 
--- The source of a unit. Its function gives the base up to 0, and above it what the two others give of numbers that are less.
+abbrev pub header_text : ℕ → List ℕ
+header_text number = concat (codes "function F" ∷ decimal number ∷ codes "(n: Integer): Integer;" ∷ [])
+
+-- the calls of the two others: the one of the number that is less by the step, the other of one less than that
+abbrev pub calls_text : DrawnUnit → List ℕ
+calls_text unit = concat (
+    codes "F" ∷ decimal unit.first ∷ codes "(n - " ∷ decimal unit.step ∷ codes ") + F"
+    ∷ decimal unit.second ∷ codes "(n - " ∷ decimal (unit.step + 1) ∷ codes ")"
+    ∷ [])
+
+-- what the function of a unit does: up to 0 it gives the base, and above it what the two others give of less
+unfoldable pub statement_text : DrawnUnit → List ℕ
+statement_text unit = concat (
+    codes "if n <= 0 then F" ∷ decimal unit.number ∷ codes " := " ∷ decimal unit.base ∷ codes "\n"
+    ∷ codes "else F" ∷ decimal unit.number ∷ codes " := " ∷ calls_text unit ∷ codes " * " ∷ decimal unit.factor ∷ codes "\n"
+    ∷ [])
+
+-- the source of a unit
 unfoldable pub unit_text : DrawnUnit → List ℕ
 unit_text unit = concat (
     codes "{$F+,O+} unit G" ∷ decimal unit.number ∷ codes ";\n"
     ∷ codes "interface\n"
-    ∷ codes "function F" ∷ decimal unit.number ∷ codes "(n: Integer): Integer;\n"
+    ∷ header_text unit.number ∷ codes "\n"
     ∷ codes "implementation\n"
-    ∷ uses_text unit.first unit.second
-    ∷ codes "function F" ∷ decimal unit.number ∷ codes "(n: Integer): Integer;\n"
+    ∷ uses_text unit.first unit.second ∷ codes "\n"
+    ∷ header_text unit.number ∷ codes "\n"
     ∷ codes "begin\n"
-    ∷ codes "if n <= 0 then F" ∷ decimal unit.number ∷ codes " := " ∷ decimal unit.base ∷ codes "\n"
-    ∷ codes "else F" ∷ decimal unit.number
-    ∷ codes " := F" ∷ decimal unit.first ∷ codes "(n - " ∷ decimal unit.step ∷ codes ")"
-    ∷ codes " + F" ∷ decimal unit.second ∷ codes "(n - " ∷ decimal (unit.step + 1) ∷ codes ") * " ∷ decimal unit.factor ∷ codes "\n"
+    ∷ statement_text unit
     ∷ codes "end;\n"
     ∷ codes "end.\n"
     ∷ [])

@@ -2,7 +2,7 @@
 
 ghost use Rattle.std.specs.Prelude.{◌≡◌, ◌≤◌, ◌<◌, ◌*◌, IfOk, OnOk, string_bytes};
 ghost use Rattle.tp_gen.specs.Draws.{state_after};
-ghost use Rattle.tp_gen.specs.Units.{other_unit, unit_behind, units_of, uses_text, unit_text};
+ghost use Rattle.tp_gen.specs.Units.{other_unit, unit_behind, units_of, uses_text, header_text, calls_text, statement_text, unit_text};
 
 use crate::draws::Draws;
 use std::alloc::{AllocError, Global};
@@ -76,36 +76,67 @@ fn uses_text(alloc: Global, first: u16, second: u16) -> Result<String, AllocErro
     ensures { IfOk result (λ text. string_bytes text ≡ uses_text first second) }
 {
     if first == second {
-        format!(in alloc; "uses G{first};\n")
+        format!(in alloc; "uses G{first};")
     } else {
-        format!(in alloc; "uses G{first}, G{second};\n")
+        format!(in alloc; "uses G{first}, G{second};")
     }
+}
+
+fn header_text(alloc: Global, number: u16) -> Result<String, AllocError>
+    ensures { IfOk result (λ text. string_bytes text ≡ header_text number) }
+{
+    format!(in alloc; "function F{number}(n: Integer): Integer;")
+}
+
+// The calls of the two others.
+fn calls_text(alloc: Global, unit: DrawnUnit) -> Result<String, AllocError>
+    ensures { IfOk result (λ text. string_bytes text ≡ calls_text unit) }
+{
+    let DrawnUnit {
+        first,
+        second,
+        step,
+        ..
+    } = unit;
+    let further = step as u32 + 1;
+    format!(in alloc; "F{first}(n - {step}) + F{second}(n - {further})")
+}
+
+// What the function of a unit does.
+fn statement_text(alloc: Global, unit: DrawnUnit) -> Result<String, AllocError>
+    ensures { IfOk result (λ text. string_bytes text ≡ statement_text unit) }
+{
+    let calls = calls_text(alloc, unit)?;
+    let DrawnUnit {
+        number,
+        base,
+        factor,
+        ..
+    } = unit;
+    format!(in alloc;
+        "if n <= 0 then F{number} := {base}
+else F{number} := {calls} * {factor}
+"
+    )
 }
 
 /// The source of a unit.
 pub(crate) fn unit_text(alloc: Global, unit: DrawnUnit) -> Result<String, AllocError>
     ensures { IfOk result (λ text. string_bytes text ≡ unit_text unit) }
 {
-    let DrawnUnit {
-        number,
-        first,
-        second,
-        base,
-        factor,
-        step,
-    } = unit;
-    let uses = uses_text(alloc, first, second)?;
-    let further = u32::from(step) + 1;
+    let header = header_text(alloc, unit.number)?;
+    let uses = uses_text(alloc, unit.first, unit.second)?;
+    let statement = statement_text(alloc, unit)?;
+    let number = unit.number;
     format!(in alloc;
         "{{$F+,O+}} unit G{number};
 interface
-function F{number}(n: Integer): Integer;
+{header}
 implementation
-{uses}function F{number}(n: Integer): Integer;
+{uses}
+{header}
 begin
-if n <= 0 then F{number} := {base}
-else F{number} := F{first}(n - {step}) + F{second}(n - {further}) * {factor}
-end;
+{statement}end;
 end.
 "
     )
