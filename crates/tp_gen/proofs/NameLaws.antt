@@ -1,5 +1,5 @@
 -- The names of files are short.
-use Rattle.std.proofs.Common.{ℕ, ◌+◌, ◌^◌, ◌≤◌, ◌<◌, List, ◌++◌, length, codes, decimal, arith, length-append}
+use Rattle.std.proofs.Common.{ℕ, ◌^◌, ◌≤◌, ◌<◌, ◌++◌, length, codes, decimal, arith, length-append}
 use Rattle.std.proofs.lemmas.Fmt.{length-decimal-le}
 
 pub short_name : (number : ℕ) → number < 2 ^ 16 → length (codes "g" ++ (decimal number ++ codes ".pas")) ≤ 80

@@ -1,13 +1,12 @@
 -- Units call others, and have their numbers by their places.
-use Rattle.std.proofs.Common.{◌≡◌, ◌≢◌, ℕ, zero, suc, ◌+◌, ◌-◌, ◌*◌, ◌/◌, ◌%◌, ◌≤◌, ◌<◌, List, [], ◌∷◌, map, refl, ap₂, ap, arith}
-use Rattle.std.specs.List.{All, range_with_len}
+use Rattle.std.proofs.Common.{◌≡◌, ◌≢◌, ℕ, zero, suc, ◌+◌, ◌-◌, ◌*◌, ◌≤◌, ◌<◌, List, ◌∷◌, map, refl, ap, arith}
+use Rattle.std.specs.List.{range_with_len}
 use Rattle.std.proofs.lemmas.Nat.{mod_below}
 use Rattle.std.proofs.lemmas.Bool.Decides.{nat_tests}
 use Rattle.std.proofs.lemmas.List.FromFn.{length-map-range_with_len, get_or-map-range_with_len}
 use Rattle.tp_gen.specs.declared.units.DrawnUnit.{DrawnUnit}
 use Rattle.tp_gen.specs.Draws.{state_after, drawn}
-use Rattle.tp_gen.specs.Units.{other_unit, unit_in, units_of}
-use Rattle.tp_gen.specs.Programs.{call_of}
+use Rattle.tp_gen.specs.Units.{other_unit, unit_in}
 use Rattle.tp_gen.specs.Laws.{IsUnit, CallsOthers, AreNumbered, AllCallOthers, CallsUnit}
 
 other_unit-within : (units own place : ℕ) → place < units - 1 → IsUnit units (other_unit own place)

@@ -2,7 +2,6 @@
 use Rattle.std.specs.Prelude.{◌≡◌, ◌≢◌, ℕ, ◌≤◌, map}
 use Rattle.std.specs.List.{All, range_with_len}
 use Rattle.tp_gen.specs.declared.units.DrawnUnit.{DrawnUnit}
-use Rattle.tp_gen.specs.declared.program.DrawnCall.{DrawnCall}
 use Rattle.tp_gen.specs.Units.{units_of}
 use Rattle.tp_gen.specs.Programs.{call_of}
 
