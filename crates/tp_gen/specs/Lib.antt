@@ -1,0 +1,5 @@
+pub mod Draws
+pub mod Units
+pub mod Programs
+pub mod Sources
+pub mod Laws
