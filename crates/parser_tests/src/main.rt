@@ -49,6 +49,6 @@ impl Rows for TextRows {
 }
 
 fn main(rt: HostRuntime) -> io::Result<()> {
-    let rows = check_rows(&rt, &mut TextRows)?;
+    let rows = check_rows(&rt, &["rows.txt"], &mut TextRows)?;
     println!(rt; "{rows} rows")
 }

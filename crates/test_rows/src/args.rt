@@ -1,8 +1,7 @@
 //! The arguments of a row.
 
-use crate::bytes::text_in;
+use crate::bytes::text_bytes;
 use crate::numbers::{number, whole, word};
-use crate::texts::repeated;
 use std::alloc::{AllocError, Global};
 
 /// What is left of the arguments of a row, which ` | ` parts, and whether one of those that were taken is none.
@@ -10,11 +9,6 @@ use std::alloc::{AllocError, Global};
 pub struct Args<'a> {
     rest: &'a str,
     wrong: bool,
-}
-
-fn bytes_of(alloc: Global, text: &str) -> Result<Vec<u8>, AllocError> {
-    let whole = repeated(alloc, text)?;
-    text_in(alloc, whole.as_str())
 }
 
 fn elements_of(alloc: Global, text: &str) -> Result<Vec<u8>, AllocError> {
@@ -133,7 +127,7 @@ impl<'a> Args<'a> {
 
     /// The bytes of the next argument, a text.
     pub fn bytes(&mut self, alloc: Global) -> Vec<u8> {
-        let bytes = bytes_of(alloc, self.text());
+        let bytes = text_bytes(alloc, self.text());
         self.read(alloc, bytes)
     }
 

@@ -13,9 +13,9 @@ mod start;
 mod texts;
 
 pub use args::Args;
-pub use bytes::{bytes_in, text_in};
+pub use bytes::{bytes_in, text_bytes, text_in};
 pub use line::{
-    Line, empty_line, part, put, put_all, put_bytes, put_number, put_numbered, put_shown,
+    Line, empty_line, part, put, put_all, put_bytes, put_number, put_numbered, put_runs, put_shown,
     put_signed, put_text, put_told, put_truth,
 };
 pub use numbers::{number, whole, word};

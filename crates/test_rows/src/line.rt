@@ -1,6 +1,6 @@
 //! A line that is written bit by bit.
 
-use crate::bytes::{write_bytes, write_text};
+use crate::bytes::{write_bytes, write_runs, write_text};
 use std::alloc::{AllocError, Global};
 use std::fmt::{Debug, Display};
 
@@ -61,6 +61,14 @@ pub fn put_shown<T: Debug>(line: &mut Line, value: &T) {
 /// Writes bytes as a text, with a backslash and two hexadecimal digits for those that are none.
 pub fn put_text(line: &mut Line, bytes: &[u8]) {
     if write_text(&mut line.text, bytes).is_err() {
+        line.lost = true;
+    }
+}
+
+/// Writes bytes as a text in which long runs of equal bytes are a number and the byte between back quotes, and long runs of rising
+/// ones two dots between the first and the last.
+pub fn put_runs(line: &mut Line, bytes: &[u8]) {
+    if write_runs(&mut line.text, bytes).is_err() {
         line.lost = true;
     }
 }

@@ -36,9 +36,9 @@ fn check_row<R: Rows>(
     Ok(())
 }
 
-/// Writes each row of the file `rows.txt` that is answered something else, with its answer. Gives how many rows there are.
-pub fn check_rows<R: Rows>(rt: &HostRuntime, rows: &mut R) -> io::Result<u32> {
-    let text = fs::read_to_string(rt, "rows.txt")?;
+// Writes each row of a file that is answered something else, with its answer. Gives how many rows there are.
+fn check_file<R: Rows>(rt: &HostRuntime, file: &str, rows: &mut R) -> io::Result<u32> {
+    let text = fs::read_to_string(rt, file)?;
     let mut heading = "";
     let mut count = 0_u32;
     for line in text.lines() {
@@ -50,6 +50,15 @@ pub fn check_rows<R: Rows>(rt: &HostRuntime, rows: &mut R) -> io::Result<u32> {
         } else {
             rows.read(rt.alloc(), line)?;
         }
+    }
+    Ok(count)
+}
+
+/// Writes each row of these files that is answered something else, with its answer. Gives how many rows there are.
+pub fn check_rows<R: Rows>(rt: &HostRuntime, files: &[&str], rows: &mut R) -> io::Result<u32> {
+    let mut count = 0_u32;
+    for file in files {
+        count = count.saturating_add(check_file(rt, file, rows)?);
     }
     Ok(count)
 }

@@ -1,34 +1,44 @@
-use common_values::blocks::{AddError, Blocks, rounded};
+//! The sum of blocks.
 
-#[test]
-fn sizes_are_rounded_to_eights(rt: HostRuntime) {
-    let rows: [(u16, u32); 6] = [
-        (0, 8),
-        (1, 8),
-        (8, 8),
-        (9, 16),
-        (65528, 65528),
-        (65535, 65536),
-    ];
-    for (size, found) in rows {
-        assert_eq!(rt; rounded(size), found);
+use common_values::blocks::{AddError, Blocks, rounded};
+use std::alloc::Global;
+use test_rows::{Line, part, put, put_number, word};
+
+fn size_of(text: &str) -> Option<u16> {
+    word(text).ok()
+}
+
+fn put_added(out: &mut Line, added: Result<(), AddError>) {
+    match added {
+        Ok(()) => put(out, "done"),
+        Err(AddError::HeapFull) => put(out, "full"),
+        Err(_) => put(out, "no memory"),
     }
 }
 
-#[test]
-fn only_a_new_height_adds_to_the_sum(rt: HostRuntime) -> Result<(), AddError> {
-    let mut blocks = Blocks::new(rt.alloc());
-    blocks.add(5, 100)?;
-    blocks.add(8, 100)?;
-    assert_eq!(rt; blocks.sum(), 16);
-    blocks.remove(1);
-    blocks.add(3, 16)?;
-    assert_eq!(rt; blocks.sum(), 16);
-    blocks.add(9, 100)?;
-    assert_eq!(rt; blocks.sum(), 32);
-    assert_eq!(rt; blocks.add(8, 39), Err(AddError::HeapFull));
-    assert_eq!(rt; blocks.sum(), 32);
-    blocks.add(8, 40)?;
-    assert_eq!(rt; blocks.sum(), 40);
-    Ok(())
+fn run_step(blocks: &mut Blocks, out: &mut Line, step: &str) -> Option<()> {
+    let (verb, rest) = step.split_once(' ').unwrap_or((step, ""));
+    let (size, heap) = rest.split_once(' ').unwrap_or((rest, ""));
+    match verb {
+        "round" => put_number(out, i64::from(rounded(size_of(size)?))),
+        "add" => put_added(out, blocks.add(size_of(size)?, u32::from(size_of(heap)?))),
+        "remove" => {
+            blocks.remove(size_of(size)?);
+            put(out, "done");
+        }
+        "sum" => put_number(out, i64::from(blocks.sum())),
+        _ => return None,
+    }
+    Some(())
+}
+
+/// Writes what the steps of a row find, where there is no block at first.
+pub(crate) fn put_steps(alloc: Global, out: &mut Line, row: &str) {
+    let mut blocks = Blocks::new(alloc);
+    for step in row.split("; ") {
+        part(out, " ");
+        if run_step(&mut blocks, out, step).is_none() {
+            put(out, "no step");
+        }
+    }
 }

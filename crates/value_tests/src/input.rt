@@ -1,88 +1,49 @@
+//! Input, and what is left of it.
+
+use crate::bits::put_next;
+use crate::strings::put_quoted;
 use common_values::input::{after_line, is_eof, is_eoln, read_char, read_number, read_string};
+use std::alloc::Global;
+use test_rows::{Args, Line, put, put_truth};
 
-#[test]
-fn ends_of_lines_and_of_input(rt: HostRuntime) {
-    let rows: [(&str, bool, bool); 6] = [
-        ("", true, true),
-        ("\x1a", true, true),
-        ("\x1ab", true, true),
-        ("\r", false, true),
-        ("\n", false, true),
-        ("a", false, false),
-    ];
-    for (input, eof, eoln) in rows {
-        assert_eq!(rt; is_eof(input.as_bytes()), eof);
-        assert_eq!(rt; is_eoln(input.as_bytes()), eoln);
-    }
+fn put_char(out: &mut Line, input: &[u8]) {
+    let (byte, rest) = read_char(input);
+    put_next(out, i32::from(byte));
+    put_quoted(out, rest);
 }
 
-#[test]
-fn a_char_is_one_byte(rt: HostRuntime) {
-    let rows: [(&str, u8, &str); 5] = [
-        ("ab", b'a', "b"),
-        ("\r\nb", 13, "\nb"),
-        ("\nb", 10, "b"),
-        ("", 26, ""),
-        ("\x1ab", 26, "\x1ab"),
-    ];
-    for (input, byte, rest) in rows {
-        let found = read_char(input.as_bytes());
-        assert_eq!(rt; found.0, byte);
-        assert_eq!(rt; found.1, rest.as_bytes());
-    }
+fn put_string(out: &mut Line, input: &[u8], size: u8) {
+    let (text, rest) = read_string(input, size);
+    put_quoted(out, text);
+    put_quoted(out, rest);
 }
 
-#[test]
-fn a_string_ends_with_its_line_or_size(rt: HostRuntime) {
-    let rows: [(&str, u8, &str, &str); 6] = [
-        ("abc\r\nd", 255, "abc", "\r\nd"),
-        ("abc\nd", 255, "abc", "\nd"),
-        ("abc", 2, "ab", "c"),
-        ("abc", 3, "abc", ""),
-        ("a\x1ab", 255, "a", "\x1ab"),
-        ("\r\na", 255, "", "\r\na"),
-    ];
-    for (input, size, text, rest) in rows {
-        let found = read_string(input.as_bytes(), size);
-        assert_eq!(rt; found.0, text.as_bytes());
-        assert_eq!(rt; found.1, rest.as_bytes());
+fn put_numeral(out: &mut Line, input: &[u8]) {
+    let (number, rest) = read_number(input);
+    match number {
+        Some(number) => put_next(out, number),
+        None => put(out, "none"),
     }
+    put_quoted(out, rest);
 }
 
-#[test]
-fn a_number_is_a_word(rt: HostRuntime) {
-    let rows: [(&str, Option<i32>, &str); 9] = [
-        ("  12 3", Some(12), " 3"),
-        ("\r\n\t-5\r\n", Some(-5), "\r\n"),
-        ("", Some(0), ""),
-        (" \r\n\x1a9", Some(0), "\x1a9"),
-        ("12a b", None, " b"),
-        ("7\x1a", Some(7), "\x1a"),
-        ("$1F\n", Some(31), "\n"),
-        ("-\r", None, "\r"),
-        ("2147483648", None, ""),
-    ];
-    for (input, number, rest) in rows {
-        let found = read_number(input.as_bytes());
-        assert_eq!(rt; found.0, number);
-        assert_eq!(rt; found.1, rest.as_bytes());
+/// Writes what is answered, if this is asked.
+pub(crate) fn put_answer(alloc: Global, out: &mut Line, asked: &str, args: &mut Args) -> bool {
+    match asked {
+        "Eof, Eoln" => {
+            let input = args.bytes(alloc);
+            put_truth(out, is_eof(input.as_slice()));
+            put(out, " ");
+            put_truth(out, is_eoln(input.as_slice()));
+        }
+        "Char" => put_char(out, args.bytes(alloc).as_slice()),
+        "string" => {
+            let input = args.bytes(alloc);
+            put_string(out, input.as_slice(), args.byte());
+        }
+        "number" => put_numeral(out, args.bytes(alloc).as_slice()),
+        "after the line" => put_quoted(out, after_line(args.bytes(alloc).as_slice())),
+        _ => return false,
     }
-}
-
-#[test]
-fn lines_end_in_three_ways(rt: HostRuntime) {
-    let rows: [(&str, &str); 9] = [
-        ("ab\r\ncd", "cd"),
-        ("ab\rcd", "cd"),
-        ("ab\ncd", "cd"),
-        ("ab", ""),
-        ("ab\x1acd", "\x1acd"),
-        ("\r\x1a", "\x1a"),
-        ("\n\r", "\r"),
-        ("\r\r\n", "\r\n"),
-        ("\r", ""),
-    ];
-    for (input, rest) in rows {
-        assert_eq!(rt; after_line(input.as_bytes()), rest.as_bytes());
-    }
+    true
 }

@@ -1,63 +1,95 @@
+//! Sets.
+
+use crate::bits::put_next;
 use common_values::sets::{
     assigned, contains, difference, intersection, is_member, is_same, is_subset, set_byte,
     set_bytes, set_size, union, with_range,
 };
-use std::test::Fail;
+use std::alloc::{AllocError, Global};
+use test_rows::{Args, Line, put, put_numbered, put_truth};
 
-#[test]
-fn operators_on_elements(rt: HostRuntime) -> Result<(), Fail> {
-    let left = [1, 3];
-    let right = [3, 5];
-    let both = union(rt.alloc(), &left, &right)?;
-    assert_eq!(rt; both.as_slice(), [1, 3, 5].as_slice());
-    let less = difference(rt.alloc(), &left, &right)?;
-    assert_eq!(rt; less.as_slice(), [1].as_slice());
-    let common = intersection(rt.alloc(), &left, &right)?;
-    assert_eq!(rt; common.as_slice(), [3].as_slice());
-    assert!(rt; is_subset(&[3], &left));
-    assert!(rt; is_subset(&[], &[]));
-    assert!(rt; !is_subset(&left, &right));
-    assert!(rt; is_same(&[5, 3], &right));
-    assert!(rt; !is_same(&left, &right));
-    assert!(rt; contains(&left, 3));
-    assert!(rt; !contains(&left, 2));
-    Ok(())
+fn put_elements(out: &mut Line, set: &Result<Vec<u8>, AllocError>) {
+    match set {
+        Ok(set) if 64 < set.len() => {
+            put_numbered(out, "", set.len() as u64);
+            put(out, " elements");
+        }
+        Ok(set) if set.is_empty() => put(out, "none"),
+        Ok(set) => {
+            for element in set {
+                put_next(out, i32::from(*element));
+            }
+        }
+        Err(_) => put(out, "no memory"),
+    }
 }
 
-#[test]
-fn membership_of_any_integer(rt: HostRuntime) {
-    assert!(rt; is_member(&[0, 5, 255], 5));
-    assert!(rt; is_member(&[0, 5, 255], 255));
-    assert!(rt; !is_member(&[0, 5, 255], 256));
-    assert!(rt; !is_member(&[0, 5, 255], 261));
-    assert!(rt; !is_member(&[0, 5, 255], -251));
+// A set between two bounds: its size, or what is kept of another set.
+fn put_bounded(alloc: Global, out: &mut Line, asked: &str, args: &mut Args) {
+    let (low, high) = (args.byte(), args.byte());
+    if high < low {
+        put(out, "no bounds");
+        return;
+    }
+    match asked {
+        "size of a set" => put_next(out, i32::from(set_size(low, high))),
+        "bytes of a set" => {
+            let set = args.set(alloc);
+            put_elements(out, &set_bytes(alloc, low, high, set.as_slice()));
+        }
+        _ => {
+            let set = args.set(alloc);
+            put_elements(out, &assigned(alloc, low, high, set.as_slice()));
+        }
+    }
 }
 
-#[test]
-fn ranges_of_a_constructor(rt: HostRuntime) -> Result<(), Fail> {
-    let none = with_range(rt.alloc(), &[], 5, 4)?;
-    assert_eq!(rt; none.len(), 0);
-    let one = with_range(rt.alloc(), &[], 5, 5)?;
-    assert_eq!(rt; one.as_slice(), [5].as_slice());
-    let last = with_range(rt.alloc(), &[255], 253, 255)?;
-    assert_eq!(rt; last.as_slice(), [255, 253, 254].as_slice());
-    let all = with_range(rt.alloc(), &[], 0, 255)?;
-    assert_eq!(rt; all.len(), 256);
-    Ok(())
+fn put_byte(alloc: Global, out: &mut Line, args: &mut Args) {
+    let set = args.set(alloc);
+    let byte = args.byte();
+    if byte < 32 {
+        put_next(out, i32::from(set_byte(set.as_slice(), byte)));
+    } else {
+        put(out, "no byte");
+    }
 }
 
-#[test]
-fn sets_in_memory(rt: HostRuntime) -> Result<(), Fail> {
-    assert_eq!(rt; set_size(0, 255), 32);
-    assert_eq!(rt; set_size(7, 8), 2);
-    assert_eq!(rt; set_size(8, 15), 1);
-    assert_eq!(rt; set_size(65, 90), 4);
-    assert_eq!(rt; set_byte(&[0, 7, 9], 0), 129);
-    assert_eq!(rt; set_byte(&[0, 7, 9], 1), 2);
-    assert_eq!(rt; set_byte(&[255], 31), 128);
-    let kept = assigned(rt.alloc(), 9, 20, &[7, 8, 15, 23, 24])?;
-    assert_eq!(rt; kept.as_slice(), [8, 15, 23].as_slice());
-    let bytes = set_bytes(rt.alloc(), 9, 20, &[7, 8, 23, 24])?;
-    assert_eq!(rt; bytes.as_slice(), [1, 128].as_slice());
-    Ok(())
+// What is asked of two sets.
+fn put_both(alloc: Global, out: &mut Line, asked: &str, args: &mut Args) {
+    let left = args.set(alloc);
+    let right = args.set(alloc);
+    let (left, right) = (left.as_slice(), right.as_slice());
+    match asked {
+        "union" => put_elements(out, &union(alloc, left, right)),
+        "difference" => put_elements(out, &difference(alloc, left, right)),
+        "intersection" => put_elements(out, &intersection(alloc, left, right)),
+        "subset" => put_truth(out, is_subset(left, right)),
+        _ => put_truth(out, is_same(left, right)),
+    }
+}
+
+/// Writes what is answered, if this is asked.
+pub(crate) fn put_answer(alloc: Global, out: &mut Line, asked: &str, args: &mut Args) -> bool {
+    match asked {
+        "contains" => {
+            let set = args.set(alloc);
+            put_truth(out, contains(set.as_slice(), args.byte()));
+        }
+        "member" => {
+            let set = args.set(alloc);
+            put_truth(out, is_member(set.as_slice(), args.number()));
+        }
+        "with a range" => {
+            let set = args.set(alloc);
+            let (low, high) = (args.byte(), args.byte());
+            put_elements(out, &with_range(alloc, set.as_slice(), low, high));
+        }
+        "size of a set" | "bytes of a set" | "assigned" => put_bounded(alloc, out, asked, args),
+        "byte of a set" => put_byte(alloc, out, args),
+        "union" | "difference" | "intersection" | "subset" | "same" => {
+            put_both(alloc, out, asked, args);
+        }
+        _ => return false,
+    }
+    true
 }

@@ -1,107 +1,84 @@
+//! Strings.
+
+use crate::bits::put_next;
 use common_values::strings::{
     compared, copied, cut, deleted, inserted, joined, position_of, upper,
 };
+use std::alloc::{AllocError, Global};
 use std::cmp::Ordering;
-use std::test::Fail;
+use test_rows::{Args, Line, part, put, put_numbered, put_runs};
 
-#[test]
-fn pieces_within_and_past_the_ends(rt: HostRuntime) -> Result<(), Fail> {
-    let rows: [(&str, i32, i32, &str, &str); 9] = [
-        ("abcdef", 2, 3, "bcd", "aef"),
-        ("abcdef", 1, 6, "abcdef", ""),
-        ("abcdef", 0, 2, "ab", "cdef"),
-        ("abcdef", -5, 2, "ab", "cdef"),
-        ("abcdef", 3, -1, "", "abcdef"),
-        ("abcdef", 3, 0, "", "abcdef"),
-        ("abcdef", 7, 1, "", "abcdef"),
-        ("abcdef", 5, 9, "ef", "abcd"),
-        ("", 1, 1, "", ""),
-    ];
-    for (text, place, count, piece, rest) in rows {
-        let text = text.as_bytes();
-        assert_eq!(rt; copied(text, place, count), piece.as_bytes());
-        let left = deleted(rt.alloc(), text, place, count)?;
-        assert_eq!(rt; left.as_slice(), rest.as_bytes());
-    }
-    Ok(())
+/// Writes a text between quotes.
+pub(crate) fn put_text(out: &mut Line, text: &[u8]) {
+    put(out, "'");
+    put_runs(out, text);
+    put(out, "'");
 }
 
-#[test]
-fn insertions_are_moved_and_cut(rt: HostRuntime) -> Result<(), Fail> {
-    let rows: [(&str, &str, i32, u8, &str); 6] = [
-        ("X", "abc", 2, 255, "aXbc"),
-        ("X", "abc", 0, 255, "Xabc"),
-        ("X", "abc", -9, 255, "Xabc"),
-        ("X", "abc", 9, 255, "abcX"),
-        ("XY", "abc", 4, 4, "abcX"),
-        ("", "abc", 1, 2, "ab"),
-    ];
-    for (part, text, place, room, whole) in rows {
-        let found = inserted(rt.alloc(), part.as_bytes(), text.as_bytes(), place, room)?;
-        assert_eq!(rt; found.as_slice(), whole.as_bytes());
-    }
-    Ok(())
+/// Writes a text between quotes behind what stands before it.
+pub(crate) fn put_quoted(out: &mut Line, text: &[u8]) {
+    part(out, " ");
+    put_text(out, text);
 }
 
-#[test]
-fn a_string_stops_at_255(rt: HostRuntime) -> Result<(), Fail> {
-    let long = vec![in rt.alloc(); b'a'; 254]?;
-    let whole = joined(rt.alloc(), long.as_slice(), b"bcd")?;
-    assert_eq!(rt; whole.len(), 255);
-    assert_eq!(rt; whole.as_slice().last().copied(), Some(b'b'));
-    let more = inserted(rt.alloc(), b"xyz", long.as_slice(), 255, 255)?;
-    assert_eq!(rt; more.len(), 255);
-    assert_eq!(rt; more.as_slice().last().copied(), Some(b'x'));
-    assert_eq!(rt; cut(2, b"abc"), b"ab".as_slice());
-    assert_eq!(rt; cut(3, b"abc"), b"abc".as_slice());
-    Ok(())
-}
-
-#[test]
-fn the_first_place_of_a_part(rt: HostRuntime) {
-    let rows: [(&str, &str, usize); 9] = [
-        ("b", "abc", 2),
-        ("bc", "abcbc", 2),
-        ("", "abc", 0),
-        ("", "", 0),
-        ("d", "abc", 0),
-        ("abc", "abc", 1),
-        ("abcd", "abc", 0),
-        ("c", "abc", 3),
-        ("aab", "aaab", 2),
-    ];
-    for (part, text, place) in rows {
-        assert_eq!(rt; position_of(part.as_bytes(), text.as_bytes()), place);
+/// Writes a text that was made so.
+pub(crate) fn put_made(out: &mut Line, text: &Result<Vec<u8>, AllocError>) {
+    match text {
+        Ok(text) => put_quoted(out, text.as_slice()),
+        Err(_) => put(out, "no memory"),
     }
 }
 
-#[test]
-fn strings_compare_by_bytes(rt: HostRuntime) {
-    let rows: [(&str, &str, Ordering); 7] = [
-        ("", "", Ordering::Equal),
-        ("", "a", Ordering::Less),
-        ("a", "ab", Ordering::Less),
-        ("ab", "a", Ordering::Greater),
-        ("abc", "abc", Ordering::Equal),
-        ("Z", "a", Ordering::Less),
-        ("abd", "abcz", Ordering::Greater),
-    ];
-    for (left, right, order) in rows {
-        assert!(rt; compared(left.as_bytes(), right.as_bytes()) == order);
+fn put_pieces(alloc: Global, out: &mut Line, args: &mut Args) {
+    let text = args.bytes(alloc);
+    let (place, count) = (args.number(), args.number());
+    put_quoted(out, copied(text.as_slice(), place, count));
+    put_made(out, &deleted(alloc, text.as_slice(), place, count));
+}
+
+fn put_inserted(alloc: Global, out: &mut Line, args: &mut Args) {
+    let part = args.bytes(alloc);
+    let text = args.bytes(alloc);
+    let (place, size) = (args.number(), args.byte());
+    let whole = inserted(alloc, part.as_slice(), text.as_slice(), place, size);
+    put_made(out, &whole);
+}
+
+fn put_order(out: &mut Line, left: &[u8], right: &[u8]) {
+    match compared(left, right) {
+        Ordering::Less => put(out, "<"),
+        Ordering::Equal => put(out, "="),
+        Ordering::Greater => put(out, ">"),
     }
 }
 
-#[test]
-fn only_letters_have_an_upper_case(rt: HostRuntime) {
-    let rows: [(u8, u8); 6] = [
-        (97, 65),
-        (122, 90),
-        (96, 96),
-        (123, 123),
-        (65, 65),
-        (228, 228),
-    ];
-    for (byte, letter) in rows {
-        assert_eq!(rt; upper(byte), letter);
+/// Writes what is answered, if this is asked.
+pub(crate) fn put_answer(alloc: Global, out: &mut Line, asked: &str, args: &mut Args) -> bool {
+    match asked {
+        "Copy, Delete" => put_pieces(alloc, out, args),
+        "Insert" => put_inserted(alloc, out, args),
+        "joined" => {
+            let (left, right) = (args.bytes(alloc), args.bytes(alloc));
+            put_made(out, &joined(alloc, left.as_slice(), right.as_slice()));
+        }
+        "cut" => {
+            let size = args.byte();
+            put_quoted(out, cut(size, args.bytes(alloc).as_slice()));
+        }
+        "Pos" => {
+            let (part, text) = (args.bytes(alloc), args.bytes(alloc));
+            put_numbered(
+                out,
+                "",
+                position_of(part.as_slice(), text.as_slice()) as u64,
+            );
+        }
+        "compared" => {
+            let (left, right) = (args.bytes(alloc), args.bytes(alloc));
+            put_order(out, left.as_slice(), right.as_slice());
+        }
+        "UpCase" => put_next(out, i32::from(upper(args.byte()))),
+        _ => return false,
     }
+    true
 }

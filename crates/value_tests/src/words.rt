@@ -1,40 +1,52 @@
+//! Words of 16 bits.
+
+use crate::bits::put_next;
 use common_values::integers::{
     high_byte, high_product, is_signed_less, low_byte, shifted_left, shifted_right,
     signed_quotient, signed_remainder, word_from_bytes,
 };
+use test_rows::{Args, Line, put, put_truth};
 
-#[test]
-fn division_truncates_and_wraps(rt: HostRuntime) {
-    let rows: [(i16, i16, i16, i16); 5] = [
-        (7, 2, 3, 1),
-        (-7, 2, -3, -1),
-        (7, -2, -3, 1),
-        (-7, -2, 3, -1),
-        (-32768, -1, -32768, 0),
-    ];
-    for (x, y, quotient, remainder) in rows {
-        let y = y.cast_unsigned();
-        assert!(rt; 0 < y);
-        let x = x.cast_unsigned();
-        assert_eq!(rt; signed_quotient(x, y), quotient.cast_unsigned());
-        assert_eq!(rt; signed_remainder(x, y), remainder.cast_unsigned());
+fn put_division(out: &mut Line, args: &mut Args) {
+    let (x, y) = (args.word(), args.word());
+    if y == 0 {
+        put(out, "by zero");
+    } else {
+        put_next(out, i32::from(signed_quotient(x, y).cast_signed()));
+        put_next(out, i32::from(signed_remainder(x, y).cast_signed()));
     }
 }
 
-#[test]
-fn bytes_order_and_shifts(rt: HostRuntime) {
-    for (told, expected) in [
-        (u16::from(low_byte(0x1234)), 0x34),
-        (u16::from(high_byte(0x1234)), 0x12),
-        (word_from_bytes(0x34, 0x12), 0x1234),
-        (high_product(0xffff, 0xffff), 0xfffe),
-        (u16::from(is_signed_less(0xffff, 0)), 1),
-        (u16::from(is_signed_less(0, 0xffff)), 0),
-        (shifted_left(0x8001, 1), 2),
-        (shifted_left(1, 16), 0),
-        (shifted_right(0x8001, 15), 1),
-        (shifted_right(0xffff, 16), 0),
-    ] {
-        assert_eq!(rt; told, expected);
+/// Writes what is answered, if this is asked.
+pub(crate) fn put_answer(out: &mut Line, asked: &str, args: &mut Args) -> bool {
+    match asked {
+        "signed division of words" => put_division(out, args),
+        "low and high byte" => {
+            let word = args.word();
+            put_next(out, i32::from(low_byte(word)));
+            put_next(out, i32::from(high_byte(word)));
+        }
+        "word of a low and a high byte" => {
+            let (low, high) = (args.byte(), args.byte());
+            put_next(out, i32::from(word_from_bytes(low, high)));
+        }
+        "upper word of a product" => {
+            let (x, y) = (args.word(), args.word());
+            put_next(out, i32::from(high_product(x, y)));
+        }
+        "signed words, less" => {
+            let (x, y) = (args.word(), args.word());
+            put_truth(out, is_signed_less(x, y));
+        }
+        "word shifted left" => {
+            let (word, places) = (args.word(), args.count());
+            put_next(out, i32::from(shifted_left(word, places)));
+        }
+        "word shifted right" => {
+            let (word, places) = (args.word(), args.count());
+            put_next(out, i32::from(shifted_right(word, places)));
+        }
+        _ => return false,
     }
+    true
 }

@@ -1,59 +1,58 @@
-use common_values::numerals::numeral_of;
+//! Numerals, and what is written.
+
+use crate::bits::put_next;
+use crate::strings::{put_made, put_quoted};
+use common_values::numerals::{numeral_of, val_of};
 use common_values::written::{boolean_text, error_text, integer_text, padded, str_text};
-use std::test::Fail;
+use std::alloc::Global;
+use test_rows::{Args, Line, part, put, put_number, put_numbered};
 
-#[test]
-fn fields_are_filled_and_never_cut(rt: HostRuntime) -> Result<(), Fail> {
-    let rows: [(i32, &str, &str); 6] = [
-        (5, "ab", "   ab"),
-        (2, "ab", "ab"),
-        (2, "abc", "abc"),
-        (0, "abc", "abc"),
-        (-1, "a", "a"),
-        (1, "", " "),
-    ];
-    for (width, text, field) in rows {
-        let found = padded(rt.alloc(), width, text.as_bytes())?;
-        assert_eq!(rt; found.as_slice(), field.as_bytes());
+// The number that a text is, or the place of the fault.
+fn put_numeral(out: &mut Line, text: &[u8]) {
+    part(out, " ");
+    match numeral_of(text) {
+        Ok(value) => put_number(out, i64::from(value)),
+        Err(place) => {
+            put(out, "fault at ");
+            put_numbered(out, "", place as u64);
+        }
     }
-    let wide = padded(rt.alloc(), 300, b"5")?;
-    assert_eq!(rt; wide.len(), 300);
-    Ok(())
 }
 
-#[test]
-fn integers_are_written_and_read(rt: HostRuntime) -> Result<(), Fail> {
-    let rows: [(i32, &str); 6] = [
-        (0, "0"),
-        (-1, "-1"),
-        (10, "10"),
-        (-32768, "-32768"),
-        (2147483647, "2147483647"),
-        (-2147483648, "-2147483648"),
-    ];
-    for (value, text) in rows {
-        let found = integer_text(rt.alloc(), value)?;
-        assert_eq!(rt; found.as_slice(), text.as_bytes());
-        assert_eq!(rt; numeral_of(found.as_slice()), Ok(value));
+fn put_val(out: &mut Line, text: &[u8]) {
+    let (value, code) = val_of(text);
+    put_next(out, value);
+    put(out, " ");
+    put_numbered(out, "", code as u64);
+}
+
+// The text of an integer, and the number that this text is.
+fn put_integer(alloc: Global, out: &mut Line, value: i32) {
+    let text = integer_text(alloc, value);
+    put_made(out, &text);
+    if let Ok(text) = &text {
+        put_numeral(out, text.as_slice());
     }
-    Ok(())
 }
 
-#[test]
-fn words_and_errors(rt: HostRuntime) -> Result<(), Fail> {
-    assert_eq!(rt; boolean_text(true), b"TRUE".as_slice());
-    assert_eq!(rt; boolean_text(false), b"FALSE".as_slice());
-    let error = error_text(rt.alloc(), 201)?;
-    assert_eq!(rt; error.as_slice(), b"Runtime error 201\r\n".as_slice());
-    Ok(())
-}
-
-#[test]
-fn str_cuts_to_its_variable(rt: HostRuntime) -> Result<(), Fail> {
-    let wide = str_text(rt.alloc(), 255, 300, b"5")?;
-    assert_eq!(rt; wide.len(), 255);
-    assert!(rt; wide.as_slice().iter().all(|byte| *byte == b' '));
-    let short = str_text(rt.alloc(), 3, 0, b"12345")?;
-    assert_eq!(rt; short.as_slice(), b"123".as_slice());
-    Ok(())
+/// Writes what is answered, if this is asked.
+pub(crate) fn put_answer(alloc: Global, out: &mut Line, asked: &str, args: &mut Args) -> bool {
+    match asked {
+        "numeral" => put_numeral(out, args.bytes(alloc).as_slice()),
+        "Val" => put_val(out, args.bytes(alloc).as_slice()),
+        "in a field" => {
+            let width = args.number();
+            put_made(out, &padded(alloc, width, args.bytes(alloc).as_slice()));
+        }
+        "integer" => put_integer(alloc, out, args.number()),
+        "Boolean" => put_quoted(out, boolean_text(args.truth())),
+        "line of an error" => put_made(out, &error_text(alloc, args.byte())),
+        "Str" => {
+            let (size, width) = (args.byte(), args.number());
+            let text = args.bytes(alloc);
+            put_made(out, &str_text(alloc, size, width, text.as_slice()));
+        }
+        _ => return false,
+    }
+    true
 }

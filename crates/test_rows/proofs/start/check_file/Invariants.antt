@@ -1,6 +1,6 @@
 use denote.Text.{Utf8}
 use denote.Shadow.{shadow}
-use Rattle.test_rows.proofs.start.check_rows.Given as goal
+use Rattle.test_rows.proofs.start.check_file.Given as goal
 
 -- the heading is text
 abbrev pub invariant-loop-line : goal.invariant-loop-line
