@@ -1,0 +1,11 @@
+pub mod ShownLaws
+pub mod NamedLaws
+pub mod MirrorLaws
+pub mod EffectLaws
+pub mod EventLaws
+pub mod StubLaws
+pub mod TableLaws
+pub mod OwnLaws
+pub mod PlainLaws
+pub mod AloneLaws
+pub mod ChainLaws

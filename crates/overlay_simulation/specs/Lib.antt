@@ -1,0 +1,4 @@
+pub mod Laid
+pub mod Shown
+pub mod Matching
+pub mod Plain

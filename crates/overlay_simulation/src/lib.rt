@@ -1,0 +1,31 @@
+//! Runs of programs whose overlays move, beside those of the resident machine: the laws that tie the one to the other.
+#![tactic(auto)]
+
+ghost use Rattle.std.specs.Prelude.{◌≡◌, ℕ, List, []};
+ghost use Rattle.cpu_8086.specs.Process.{Process};
+ghost use Rattle.overlay_manager.specs.Serves.{table_before};
+ghost use Rattle.overlay_manager.specs.overlay_run.Managed.{Managed, ManagedGoes};
+ghost use Rattle.resident_machine.specs.Program.{Program};
+ghost use Rattle.resident_machine.specs.Run.{Goes};
+ghost use Rattle.resident_machine.specs.Standing.{number_of, StandsFor};
+ghost use Rattle.resident_machine.specs.State.{ResidentState, NoService};
+ghost use Rattle.resident_machine.specs.Whole.{IsOutside};
+ghost use Rattle.overlay_simulation.specs.Laid.{StandsBy, named_pairs};
+ghost use Rattle.overlay_simulation.specs.Matching.{Matches, TellsApart};
+ghost use Rattle.overlay_simulation.specs.Plain.{GoesAlone};
+
+/// Where code and return pairs stand as they are named, a process stands for the same states as without overlays. Where there
+/// are no overlays, it matches the states that it stands for, and no others.
+pub fn standing_law()
+    ensures named { (p : Program) (r : ResidentState) (q : Process) → StandsFor p r q → StandsBy number_of named_pairs p r q }
+    ensures same { (p : Program) (r : ResidentState) (q : Process) → StandsBy number_of named_pairs p r q → StandsFor p r q }
+    ensures stands { (p : Program) (r : ResidentState) (q : Managed) → p.overlays ≡ [] → q.manager.stubs ≡ [] → IsOutside r → Matches p r q → StandsFor p r q.process }
+    ensures matches { (p : Program) (r : ResidentState) (q : Managed) → p.overlays ≡ [] → q.manager.stubs ≡ [] → IsOutside r → q.manager.ring.seats ≡ [] → StandsFor p r q.process → Matches p r q }
+{}
+
+/// A step of the resident machine that no service may follow is one event of a process that matches, which matches afterwards,
+/// with the same overlays at the same places. It may fetch from an overlay, and push return pairs that lead into one.
+pub fn plain_event_law()
+    ensures event { (p : Program) (r : ResidentState) (t : ResidentState) (q : Managed) → TellsApart p (table_before q.manager) → Matches p r q → Goes p r t NoService → (u : Process) × GoesAlone q.process u × Matches p t (record q { process = u }) }
+    ensures managed { (bytes : List ℕ) (q : Managed) (u : Process) → GoesAlone q.process u → ManagedGoes bytes q (record q { process = u }) }
+{}
