@@ -80,7 +80,7 @@ guarded_ok true x w e = absurd (cc)
 guarded_ok false x w e = (refl, ok_same x w e)
 
 -- whether it became 0
-abbrev is_uninstalled : Cell → Cell → Bool
+abbrev pub is_uninstalled : Cell → Cell → Bool
 is_uninstalled was now = not (is_zero was) && is_zero now
 
 pub was_zero : (was now : Cell) → is_uninstalled was now ≡ false → now ≡ Known 0 → was ≡ Known 0
@@ -153,29 +153,22 @@ module _ (p : Program) (bytes : ℕ → List ℕ) (table : List Loaded) (met : �
             leads = end.leads;
           }
 
-  -- the step of the program without overlays, where no service may follow
-  pub record GoesSo (i : Instr) (t : ResidentState) : Type 0 where
-    pub service : Service
-    pub goes : effect_of (bare p bytes) seen i ≡ Ok (shown_state table met t, service)
-    pub mirrors : Mirrors table met r t (shown_state table met t)
+  -- the step of the program without overlays
+  pub record GoesSo (i : Instr) (service : Service) (t : ResidentState) : Type 0 where
+    pub there : ResidentState
+    pub follows : Service
+    pub goes : effect_of (bare p bytes) seen i ≡ Ok (there, follows)
+    pub leads : Leads p table met r service t there
 
-  pub effect_mirrored : (i : Instr) (t : ResidentState) → effect_of p r i ≡ Ok (t, NoService) → GoesSo i t
-  effect_mirrored i t e =
-      let parts = effect_parts p r i (t, NoService) e in
-      let h = performed_mirrored i (t, NoService) parts.0 in
-      let state = h.leads.state in
-      let goes : performed (bare p bytes) seen i ≡ Ok (shown_state table met t, h.service) = h.goes ∙ ap (λ (z : ResidentState). Ok (z, h.service)) state in
+  -- where the installed flag is not among the bytes that were lost
+  pub effect_mirrored : (i : Instr) (service : Service) (t : ResidentState) → effect_of p r i ≡ Ok (t, service) → ((there : ResidentState) → Leads p table met r service t there → there.cells p.installed ≡ t.cells p.installed) → GoesSo i service t
+  effect_mirrored i service t e same =
+      let parts = effect_parts p r i (t, service) e in
+      let h = performed_mirrored i (t, service) parts.0 in
+      let flag = subst (λ (z : Cell). is_uninstalled (r.cells p.installed) z ≡ false) (sym (same h.there h.leads)) parts.1 in
       record {
-        service = h.service;
-        goes = effect_whole (bare p bytes) seen i (shown_state table met t, h.service) goes parts.1;
-        mirrors = record { state = refl; cs = h.leads.cs; topmost = h.leads.topmost };
+        there = h.there;
+        follows = h.service;
+        goes = effect_whole (bare p bytes) seen i (h.there, h.service) h.goes flag;
+        leads = h.leads;
       }
-
-  -- a step, where code is what its segment names
-  pub goes_mirrored : (t : ResidentState) (g : Goes p r t NoService) (so : GoesSo g.instruction t) → bytes (number_by table r.cs) ≡ g.stands.code → Goes (bare p bytes) seen (shown_state table met t) so.service
-  goes_mirrored t g so named = record {
-    running = ap (status_by (number_by table)) g.running;
-    instruction = g.instruction;
-    stands = record { code = g.stands.code; named = ap Some named; rest = g.stands.rest; spelled = g.stands.spelled };
-    result = so.goes;
-  }

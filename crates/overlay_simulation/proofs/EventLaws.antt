@@ -33,7 +33,7 @@ IsOwnBut NoService event = IsOwn event
 IsOwnBut AtCall event = IsOwn event
 IsOwnBut AtReturn event = IsOwn event
 
-own_but : (service : Service) (event : Event) → IsOwn event → IsOwnBut service event
+pub own_but : (service : Service) (event : Event) → IsOwn event → IsOwnBut service event
 own_but NoService event own = own
 own_but AtCall event own = own
 own_but AtReturn event own = own

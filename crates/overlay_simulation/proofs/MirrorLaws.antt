@@ -60,6 +60,8 @@ pub record Enters (p : Program) (table : List Loaded) (met : ℕ → Bool) (r t 
   pub flag : ℕ
   pub known : through.cells p.installed ≡ Known flag
   pub left : t ≡ blurred (if flag == 0 then refused p through else through)
+  pub half : through.half ≡ r.half
+  pub status : through.status ≡ r.status
   pub topmost : SameTopmost table r.records through.records
   pub state : there ≡ at_pair (record { offset = entry; segment = segment }) (shown_state table met through)
 
@@ -98,7 +100,7 @@ paired_goes c segment offset next y low high e =
     free_goes (c (address segment offset)) (free_then (c (address segment (next_offset offset))) (next (with_word c segment offset Paired))) y low
     (free_goes (c (address segment (next_offset offset))) (next (with_word c segment offset Paired)) y high e)
 
-stack_goes : (r : ResidentState) (g : Registers) (o : Outcome) (y : ResidentState × Service) → g.ss ≡ r.registers.ss → o ≡ Ok y → stack_then r g o ≡ Ok y
+pub stack_goes : (r : ResidentState) (g : Registers) (o : Outcome) (y : ResidentState × Service) → g.ss ≡ r.registers.ss → o ≡ Ok y → stack_then r g o ≡ Ok y
 stack_goes r g o y same e = rw (eq-eqb g.ss r.registers.ss same) e
 
 -- ## Where far pointers lead
@@ -234,6 +236,8 @@ module _ (p : Program) (bytes : ℕ → List ℕ) (table : List Loaded) (met : �
         flag = flag;
         known = known;
         left = left ∙ ap (λ (x : Bool). blurred (if x then refused p (called r g c (Overlay v) routine) else called r g c (Overlay v) routine)) (sym zero);
+        half = refl;
+        status = refl;
         topmost = topmost_in table (new_record g) r.records own here;
         state = pushed g c segment offset (Overlay v) routine;
       }

@@ -115,6 +115,7 @@ stub_stands cells later memory after o load next h held =
     let size : n ≡ entry_offset (load_word memory o.stub 12) = ap entry_offset (sym h.count) in
     record {
       kept = still_kept later memory after o.stub n held;
+      small = λ k lt. subst (λ (byte : ℕ). byte < 256) (sym (same k lt)) (h.small k lt);
       is_stub = stub_same memory after o.stub n same size h.is_stub;
       count = same_word memory after o.stub n 12 same (omega arith) room ∙ h.count;
       loaded = same_word memory after o.stub n 14 same (omega arith) room ∙ h.loaded;

@@ -2,3 +2,4 @@ pub mod Laid
 pub mod Shown
 pub mod Matching
 pub mod Plain
+pub mod Managing

@@ -1,6 +1,6 @@
 -- When a process whose overlays are managed matches a state of the resident machine.
 use Rattle.std.specs.Prelude.{◌≡◌, ◌≢◌, ℕ, ◌<◌, Bool, true, false, List, [], length, map, slice_index, slice_get, Some}
-use Rattle.cpu_8086.specs.Memory.{address, load_word}
+use Rattle.cpu_8086.specs.Memory.{address, load_byte, load_word}
 use Rattle.overlay_file.specs.Stubs.{IsStub, entry_offset}
 use Rattle.overlay_manager.specs.Manager.{Manager, next_stub}
 use Rattle.overlay_manager.specs.Serves.{table_before}
@@ -17,10 +17,11 @@ use Rattle.return_repair.specs.Pairs.{is_out, saved_at}
 use Rattle.overlay_simulation.specs.Laid.{StandsBy}
 use Rattle.overlay_simulation.specs.Shown.{number_by, IsIn, items_of, pairs_by}
 
--- The stub of an overlay stands in memory and is kept: it says where the overlay is loaded, if it is, and which stub is the
+-- The stub of an overlay stands in memory, in bytes that are kept: it says where the overlay is loaded, if it is, and which stub is the
 -- next one, and its entries lead to the overlay's routines.
 pub record StubStands (cells : Cells) (memory : List ℕ) (o : OverlayCode) (load next : ℕ) : Type 0 where
   pub kept : (k : ℕ) → k < entry_offset (length o.entries) → cells (address o.stub k) ≡ Kept
+  pub small : (k : ℕ) → k < entry_offset (length o.entries) → load_byte memory o.stub k < 256
   pub is_stub : IsStub memory o.stub
   pub count : load_word memory o.stub 12 ≡ length o.entries
   pub loaded : load_word memory o.stub 14 ≡ load
