@@ -15,7 +15,7 @@ use Rattle.return_repair.specs.declared.table.Loaded.{Loaded}
 use Rattle.return_repair.specs.Follows.{overlay_at, none_met, topmost_into}
 use Rattle.return_repair.specs.Pairs.{is_out, saved_at}
 use Rattle.overlay_simulation.specs.Laid.{status_by}
-use Rattle.overlay_simulation.specs.Matching.{HoldsOverlays, Matches, TellsApart}
+use Rattle.overlay_simulation.specs.Matching.{size_of, HoldsOverlays, Matches, TellsApart}
 use Rattle.overlay_simulation.specs.Plain.{IsOwn, GoesAlone}
 use Rattle.overlay_simulation.specs.Shown.{number_by, IsIn, items_of, shown_state}
 use Rattle.overlay_simulation.proofs.EffectLaws.{GoesSo, effect_mirrored, effect_parts, was_zero}
@@ -25,7 +25,7 @@ use Rattle.overlay_simulation.proofs.LeadLaws.{leads_keep}
 use Rattle.overlay_simulation.proofs.MirrorLaws.{bare, Leads}
 use Rattle.overlay_simulation.proofs.OwnLaws.{effect_own}
 use Rattle.overlay_simulation.proofs.StepLaws.{none, IsAt, Comes, stays, stands_there, stands_by, stands_bare, alone, end_bytes}
-use Rattle.overlay_simulation.proofs.StubLaws.{bytes_from, size_of}
+use Rattle.overlay_simulation.proofs.StubLaws.{bytes_from}
 use Rattle.overlay_simulation.proofs.TableLaws.{own_stubs, overlay_code}
 
 module _ (p : Program) (r t : ResidentState) (service : Service) (q : Managed) (told : TellsApart p (table_before q.manager)) (m : Matches p r q) (g : Goes p r t service)

@@ -8,21 +8,13 @@ use Rattle.resident_machine.specs.Cells.{Cell, Known, Unknown, Kept, Paired, Cel
 use Rattle.resident_machine.specs.Framed.{IsLink, AreLinks}
 use Rattle.return_repair.specs.Chain.{before, word_at, next_link, link_at, goes_on, links_within, chain, are_spaced}
 
--- what is known of memory
-module _ (marked : Bool) (ss : ℕ) (cells : Cells) (memory : List ℕ) (known : (place value : ℕ) → cells place ≡ Known value → slice_index memory place ≡ value) where
-  known_is : (offset word : ℕ) → known_word cells ss offset ≡ Some word → load_word memory ss offset ≡ word
-  unfolding load_word load_byte
-  known_is offset word e = by (cells (address ss offset)) refl (cells (address ss (next_offset offset))) refl e
-    where
-      by : (low : Cell) → cells (address ss offset) ≡ low → (high : Cell) → cells (address ss (next_offset offset)) ≡ high → word_of_cells low high ≡ Some word → word_of (slice_index memory (address ss offset)) (slice_index memory (address ss (next_offset offset))) ≡ word
-      by (Known l) x (Known h) y e = let is : word_of l h ≡ word = cc in ap₂ word_of (known (address ss offset) l x) (known (address ss (next_offset offset)) h y) ∙ is
-      by (Known l) x Unknown y e = absurd (cc)
-      by (Known l) x Kept y e = absurd (cc)
-      by (Known l) x Paired y e = absurd (cc)
-      by Unknown x high y e = absurd (cc)
-      by Kept x high y e = absurd (cc)
-      by Paired x high y e = absurd (cc)
+-- ## Links lie below the segment's end
 
+word_small : (marked : Bool) (word : ℕ) → (link_word marked word).next < 65536 → word < 65536
+word_small true word small = omega arith
+word_small false word small = small
+
+module _ (marked : Bool) (ss : ℕ) (cells : Cells) where
   least_room : (far : Bool) → 4 ≤ room_of far
   least_room true = omega arith
   least_room false = omega arith
@@ -37,18 +29,36 @@ module _ (marked : Bool) (ss : ℕ) (cells : Cells) (memory : List ℕ) (known :
       let small = link_small links next (link_word marked h.1).next h.3 in
       omega arith
 
-  word_small : (marked : Bool) (word : ℕ) → (link_word marked word).next < 65536 → word < 65536
-  word_small true word small = omega arith
-  word_small false word small = small
-
-  next_small : (at : ℕ) (links : List Link) → AreLinks marked cells ss at links → at < 65536
+  pub next_small : (at : ℕ) (links : List Link) → AreLinks marked cells ss at links → at < 65536
   next_small at [] h = omega arith
   next_small at (link ∷ links) h = let is = h.0 in let small = link_small links link at h in omega arith
+
+-- ## What is known of memory
+
+-- the bytes of a known word
+pub word_known : (ss : ℕ) (cells : Cells) (offset word : ℕ) → known_word cells ss offset ≡ Some word → (low : ℕ) × (high : ℕ) × (cells (address ss offset) ≡ Known low) × (cells (address ss (next_offset offset)) ≡ Known high) × (word_of low high ≡ word)
+word_known ss cells offset word e = by (cells (address ss offset)) refl (cells (address ss (next_offset offset))) refl e
+  where
+    by : (x : Cell) → cells (address ss offset) ≡ x → (y : Cell) → cells (address ss (next_offset offset)) ≡ y → word_of_cells x y ≡ Some word → (low : ℕ) × (high : ℕ) × (cells (address ss offset) ≡ Known low) × (cells (address ss (next_offset offset)) ≡ Known high) × (word_of low high ≡ word)
+    by (Known l) x (Known h) y e = (l, h, x, y, cc)
+    by (Known l) x Unknown y e = absurd (cc)
+    by (Known l) x Kept y e = absurd (cc)
+    by (Known l) x Paired y e = absurd (cc)
+    by Unknown x high y e = absurd (cc)
+    by Kept x high y e = absurd (cc)
+    by Paired x high y e = absurd (cc)
+
+module _ (marked : Bool) (ss : ℕ) (cells : Cells) (memory : List ℕ) (known : (place value : ℕ) → cells place ≡ Known value → slice_index memory place ≡ value) where
+  known_is : (offset word : ℕ) → known_word cells ss offset ≡ Some word → load_word memory ss offset ≡ word
+  unfolding load_word load_byte
+  known_is offset word e =
+      let bytes = word_known ss cells offset word e in
+      ap₂ word_of (known (address ss offset) bytes.0 bytes.2) (known (address ss (next_offset offset)) bytes.1 bytes.3) ∙ bytes.4
 
   -- the word that a service reads
   word_read : (at : ℕ) (link : Link) (links : List Link) → (h : AreLinks marked cells ss at (link ∷ links)) → word_at marked memory ss at ≡ link_word marked h.1
   word_read at link links h =
-      let small = word_small marked h.1 (next_small (link_word marked h.1).next links h.3) in
+      let small = word_small marked h.1 (next_small marked ss cells (link_word marked h.1).next links h.3) in
       let word : load_word memory ss at ≡ h.1 = ap (load_word memory ss) h.0 ∙ known_is link.at h.1 h.2.known in
       let wraps : h.1 % 65536 ≡ h.1 = omega arith in
       ap (λ (w : ℕ). link_word marked (w % 65536)) word ∙ ap (link_word marked) wraps
@@ -77,7 +87,7 @@ module _ (marked : Bool) (ss : ℕ) (cells : Cells) (memory : List ℕ) (known :
   unfolding links_within
   links_found [] at zero h enough = refl
   links_found [] at (suc most) h enough = rw (eq-eqb at 0 h) refl
-  links_found (link ∷ links) at zero h enough = let is = h.0 in let small = link_small links link at h in absurd (omega arith)
+  links_found (link ∷ links) at zero h enough = let is = h.0 in let small = link_small marked ss cells links link at h in absurd (omega arith)
   links_found (link ∷ links) at (suc most) h enough =
       let same : link.at ≡ at = sym h.0 in
       let positive = h.2.positive in
@@ -85,7 +95,7 @@ module _ (marked : Bool) (ss : ℕ) (cells : Cells) (memory : List ℕ) (known :
       let next : ℕ = (link_word marked h.1).next in
       let read = word_read at link links h in
       let next_is : next_link marked memory ss at ≡ next = ap (λ w. w.next) read in
-      let room = link_below at link links h in
+      let room = link_below marked ss cells at link links h in
       let goes = rises at next link links same room h.3 in
       let rest = links_found links next most h.3 (enough_left at most next link links same enough room h.3) in
       let link_is : link_at marked memory ss at ≡ link = same_link at link same (ap (λ w. w.far) read ∙ sym h.2.far) in

@@ -28,7 +28,7 @@ use Rattle.return_repair.specs.declared.table.Loaded.{Loaded}
 use Rattle.return_repair.specs.Follows.{overlay_at, none_met, topmost_into}
 use Rattle.return_repair.specs.Pairs.{is_out}
 use Rattle.overlay_simulation.specs.Laid.{status_by}
-use Rattle.overlay_simulation.specs.Matching.{StubStands, HoldsOverlays, Matches, TellsApart}
+use Rattle.overlay_simulation.specs.Matching.{size_of, StubStands, HoldsOverlays, Matches, TellsApart}
 use Rattle.overlay_simulation.specs.Plain.{IsOwn, GoesAlone}
 use Rattle.overlay_simulation.specs.Shown.{number_by, IsIn, items_of, shown_state}
 use Rattle.overlay_simulation.proofs.BeginLaws.{begun, begins, begins_alone, image_begun, overlays_begun, flag_begun}
@@ -39,7 +39,7 @@ use Rattle.overlay_simulation.proofs.LeadLaws.{framed_spares, call_flag}
 use Rattle.overlay_simulation.proofs.MirrorLaws.{bare, at_pair, Enters, stack_goes}
 use Rattle.overlay_simulation.proofs.OwnLaws.{unhalved}
 use Rattle.overlay_simulation.proofs.StepLaws.{none, IsAt, Comes, stays, stands_there, stands_by, alone}
-use Rattle.overlay_simulation.proofs.StubLaws.{bytes_from, stands_kept, size_of, stub_room}
+use Rattle.overlay_simulation.proofs.StubLaws.{bytes_from, stands_kept, stub_room}
 use Rattle.overlay_simulation.proofs.TableLaws.{stub_is, own_stubs, loaded_known}
 use Rattle.overlay_simulation.proofs.TargetLaws.{IsEntryOf, leads_through}
 

@@ -8,8 +8,8 @@ use Rattle.overlay_file.specs.Stubs.{IsTrap, IsJump, IsEntry, entry_offset}
 use Rattle.overlay_manager.specs.Stubbing.{routine_at}
 use Rattle.resident_machine.specs.Cells.{Cells}
 use Rattle.resident_machine.specs.Program.{OverlayCode}
-use Rattle.overlay_simulation.specs.Matching.{StubStands}
-use Rattle.overlay_simulation.proofs.StubLaws.{bytes_from, size_of, stub_room}
+use Rattle.overlay_simulation.specs.Matching.{size_of, StubStands}
+use Rattle.overlay_simulation.proofs.StubLaws.{bytes_from, stub_room}
 
 drop_from : (memory : List ℕ) (segment offset n k : ℕ) → drop k (bytes_from memory segment offset (k + n)) ≡ bytes_from memory segment (offset + k) n
 drop_from memory segment offset n zero =

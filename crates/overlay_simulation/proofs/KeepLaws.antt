@@ -10,9 +10,9 @@ use Rattle.resident_machine.specs.State.{Record}
 use Rattle.return_repair.specs.declared.table.Loaded.{Loaded}
 use Rattle.return_repair.specs.Follows.{overlay_at, topmost_into}
 use Rattle.return_repair.specs.Pairs.{is_out, saved_at}
-use Rattle.overlay_simulation.specs.Matching.{HoldsOverlays, TellsApart}
+use Rattle.overlay_simulation.specs.Matching.{size_of, HoldsOverlays, TellsApart}
 use Rattle.overlay_simulation.specs.Shown.{number_by, IsIn, items_of}
-use Rattle.overlay_simulation.proofs.StubLaws.{bytes_from, stands_kept, same_bytes, same_word, size_of, stub_room, stub_stands}
+use Rattle.overlay_simulation.proofs.StubLaws.{bytes_from, stands_kept, same_bytes, same_word, stub_room, stub_stands}
 use Rattle.overlay_simulation.proofs.TableLaws.{stub_is}
 
 -- Code in memory stays, and so do the bytes of stubs.

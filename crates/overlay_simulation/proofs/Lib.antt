@@ -18,3 +18,7 @@ pub mod TargetLaws
 pub mod EntryLaws
 pub mod EnterLaws
 pub mod RefusedLaws
+pub mod PairLaws
+pub mod FoundLaws
+pub mod OrderLaws
+pub mod ReadyLaws

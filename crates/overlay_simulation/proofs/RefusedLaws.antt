@@ -38,14 +38,14 @@ use Rattle.return_repair.specs.Chain.{chain_of}
 use Rattle.return_repair.specs.Follows.{overlay_at, none_met}
 use Rattle.overlay_simulation.specs.Laid.{status_by}
 use Rattle.overlay_simulation.specs.Managing.{Manages}
-use Rattle.overlay_simulation.specs.Matching.{StubStands, Matches, TellsApart}
+use Rattle.overlay_simulation.specs.Matching.{size_of, StubStands, Matches, TellsApart}
 use Rattle.overlay_simulation.specs.Plain.{GoesAlone}
 use Rattle.overlay_simulation.specs.Shown.{number_by, IsIn, shown_state}
 use Rattle.overlay_simulation.proofs.EnterLaws.{AtEntry, at_entry, enters}
 use Rattle.overlay_simulation.proofs.EntryLaws.{traps}
 use Rattle.overlay_simulation.proofs.MirrorLaws.{bare}
 use Rattle.overlay_simulation.proofs.StepLaws.{none, IsAt, fetched_here, running, held_by}
-use Rattle.overlay_simulation.proofs.StubLaws.{bytes_from, stands_kept, size_of, stub_room}
+use Rattle.overlay_simulation.proofs.StubLaws.{bytes_from, stands_kept, stub_room}
 
 -- ## No overlay is loaded
 

@@ -7,7 +7,7 @@ use Rattle.overlay_manager.specs.Stubbing.{routine_at}
 use Rattle.resident_machine.specs.Cells.{Kept, Cells}
 use Rattle.resident_machine.specs.Program.{OverlayCode}
 use Rattle.resident_machine.specs.Standing.{HoldsCode}
-use Rattle.overlay_simulation.specs.Matching.{StubStands}
+use Rattle.overlay_simulation.specs.Matching.{size_of, StubStands}
 
 -- so many bytes of a segment, from an offset on
 abbrev pub bytes_from : List ℕ → ℕ → ℕ → ℕ → List ℕ
@@ -98,10 +98,6 @@ stub_same memory after segment n same size h =
         (subst (λ (loaded : ℕ). AreEntries after segment loaded (load_word memory segment 12)) (sym load)
           (λ e lt. entry_same memory after segment n (load_word memory segment 14) (entry_offset e) same (omega arith) room (h.each e lt)));
     }
-
--- how many bytes a stub has
-abbrev pub size_of : OverlayCode → ℕ
-size_of o = entry_offset (length o.entries)
 
 pub stub_room : (cells : Cells) (memory : List ℕ) (o : OverlayCode) (load next : ℕ) → StubStands cells memory o load next → size_of o ≤ 65536
 stub_room cells memory o load next h = subst (λ (entries : ℕ). entry_offset entries ≤ 65536) h.count h.is_stub.room

@@ -1,5 +1,5 @@
 -- What a table says that tells apart what stands in memory.
-use Rattle.std.proofs.Common.{◌≡◌, ◌≢◌, ℕ, zero, suc, ◌<◌, ◌==◌, Bool, true, false, List, [], ◌∷◌, map, Option, Some, None, refl, sym, ap, ◌∙◌, subst, arith}
+use Rattle.std.proofs.Common.{◌≡◌, ◌≢◌, ℕ, zero, suc, ◌<◌, ◌==◌, Bool, true, false, List, [], ◌∷◌, length, map, Option, Some, None, refl, sym, ap, ◌∙◌, subst, arith}
 use Rattle.std.specs.Prelude.{slice_get, option_map}
 use Rattle.resident_machine.specs.Program.{Segment, Image, Overlay, OverlayCode, Program, code_of}
 use Rattle.return_repair.specs.declared.table.Loaded.{Loaded}
@@ -72,3 +72,25 @@ overlay_code overlays v code e = by (slice_get overlays v) refl e
     by : (x : Option OverlayCode) → slice_get overlays v ≡ x → option_map (λ (o : OverlayCode). o.code) x ≡ Some code → (o : OverlayCode) × (slice_get overlays v ≡ Some o) × (o.code ≡ code)
     by None found e = absurd (cc)
     by (Some o) found e = (o, found, cc)
+
+-- ## Entries of a table
+
+entry_by : (table : List Loaded) (overlays : List OverlayCode) (v : ℕ) → stubs_of table ≡ stubs_in overlays → v < length table → (o : OverlayCode) × (slice_get overlays v ≡ Some o)
+entry_by [] overlays v same lt = absurd (omega arith)
+entry_by (l ∷ table) [] v same lt = absurd (cc)
+entry_by (l ∷ table) (x ∷ overlays) zero same lt = (x, refl)
+entry_by (l ∷ table) (x ∷ overlays) (suc v) same lt = entry_by table overlays v (same_tail l.stub x.stub (stubs_of table) (stubs_in overlays) same).1 (omega arith)
+
+pub inside_known : (p : Program) (table : List Loaded) → TellsApart p table → (v : ℕ) → v < length table → (o : OverlayCode) × (slice_get p.overlays v ≡ Some o)
+inside_known p table told v lt = entry_by table p.overlays v told.same lt
+
+stub_found : (table : List Loaded) (overlays : List OverlayCode) (v : ℕ) (l : Loaded) → stubs_of table ≡ stubs_in overlays → slice_get table v ≡ Some l → (o : OverlayCode) × (slice_get overlays v ≡ Some o) × (l.stub ≡ o.stub)
+stub_found [] overlays v l same found = absurd (cc)
+stub_found (x ∷ table) [] v l same found = absurd (cc)
+stub_found (x ∷ table) (o ∷ overlays) zero l same found =
+    let is : x ≡ l = cc in
+    (o, refl, ap (λ (z : Loaded). z.stub) (sym is) ∙ (same_tail x.stub o.stub (stubs_of table) (stubs_in overlays) same).0)
+stub_found (x ∷ table) (o ∷ overlays) (suc v) l same found = stub_found table overlays v l (same_tail x.stub o.stub (stubs_of table) (stubs_in overlays) same).1 found
+
+pub entry_stub : (p : Program) (table : List Loaded) → TellsApart p table → (v : ℕ) (l : Loaded) → slice_get table v ≡ Some l → (o : OverlayCode) × (slice_get p.overlays v ≡ Some o) × (l.stub ≡ o.stub)
+entry_stub p table told v l found = stub_found table p.overlays v l told.same found

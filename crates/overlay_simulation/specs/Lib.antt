@@ -3,3 +3,4 @@ pub mod Shown
 pub mod Matching
 pub mod Plain
 pub mod Managing
+pub mod Layout

@@ -17,11 +17,15 @@ use Rattle.return_repair.specs.Pairs.{is_out, saved_at}
 use Rattle.overlay_simulation.specs.Laid.{StandsBy}
 use Rattle.overlay_simulation.specs.Shown.{number_by, IsIn, items_of, pairs_by}
 
+-- how many bytes the stub of an overlay has
+abbrev pub size_of : OverlayCode → ℕ
+size_of o = entry_offset (length o.entries)
+
 -- The stub of an overlay stands in memory, in bytes that are kept: it says where the overlay is loaded, if it is, and which stub is the
 -- next one, and its entries lead to the overlay's routines.
 pub record StubStands (cells : Cells) (memory : List ℕ) (o : OverlayCode) (load next : ℕ) : Type 0 where
-  pub kept : (k : ℕ) → k < entry_offset (length o.entries) → cells (address o.stub k) ≡ Kept
-  pub small : (k : ℕ) → k < entry_offset (length o.entries) → load_byte memory o.stub k < 256
+  pub kept : (k : ℕ) → k < size_of o → cells (address o.stub k) ≡ Kept
+  pub small : (k : ℕ) → k < size_of o → load_byte memory o.stub k < 256
   pub is_stub : IsStub memory o.stub
   pub count : load_word memory o.stub 12 ≡ length o.entries
   pub loaded : load_word memory o.stub 14 ≡ load

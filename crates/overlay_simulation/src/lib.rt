@@ -1,23 +1,32 @@
 //! Runs of programs whose overlays move, beside those of the resident machine: the laws that tie the one to the other.
 #![tactic(auto)]
 
-ghost use Rattle.std.specs.Prelude.{◌≡◌, ℕ, true, false, List, []};
+ghost use Rattle.std.specs.Prelude.{◌≡◌, ℕ, Bool, true, false, List, [], Ok};
+ghost use Rattle.std.specs.List.{AllByRecursion};
 ghost use Rattle.cpu_8086.specs.Process.{Process};
+ghost use Rattle.cpu_8086.specs.State.{State};
+ghost use Rattle.overlay_manager.specs.Kept.{IsFound, AreReturns};
+ghost use Rattle.overlay_manager.specs.Manager.{Manager};
+ghost use Rattle.overlay_manager.specs.Orderly as orderly;
+ghost use Rattle.overlay_manager.specs.Orderly.{IsOrderlyFor};
 ghost use Rattle.overlay_manager.specs.Serves.{table_before};
 ghost use Rattle.overlay_manager.specs.overlay_run.Managed.{Managed, ManagedGoes};
 ghost use Rattle.resident_machine.specs.Program.{Image, Overlay, Program};
-ghost use Rattle.resident_machine.specs.Framed.{IsFramed};
+ghost use Rattle.resident_machine.specs.Framed.{IsFramed, places_of};
 ghost use Rattle.resident_machine.specs.Run.{Goes};
 ghost use Rattle.resident_machine.specs.Standing.{number_of, StandsFor};
-ghost use Rattle.resident_machine.specs.State.{ResidentState, NoService, AtCall, AtReturn};
-ghost use Rattle.resident_machine.specs.Whole.{IsOutside};
-ghost use Rattle.return_repair.specs.Follows.{overlay_at};
+ghost use Rattle.resident_machine.specs.State.{Record, ResidentState, NoService, AtCall, AtReturn};
+ghost use Rattle.resident_machine.specs.Whole.{IsOutside, IsReturn, IsWhole};
+ghost use Rattle.return_repair.specs.declared.table.Loaded.{Loaded};
+ghost use Rattle.return_repair.specs.Chain.{chain_of};
+ghost use Rattle.return_repair.specs.Follows.{none_met, overlay_at};
 ghost use Rattle.return_repair.specs.Pairs.{is_out};
 ghost use Rattle.overlay_simulation.specs.Laid.{StandsBy, named_pairs};
+ghost use Rattle.overlay_simulation.specs.Layout.{IsReady, LieApart};
 ghost use Rattle.overlay_simulation.specs.Managing.{Manages};
 ghost use Rattle.overlay_simulation.specs.Matching.{Matches, TellsApart};
 ghost use Rattle.overlay_simulation.specs.Plain.{GoesAlone};
-ghost use Rattle.overlay_simulation.specs.Shown.{IsIn};
+ghost use Rattle.overlay_simulation.specs.Shown.{IsIn, items_of};
 
 /// Where code and return pairs stand as they are named, a process stands for the same states as without overlays. Where there
 /// are no overlays, it matches the states that it stands for, and no others.
@@ -49,4 +58,20 @@ pub fn loaded_call_law()
 /// routine with AX = 208. It is not refused but there.
 pub fn refused_call_law()
     ensures { (bytes : List ℕ) (p : Program) (r : ResidentState) (t : ResidentState) (q : Managed) (number : ℕ) → Manages p q.manager → TellsApart p (table_before q.manager) → Matches p r q → Goes p r t AtCall → IsFramed p true t → t.cs ≡ Image number → (u : Process) × (w : Managed) × GoesAlone q.process u × ManagedGoes bytes (record q { process = u }) w × Matches p t w }
+{}
+
+/// A process that matches a whole state is ready for a service. Where the state is framed, a service finds its links, and at their
+/// places its return pairs; and live pairs, links, stubs and the buffer share no byte, as the service asks.
+pub fn framed_law()
+    ensures ready { (p : Program) (kept : ℕ → Bool) (t : ResidentState) (q : Managed) → Manages p q.manager → TellsApart p (table_before q.manager) → LieApart p q.manager kept → IsWhole p kept t → Matches p t q → IsReady p q.manager none_met kept t q.process.machine }
+    ensures chain { (p : Program) (m : Manager) (met : ℕ → Bool) (kept : ℕ → Bool) (t : ResidentState) (s : State) (pending : Bool) → IsReady p m met kept t s → (f : IsFramed p pending t) → chain_of m.marked s ≡ Ok f.links }
+    ensures places { (p : Program) (m : Manager) (met : ℕ → Bool) (kept : ℕ → Bool) (t : ResidentState) (s : State) (pending : Bool) → IsReady p m met kept t s → IsFramed p pending t → orderly.places_of m.marked s pending ≡ places_of t.records }
+    ensures order { (p : Program) (m : Manager) (met : ℕ → Bool) (kept : ℕ → Bool) (t : ResidentState) (s : State) (pending : Bool) → IsReady p m met kept t s → IsFramed p pending t → IsOrderlyFor m s pending }
+{}
+
+/// By a table that tells apart what stands in memory each overlay is found again from the segment of its returns; and what records
+/// denote is what a service asks of live returns.
+pub fn found_law()
+    ensures found { (p : Program) (table : List Loaded) → TellsApart p table → IsFound table }
+    ensures denoted { (p : Program) (table : List Loaded) (records : List Record) → TellsApart p table → AllByRecursion (IsReturn p) records → AreReturns table (items_of records) }
 {}
