@@ -4,6 +4,8 @@ use Rattle.std.specs.Prelude.{if◌then◌else◌, slice_index}
 use Rattle.cpu_8086.specs.Memory.{address, next_offset, word_of, load_byte, load_word}
 use Rattle.overlay_file.specs.Stubs.{IsTrap, IsJump, IsEntry, AreZeros, AreEntries, IsStub, entry_offset}
 use Rattle.overlay_manager.specs.Stubbing.{routine_at}
+use Rattle.overlay_manager.proofs.EntryLaws.{byte-is, routine-same}
+use Rattle.overlay_manager.proofs.ReadLaws.{stub-agrees}
 use Rattle.resident_machine.specs.Cells.{Kept, Cells}
 use Rattle.resident_machine.specs.Program.{OverlayCode}
 use Rattle.resident_machine.specs.Standing.{HoldsCode}
@@ -60,44 +62,9 @@ same_word memory after segment n k same fits room =
     let high : load_byte after segment (next_offset k) ≡ load_byte memory segment (next_offset k) = ap (load_byte after segment) next ∙ same (k + 1) (omega arith) ∙ ap (load_byte memory segment) (sym next) in
     ap (λ (low : ℕ). word_of low (load_byte after segment (next_offset k))) (same k (omega arith)) ∙ ap (λ (high : ℕ). word_of (load_byte memory segment k) high) high
 
-entry_same : (memory after : List ℕ) (segment n load at : ℕ) → SameBytes memory after segment n → at + 5 ≤ n → n ≤ 65536 → IsEntry memory segment load at → IsEntry after segment load at
-entry_same memory after segment n load at same fits room h = by (load == 0) h
-  where
-    by : (out : Bool) → MatchBool out (IsTrap memory segment at) (IsJump memory segment load at) → MatchBool out (IsTrap after segment at) (IsJump after segment load at)
-    by true h = record {
-      interrupt = same_word memory after segment n at same (omega arith) room ∙ h.interrupt;
-      filled = same (at + 4) (omega arith) ∙ h.filled;
-    }
-    by false h = record {
-      jump = same at (omega arith) ∙ h.jump;
-      target = same_word memory after segment n (at + 3) same (omega arith) room ∙ h.target;
-    }
-
-routine_same : (memory after : List ℕ) (segment n load at : ℕ) → SameBytes memory after segment n → at + 5 ≤ n → n ≤ 65536 → routine_at after segment load at ≡ routine_at memory segment load at
-routine_same memory after segment n load at same fits room = by (load == 0)
-  where
-    word : (k : ℕ) → k + 2 ≤ n → load_word after segment (k % 65536) ≡ load_word memory segment (k % 65536)
-    word k fits =
-        let straight : k % 65536 ≡ k = omega arith in
-        ap (load_word after segment) straight ∙ same_word memory after segment n k same fits room ∙ ap (load_word memory segment) (sym straight)
-
-    by : (out : Bool) → load_word after segment ((at + (if out then 2 else 1)) % 65536) ≡ load_word memory segment ((at + (if out then 2 else 1)) % 65536)
-    by true = word (at + 2) (omega arith)
-    by false = word (at + 1) (omega arith)
-
-pub stub_same : (memory after : List ℕ) (segment n : ℕ) → SameBytes memory after segment n → n ≡ entry_offset (load_word memory segment 12) → IsStub memory segment → IsStub after segment
-stub_same memory after segment n same size h =
-    let room : n ≤ 65536 = let r = h.room in omega arith in
-    let count = same_word memory after segment n 12 same (omega arith) room in
-    let load = same_word memory after segment n 14 same (omega arith) room in
-    record {
-      interrupt = same_word memory after segment n 0 same (omega arith) room ∙ h.interrupt;
-      zeros = λ k lt. same (18 + k) (omega arith) ∙ h.zeros k lt;
-      room = subst (λ (entries : ℕ). entry_offset entries ≤ 65536) (sym count) h.room;
-      each = subst (λ (entries : ℕ). AreEntries after segment (load_word after segment 14) entries) (sym count)
-        (subst (λ (loaded : ℕ). AreEntries after segment loaded (load_word memory segment 12)) (sym load)
-          (λ e lt. entry_same memory after segment n (load_word memory segment 14) (entry_offset e) same (omega arith) room (h.each e lt)));
-    }
+-- so the bytes at its addresses are
+byte_same : (memory after : List ℕ) (segment n k : ℕ) → SameBytes memory after segment n → k < n → slice_index after (address segment k) ≡ slice_index memory (address segment k)
+byte_same memory after segment n k same lt = sym (byte-is after segment k) ∙ same k lt ∙ byte-is memory segment k
 
 pub stub_room : (cells : Cells) (memory : List ℕ) (o : OverlayCode) (load next : ℕ) → StubStands cells memory o load next → size_of o ≤ 65536
 stub_room cells memory o load next h = subst (λ (entries : ℕ). entry_offset entries ≤ 65536) h.count h.is_stub.room
@@ -112,9 +79,9 @@ stub_stands cells later memory after o load next h held =
     record {
       kept = still_kept later memory after o.stub n held;
       small = λ k lt. subst (λ (byte : ℕ). byte < 256) (sym (same k lt)) (h.small k lt);
-      is_stub = stub_same memory after o.stub n same size h.is_stub;
+      is_stub = stub-agrees o.stub after memory (λ k lt two three. byte_same memory after o.stub n k same (subst (λ (z : ℕ). k < z) (sym size) lt)) h.is_stub.room h.is_stub;
       count = same_word memory after o.stub n 12 same (omega arith) room ∙ h.count;
       loaded = same_word memory after o.stub n 14 same (omega arith) room ∙ h.loaded;
       linked = same_word memory after o.stub n 16 same (omega arith) room ∙ h.linked;
-      routines = λ e lt. routine_same memory after o.stub n load (entry_offset e) same (omega arith) room ∙ h.routines e lt;
+      routines = λ e lt. routine-same after memory o.stub load (entry_offset e) (omega arith) (λ j small. byte_same memory after o.stub n (entry_offset e + j) same (omega arith)) ∙ h.routines e lt;
     }
