@@ -1,6 +1,6 @@
 -- The event that a step of the resident machine begins with, of a process that matches.
-use Rattle.std.proofs.Common.{◌≡◌, ℕ, Bool, true, false, List, [], Option, Some, Ok, refl, sym, ap, ◌∙◌, subst, arith}
-use Rattle.std.specs.Prelude.{slice_get, option_map}
+use Rattle.std.proofs.Common.{◌≡◌, ℕ, Bool, List, [], Some, refl, sym, ap, ◌∙◌, subst}
+use Rattle.std.specs.Prelude.{slice_get}
 use Rattle.x86_table.specs.declared.instr.Instr.{Instr}
 use Rattle.cpu_8086.specs.Process.{Process, after_step}
 use Rattle.cpu_8086.specs.Step.{effect}
@@ -12,12 +12,11 @@ use Rattle.resident_machine.specs.Run.{Goes}
 use Rattle.resident_machine.specs.Standing.{HoldsCode, StandsFor}
 use Rattle.resident_machine.specs.State.{ResidentState, Service}
 use Rattle.return_repair.specs.declared.table.Loaded.{Loaded}
-use Rattle.return_repair.specs.Follows.{overlay_at, none_met, topmost_into}
-use Rattle.return_repair.specs.Pairs.{is_out, saved_at}
+use Rattle.return_repair.specs.Follows.{none_met}
 use Rattle.overlay_simulation.specs.Laid.{status_by}
 use Rattle.overlay_simulation.specs.Matching.{size_of, HoldsOverlays, Matches, TellsApart}
 use Rattle.overlay_simulation.specs.Plain.{IsOwn, GoesAlone}
-use Rattle.overlay_simulation.specs.Shown.{number_by, IsIn, items_of, shown_state}
+use Rattle.overlay_simulation.specs.Shown.{number_by, IsIn, shown_state}
 use Rattle.overlay_simulation.proofs.EffectLaws.{GoesSo, effect_mirrored, effect_parts, was_zero}
 use Rattle.overlay_simulation.proofs.EventLaws.{IsOwnBut}
 use Rattle.overlay_simulation.proofs.KeepLaws.{Stay, KeepsTopmost, overlays_stay}

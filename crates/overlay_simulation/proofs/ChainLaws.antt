@@ -1,12 +1,12 @@
 -- The links of a framed state are those that a service finds in memory.
-use Rattle.std.proofs.Common.{◌≡◌, ◌≢◌, ℕ, zero, suc, ◌+◌, ◌-◌, ◌%◌, ◌<◌, ◌≤◌, ◌==◌, ◌||◌, Bool, true, false, List, [], ◌∷◌, Option, Some, None, Result, Ok, Err, refl, sym, ap, ap₂, ◌∙◌, subst, arith, eq-eqb, ne_eqb}
-use Rattle.std.specs.Prelude.{if◌then◌else◌, slice_index, nat_lt, nat_le}
+use Rattle.std.proofs.Common.{◌≡◌, ℕ, zero, suc, ◌+◌, ◌%◌, ◌<◌, ◌≤◌, ◌==◌, ◌||◌, Bool, true, false, List, [], ◌∷◌, Some, Ok, refl, sym, ap, ap₂, ◌∙◌, arith, eq-eqb, ne_eqb}
+use Rattle.std.specs.Prelude.{slice_index, nat_lt, nat_le}
 use Rattle.std.proofs.lemmas.Bool.Decides.{nat_tests}
 use Rattle.cpu_8086.specs.Memory.{address, next_offset, word_of, load_byte, load_word}
 use Rattle.frame_links.specs.Links.{Link, link_word, room_of, room_before}
 use Rattle.resident_machine.specs.Cells.{Cell, Known, Unknown, Kept, Paired, Cells, word_of_cells, known_word}
-use Rattle.resident_machine.specs.Framed.{IsLink, AreLinks}
-use Rattle.return_repair.specs.Chain.{before, word_at, next_link, link_at, goes_on, links_within, chain, are_spaced}
+use Rattle.resident_machine.specs.Framed.{AreLinks}
+use Rattle.return_repair.specs.Chain.{word_at, next_link, link_at, goes_on, links_within, chain, are_spaced}
 
 -- ## Links lie below the segment's end
 

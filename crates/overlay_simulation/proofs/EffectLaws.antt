@@ -1,5 +1,5 @@
 -- Effects and steps of the resident machine, beside those of the program without overlays.
-use Rattle.std.proofs.Common.{◌≡◌, ◌≢◌, ℕ, zero, suc, ◌+◌, ◌%◌, ◌==◌, ◌&&◌, not, Bool, true, false, List, ◌∷◌, Option, Some, None, Result, Ok, Err, refl, sym, ap, ap₂, ◌∙◌, subst, eqb-true}
+use Rattle.std.proofs.Common.{◌≡◌, ℕ, ◌+◌, ◌%◌, ◌==◌, ◌&&◌, not, Bool, true, false, List, ◌∷◌, Option, Some, None, Ok, Err, refl, sym, ap, ap₂, ◌∙◌, subst, eqb-true}
 use Rattle.std.specs.Prelude.{if◌then◌else◌}
 use Rattle.x86_table.specs.declared.instr.Instr.{Instr}
 use Rattle.x86_table.specs.declared.instr.Instr.TheVariants as instr
@@ -13,18 +13,16 @@ use Rattle.cpu_8086.specs.Effect.{act, call_to}
 use Rattle.cpu_8086.specs.Memory.{address, next_offset, word_of, low_byte, high_byte}
 use Rattle.cpu_8086.specs.Operand.{word_reg, offset_of, usual_segment}
 use Rattle.cpu_8086.specs.Step.{past}
-use Rattle.resident_machine.specs.Program.{Segment, Program}
+use Rattle.resident_machine.specs.Program.{Program}
 use Rattle.resident_machine.specs.Astray.{LeavesHalf, Uninstalls, and_then}
 use Rattle.resident_machine.specs.Cells.{Cell, Known, Unknown, Kept, Paired, Cells, with_cell, with_word, known_then, free_then}
 use Rattle.resident_machine.specs.Dos.{plainly}
 use Rattle.resident_machine.specs.Effect.{Outcome, with_memory, on_cells, plain_effect, is_near_call, made_whole, completed, is_zero, kept_installed, stack_then, effect_of}
-use Rattle.resident_machine.specs.Run.{Goes, StandsAt}
 use Rattle.resident_machine.specs.State.{Record, ResidentState, Service, NoService}
 use Rattle.resident_machine.proofs.CellLaws.{known_ok, free_ok, and_then_ok, unless_ok, stack_ok, ok_same}
 use Rattle.return_repair.specs.declared.table.Loaded.{Loaded}
-use Rattle.overlay_simulation.specs.Laid.{with_pairs, status_by}
-use Rattle.overlay_simulation.specs.Shown.{number_by, IsIn, pairs_by, shown_state}
-use Rattle.overlay_simulation.proofs.ShownLaws.{HasOwnStubs, laid_in, SameTopmost, topmost_in}
+use Rattle.overlay_simulation.specs.Shown.{IsIn, shown_state}
+use Rattle.overlay_simulation.proofs.ShownLaws.{HasOwnStubs, laid_in, topmost_in}
 use Rattle.overlay_simulation.proofs.MirrorLaws.{bare, Mirrors, Leads, Mirrored, tree_mirrored}
 
 -- ## No service follows a near call

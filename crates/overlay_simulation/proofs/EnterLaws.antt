@@ -1,5 +1,5 @@
 -- A call through a stub, up to the stub's entry; and the entry of an overlay that is loaded, which jumps to the routine.
-use Rattle.std.proofs.Common.{◌≡◌, ◌≢◌, ℕ, ◌<◌, ◌==◌, ◌&&◌, not, Bool, true, false, List, [], ◌++◌, drop, Option, Some, Ok, refl, sym, ap, ◌∙◌, subst}
+use Rattle.std.proofs.Common.{◌≡◌, ℕ, ◌==◌, ◌&&◌, not, Bool, true, false, List, [], ◌++◌, drop, Some, Ok, refl, sym, ap, ◌∙◌, subst}
 use Rattle.std.specs.Prelude.{if◌then◌else◌, slice_index, slice_get}
 use Rattle.std.proofs.lemmas.Option.{get_or_from_slice_get, slice_get_within}
 use Rattle.x86_table.specs.declared.instr.Instr.{Instr}
@@ -15,14 +15,13 @@ use Rattle.overlay_manager.specs.Manager.{next_stub}
 use Rattle.overlay_manager.specs.Serves.{table_before}
 use Rattle.overlay_manager.specs.overlay_run.Managed.{Managed}
 use Rattle.resident_machine.specs.Program.{Segment, Image, Overlay, OverlayCode, Program, code_of, stub_owner}
-use Rattle.resident_machine.specs.Cells.{Cell, Known, Cells}
+use Rattle.resident_machine.specs.Cells.{Cell, Known}
 use Rattle.resident_machine.specs.Dos.{plainly}
-use Rattle.resident_machine.specs.Effect.{Outcome, blurred, refused, is_zero, effect_of, plain_effect, completed}
+use Rattle.resident_machine.specs.Effect.{blurred, refused, is_zero, effect_of, plain_effect, completed}
 use Rattle.resident_machine.specs.Framed.{IsFramed}
 use Rattle.resident_machine.specs.Run.{Goes}
 use Rattle.resident_machine.specs.Standing.{HoldsCode, StandsFor}
-use Rattle.resident_machine.specs.State.{Record, ResidentState, Running, Service, NoService, AtCall}
-use Rattle.resident_machine.specs.Whole.{IsNamed}
+use Rattle.resident_machine.specs.State.{Record, ResidentState, Running, NoService, AtCall}
 use Rattle.resident_machine.proofs.TreeLaws.{stands_blurred}
 use Rattle.return_repair.specs.declared.table.Loaded.{Loaded}
 use Rattle.return_repair.specs.Follows.{overlay_at, none_met, topmost_into}
@@ -40,8 +39,7 @@ use Rattle.overlay_simulation.proofs.MirrorLaws.{bare, at_pair, Enters, stack_go
 use Rattle.overlay_simulation.proofs.OwnLaws.{unhalved}
 use Rattle.overlay_simulation.proofs.StepLaws.{none, IsAt, Comes, stays, stands_there, stands_by, alone}
 use Rattle.overlay_simulation.proofs.StubLaws.{bytes_from, stands_kept, stub_room}
-use Rattle.overlay_simulation.proofs.TableLaws.{stub_is, own_stubs, loaded_known}
-use Rattle.overlay_simulation.proofs.TargetLaws.{IsEntryOf, leads_through}
+use Rattle.overlay_simulation.proofs.TargetLaws.{leads_through}
 
 -- ## A far jump
 

@@ -1,9 +1,9 @@
 -- The instruction that stands at an entry of a stub.
-use Rattle.std.proofs.Common.{◌≡◌, ℕ, zero, suc, ◌+◌, ◌-◌, ◌*◌, ◌/◌, ◌%◌, ◌<◌, ◌≤◌, ◌==◌, Bool, true, false, List, [], ◌∷◌, ◌++◌, length, drop, refl, sym, ap, ap₂, ◌∙◌, subst, arith, MatchBool}
+use Rattle.std.proofs.Common.{◌≡◌, ℕ, zero, suc, ◌+◌, ◌-◌, ◌*◌, ◌/◌, ◌%◌, ◌<◌, ◌≤◌, ◌==◌, Bool, true, false, List, ◌∷◌, ◌++◌, length, drop, refl, sym, ap, ◌∙◌, subst, arith, MatchBool}
 use Rattle.std.specs.Prelude.{slice_index}
 use Rattle.x86_table.specs.declared.instr.Instr.TheVariants as instr
 use Rattle.x86_table.specs.Spelling.{spelling, word_bytes}
-use Rattle.cpu_8086.specs.Memory.{next_offset, word_of, load_byte, load_word}
+use Rattle.cpu_8086.specs.Memory.{next_offset, load_byte, load_word}
 use Rattle.overlay_file.specs.Stubs.{IsTrap, IsJump, IsEntry, entry_offset}
 use Rattle.overlay_manager.specs.Stubbing.{routine_at}
 use Rattle.resident_machine.specs.Cells.{Cells}

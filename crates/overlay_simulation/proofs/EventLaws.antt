@@ -1,5 +1,5 @@
 -- The event of an instruction that no service follows, on the machine with one memory.
-use Rattle.std.proofs.Common.{◌≡◌, ◌≢◌, ℕ, ◌+◌, ◌-◌, ◌%◌, ◌<◌, ◌==◌, Bool, true, false, List, [], ◌∷◌, ◌++◌, length, drop, get_or, Some, Ok, Err, refl, sym, ap, ◌∙◌, subst, arith, eq-eqb, eqb-true, length-append, length-drop}
+use Rattle.std.proofs.Common.{◌≡◌, ◌≢◌, ℕ, ◌+◌, ◌-◌, ◌%◌, ◌<◌, ◌==◌, Bool, true, false, List, ◌++◌, length, drop, get_or, Ok, Err, refl, sym, ap, ◌∙◌, subst, arith, eq-eqb, eqb-true, length-append, length-drop}
 use Rattle.std.specs.Prelude.{if◌then◌else◌, slice_index, slice_set}
 use Rattle.std.proofs.lemmas.List.{get_or-drop, get_or_append_left}
 use Rattle.x86_table.specs.declared.instr.Instr.{Instr}
@@ -7,7 +7,6 @@ use Rattle.x86_table.specs.Spelling.{spelling}
 use Rattle.cpu_8086.specs.declared.machine.Event.{Event}
 use Rattle.cpu_8086.specs.declared.machine.Event.TheVariants as events
 use Rattle.cpu_8086.specs.declared.process.Why.TheVariants as why
-use Rattle.cpu_8086.specs.declared.registers.Registers.{Registers}
 use Rattle.cpu_8086.specs.Access.{Act, Done, Read, Write, Copy, ReadCodeSegment, FarCall, FarReturn, FarJump, PushCodeSegment, Interrupt, DivideFault, on_memory}
 use Rattle.cpu_8086.specs.Memory.{load_byte}
 use Rattle.cpu_8086.specs.State.{State}
@@ -15,9 +14,9 @@ use Rattle.cpu_8086.specs.Step.{fetched, code_byte}
 use Rattle.cpu_8086.proofs.FetchLaws.{fetched_spells}
 use Rattle.resident_machine.specs.Program.{Segment, Image, Overlay, Program}
 use Rattle.resident_machine.specs.Astray.{Traps}
-use Rattle.resident_machine.specs.Cells.{Cell, Known, Cells, with_cell, free_then}
+use Rattle.resident_machine.specs.Cells.{Known, Cells, with_cell, free_then}
 use Rattle.resident_machine.specs.Dos.{plainly, stopped, dos_call}
-use Rattle.resident_machine.specs.Effect.{Outcome, with_memory, blurred, cleared, serviced, on_cells}
+use Rattle.resident_machine.specs.Effect.{with_memory, blurred, cleared, serviced, on_cells}
 use Rattle.resident_machine.specs.Standing.{PairWord, HoldsMemory, HoldsCode}
 use Rattle.resident_machine.specs.State.{ResidentState, Service, NoService, AtCall, AtReturn, AtClear}
 use Rattle.resident_machine.proofs.CellLaws.{known_ok, free_ok, moved_ok, stack_ok, ok_same}

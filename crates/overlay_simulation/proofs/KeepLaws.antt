@@ -1,9 +1,9 @@
 -- Overlays stand in memory as long as the bytes of code and of stubs stay.
-use Rattle.std.proofs.Common.{◌≡◌, ℕ, Bool, true, false, List, Option, Some, refl, sym, ap, ◌∙◌, arith}
+use Rattle.std.proofs.Common.{◌≡◌, ℕ, Bool, true, false, List, Some, sym, ap, ◌∙◌, arith}
 use Rattle.std.specs.Prelude.{slice_get, option_map}
 use Rattle.overlay_manager.specs.Manager.{Manager}
 use Rattle.overlay_manager.specs.Serves.{table_before}
-use Rattle.resident_machine.specs.Program.{Segment, Image, Overlay, OverlayCode, Program, code_of}
+use Rattle.resident_machine.specs.Program.{Segment, Overlay, OverlayCode, Program, code_of}
 use Rattle.resident_machine.specs.Cells.{Cells}
 use Rattle.resident_machine.specs.Standing.{HoldsCode}
 use Rattle.resident_machine.specs.State.{Record}

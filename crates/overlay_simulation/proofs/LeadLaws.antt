@@ -1,14 +1,14 @@
 -- Where a step led, and where it led in the program without overlays: the same bytes are kept, and the same flag is there.
-use Rattle.std.proofs.Common.{◌≡◌, ◌≢◌, ℕ, zero, suc, ◌<◌, ◌==◌, ◌||◌, Bool, true, false, List, refl, sym, ap, ◌∙◌, arith, ne_eqb}
+use Rattle.std.proofs.Common.{◌≡◌, ◌≢◌, ℕ, zero, suc, ◌<◌, ◌==◌, Bool, true, false, List, refl, sym, ap, ◌∙◌, arith, ne_eqb}
 use Rattle.std.specs.Prelude.{if◌then◌else◌}
 use Rattle.resident_machine.specs.Program.{Program}
-use Rattle.resident_machine.specs.Cells.{Cell, Kept, Cells, below, is_below, lost_if, with_lost}
+use Rattle.resident_machine.specs.Cells.{Kept, Cells, below, is_below, lost_if, with_lost}
 use Rattle.resident_machine.specs.Effect.{blurred, refused}
 use Rattle.resident_machine.specs.Framed.{IsFramed}
 use Rattle.resident_machine.specs.State.{ResidentState, Service, NoService, AtCall, AtReturn, AtClear}
 use Rattle.resident_machine.proofs.CellLaws.{with_lost-kept}
 use Rattle.return_repair.specs.declared.table.Loaded.{Loaded}
-use Rattle.overlay_simulation.proofs.MirrorLaws.{Mirrors, Returns, Enters, Leads}
+use Rattle.overlay_simulation.proofs.MirrorLaws.{Leads}
 
 -- a byte that isn't lost
 not_below : (n segment offset place : ℕ) → ((k : ℕ) → k < n → below segment offset k ≢ place) → is_below n segment offset place ≡ false

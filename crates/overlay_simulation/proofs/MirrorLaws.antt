@@ -1,26 +1,26 @@
 -- What an instruction makes of a resident state it makes of the state as a table shows it, in a program without overlays.
-use Rattle.std.proofs.Common.{◌≡◌, ℕ, ◌+◌, ◌%◌, ◌/◌, ◌==◌, Bool, true, false, List, [], ◌∷◌, length, Option, Some, None, Result, Ok, Err, refl, sym, ap, ◌∙◌, subst, eq-eqb}
+use Rattle.std.proofs.Common.{◌≡◌, ℕ, ◌+◌, ◌/◌, ◌==◌, Bool, true, false, List, [], ◌∷◌, length, Option, Some, None, Result, Ok, Err, refl, sym, ap, ◌∙◌, subst, eq-eqb}
 use Rattle.std.specs.Prelude.{IsTrue, if◌then◌else◌}
 use Rattle.cpu_8086.specs.declared.process.Why.{Why}
 use Rattle.cpu_8086.specs.declared.process.Why.TheVariants as why
 use Rattle.cpu_8086.specs.declared.registers.Far.{Far}
 use Rattle.cpu_8086.specs.declared.registers.Registers.{Registers}
-use Rattle.cpu_8086.specs.Access.{Act, Done, Read, Write, Copy, ReadCodeSegment, FarCall, FarReturn, FarJump, PushCodeSegment, Interrupt, DivideFault, raised, lowered, at_offset}
+use Rattle.cpu_8086.specs.Access.{Act, Done, Read, Write, Copy, ReadCodeSegment, FarCall, FarReturn, FarJump, PushCodeSegment, Interrupt, DivideFault, lowered, at_offset}
 use Rattle.cpu_8086.specs.Memory.{address, next_offset}
 use Rattle.resident_machine.specs.Program.{Segment, Image, Overlay, Program, Target, Into, Through, Nowhere, image_target, entry_target, target_by, routine_at, stub_owner, far_target}
 use Rattle.std.specs.Prelude.{slice_get}
-use Rattle.resident_machine.specs.Astray.{Astray, ReturnsElsewhere, Traps, LeadsNowhere, and_then}
+use Rattle.resident_machine.specs.Astray.{Astray, ReturnsElsewhere, Traps, and_then}
 use Rattle.resident_machine.specs.Cells.{Cell, Known, Unknown, Kept, Paired, Cells, with_cell, with_word, is_free, known_then, free_then, moved_then, paired_then, with_bytes}
 use Rattle.resident_machine.specs.Dos.{plainly, stopped, answered, bad_handle, said_bytes, to_output, to_errors, write_call, read_bytes, given, read_call, exit_call, dos_call}
-use Rattle.resident_machine.specs.Effect.{Outcome, with_memory, blurred, called, refused, refused_to, entered, called_to, far_call, taken_pair, returned, returned_into, far_return, jumped_to, half_pushed, cleared, serviced, stack_then, on_cells}
+use Rattle.resident_machine.specs.Effect.{Outcome, with_memory, blurred, called, refused, refused_to, entered, called_to, far_call, returned, returned_into, far_return, jumped_to, half_pushed, cleared, serviced, stack_then, on_cells}
 use Rattle.resident_machine.specs.State.{Record, ResidentState, Service, NoService, AtCall, AtReturn, AtClear}
 use Rattle.resident_machine.proofs.CellLaws.{known_ok, free_ok, moved_ok, and_then_ok, unless_ok, stack_ok, paired_ok, ok_same}
 use Rattle.resident_machine.proofs.TreeLaws.{no_stub}
 use Rattle.return_repair.specs.declared.table.Loaded.{Loaded}
 use Rattle.return_repair.specs.Follows.{overlay_at, met_too, topmost_into}
 use Rattle.return_repair.specs.Pairs.{shown_pair}
-use Rattle.overlay_simulation.specs.Laid.{with_pairs, laid}
-use Rattle.overlay_simulation.specs.Shown.{number_by, IsIn, items_of, pairs_by, shown_state}
+use Rattle.overlay_simulation.specs.Laid.{with_pairs}
+use Rattle.overlay_simulation.specs.Shown.{IsIn, items_of, pairs_by, shown_state}
 use Rattle.overlay_simulation.proofs.ShownLaws.{pair_by, met_past, HasOwnStubs, laid_record, laid_first, laid_in, SameTopmost, topmost_in}
 
 -- the program without overlays in which each segment names these bytes of code

@@ -1,5 +1,5 @@
 -- Where code and return pairs stand as they are named, nothing differs from the relation without overlays.
-use Rattle.std.proofs.Common.{◌≡◌, ℕ, ◌+◌, ◌%◌, Bool, List, [], ◌∷◌, refl, sym, ap, ap₂, ◌∙◌, subst}
+use Rattle.std.proofs.Common.{◌≡◌, ℕ, ◌+◌, ◌%◌, Bool, List, [], ◌∷◌, refl, sym, ap, ◌∙◌, subst}
 use Rattle.std.specs.List.{AllByRecursion}
 use Rattle.std.specs.Prelude.{slice_get, Some}
 use Rattle.cpu_8086.specs.Process as process
@@ -13,7 +13,7 @@ use Rattle.resident_machine.specs.State.{Record, ResidentStatus, Running, Ended,
 use Rattle.resident_machine.specs.Whole.{IsImage, IsOutside}
 use Rattle.return_repair.specs.declared.table.Loaded.{Loaded}
 use Rattle.return_repair.specs.Follows.{none_met}
-use Rattle.overlay_simulation.specs.Laid.{with_pairs, status_by, laid, StandsBy, named_pairs}
+use Rattle.overlay_simulation.specs.Laid.{with_pairs, status_by, StandsBy, named_pairs}
 use Rattle.overlay_simulation.specs.Matching.{HoldsOverlays, Matches}
 use Rattle.overlay_simulation.specs.Shown.{number_by, IsIn, pairs_by}
 use Rattle.overlay_simulation.proofs.ShownLaws.{pair_by, met_past, laid_record, laid_first}

@@ -1,30 +1,28 @@
 -- A framed state gives the chain, the places and the order that a service asks for.
-use Rattle.std.proofs.Common.{◌≡◌, ◌≢◌, ◌⊎◌, inl, inr, ℕ, zero, suc, ◌+◌, ◌*◌, ◌%◌, ◌<◌, ◌≤◌, ◌||◌, ◌&&◌, not, Bool, true, false, List, [], ◌∷◌, ◌++◌, length, map, Option, Some, Ok, refl, sym, ap, ap₂, ◌∙◌, subst, arith}
+use Rattle.std.proofs.Common.{◌≡◌, ◌≢◌, ◌⊎◌, inl, inr, ℕ, zero, suc, ◌+◌, ◌%◌, ◌<◌, ◌≤◌, ◌||◌, ◌&&◌, not, Bool, true, false, List, [], ◌∷◌, ◌++◌, map, Some, Ok, refl, sym, ap, ◌∙◌, subst, arith}
 use Rattle.std.specs.List.{AllByRecursion}
 use Rattle.std.specs.Prelude.{IsTrue, nat_le, slice_get}
 use Rattle.std.proofs.lemmas.Bool.Decides.{nat_tests}
-use Rattle.cpu_8086.specs.Memory.{address, next_offset, load_word}
+use Rattle.cpu_8086.specs.Memory.{address, next_offset}
 use Rattle.cpu_8086.specs.State.{State}
 use Rattle.frame_links.specs.Links.{Link, link_word, place_if, pair_places}
 use Rattle.overlay_file.specs.Stubs.{entry_offset}
-use Rattle.overlay_manager.specs.Manager.{Manager, next_stub}
+use Rattle.overlay_manager.specs.Manager.{Manager}
 use Rattle.overlay_manager.specs.Orderly as orderly
 use Rattle.overlay_manager.specs.Orderly.{stub_size, IsOffStubs, IsOffBuffer, StubsApart, AreApartStubs, FitsSegment, StubOffBuffer, EachPairByte, EachLinkByte, IsOrderlyFor}
 use Rattle.overlay_manager.specs.Serves.{table_before}
-use Rattle.resident_machine.specs.Cells.{Known, Kept, Paired, Cells, known_word}
+use Rattle.resident_machine.specs.Cells.{Known, Kept, Paired}
 use Rattle.resident_machine.specs.Framed.{AreLinks, IsFramed, places_of}
 use Rattle.resident_machine.specs.Program.{OverlayCode, Program}
-use Rattle.resident_machine.specs.State.{Record, ResidentState}
-use Rattle.resident_machine.specs.Whole.{offsets_of, half_offsets, ArePaired, IsWhole}
+use Rattle.resident_machine.specs.State.{ResidentState}
+use Rattle.resident_machine.specs.Whole.{offsets_of, ArePaired}
 use Rattle.return_repair.specs.declared.table.Loaded.{Loaded}
 use Rattle.return_repair.specs.Chain.{chain, chain_of, links_of, live_places, are_spaced, misses_links, are_clear}
-use Rattle.return_repair.specs.Follows.{overlay_at, ArePlaces, MissesPair, MissesStub, AreStubs, IsOrderly, word_bytes, pair_bytes, IsElsewhere}
+use Rattle.return_repair.specs.Follows.{ArePlaces, MissesPair, MissesStub, AreStubs, pair_bytes}
 use Rattle.overlay_simulation.specs.Layout.{IsReady}
-use Rattle.overlay_simulation.specs.Managing.{Manages}
-use Rattle.overlay_simulation.specs.Matching.{size_of, StubStands, HoldsOverlays, TellsApart}
+use Rattle.overlay_simulation.specs.Matching.{size_of}
 use Rattle.overlay_simulation.proofs.ChainLaws.{chain_found, spaced, next_small, word_known}
 use Rattle.overlay_simulation.proofs.PairLaws.{Fits, EachPaired, unhalved_pairs, all_places, places_apart, misses_all, places_fit}
-use Rattle.overlay_simulation.proofs.StubLaws.{stub_room}
 use Rattle.overlay_simulation.proofs.TableLaws.{entry_stub}
 
 -- ## Lists by their members

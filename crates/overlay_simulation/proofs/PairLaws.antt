@@ -1,13 +1,13 @@
 -- Return pairs as bytes: where they fit, they share none with one another, with links or with what is kept.
-use Rattle.std.proofs.Common.{◌≡◌, ◌≢◌, ◌⊎◌, inl, inr, ℕ, zero, suc, ◌+◌, ◌-◌, ◌%◌, ◌<◌, ◌≤◌, ◌||◌, ◌&&◌, Bool, true, false, List, [], ◌∷◌, ◌++◌, Option, Some, None, refl, sym, ap, ◌∙◌, subst, arith}
-use Rattle.std.specs.List.{AllByRecursion, list_all}
+use Rattle.std.proofs.Common.{◌≡◌, ◌⊎◌, inl, inr, ℕ, zero, suc, ◌+◌, ◌-◌, ◌%◌, ◌<◌, ◌≤◌, ◌||◌, Bool, true, false, List, [], ◌∷◌, ◌++◌, Some, refl, sym, ap, ◌∙◌, arith}
+use Rattle.std.specs.List.{AllByRecursion}
 use Rattle.std.specs.Prelude.{nat_le}
 use Rattle.std.proofs.lemmas.Bool.{cases_lt}
 use Rattle.std.proofs.lemmas.Bool.Decides.{nat_tests}
 use Rattle.cpu_8086.specs.Memory.{address, next_offset}
 use Rattle.frame_links.specs.Links.{Link, link_word, place_if, pair_place, pair_places, room_of, room_before}
-use Rattle.resident_machine.specs.Cells.{Cell, Known, Unknown, Kept, Paired, Cells, word_of_cells, known_word}
-use Rattle.resident_machine.specs.Framed.{IsLink, AreLinks, places_of}
+use Rattle.resident_machine.specs.Cells.{Known, Paired, Cells, known_word}
+use Rattle.resident_machine.specs.Framed.{AreLinks, places_of}
 use Rattle.resident_machine.specs.State.{Record}
 use Rattle.resident_machine.specs.Whole.{offsets_of, half_offsets, IsPaired, MissesOffset, ArePaired}
 use Rattle.return_repair.specs.Chain.{misses_link, misses_links}

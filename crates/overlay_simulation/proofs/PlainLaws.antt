@@ -1,5 +1,5 @@
 -- An event after which no service may follow takes a process that matches to one that matches.
-use Rattle.std.proofs.Common.{◌≡◌, ℕ, refl, sym, ap, ◌∙◌, subst}
+use Rattle.std.proofs.Common.{refl, subst}
 use Rattle.cpu_8086.specs.Process.{Process}
 use Rattle.overlay_manager.specs.Serves.{table_before}
 use Rattle.overlay_manager.specs.overlay_run.Managed.{Managed}

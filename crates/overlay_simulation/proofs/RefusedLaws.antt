@@ -1,6 +1,6 @@
 -- A call through a stub while no overlay is installed comes to the error routine.
-use Rattle.std.proofs.Common.{◌≡◌, ◌≢◌, ℕ, zero, suc, ◌+◌, ◌-◌, ◌*◌, ◌/◌, ◌%◌, ◌<◌, ◌≤◌, ◌==◌, ◌&&◌, not, Bool, true, false, cond, List, [], ◌∷◌, ◌++◌, length, drop, map, position, Option, MatchResult, Some, None, refl, sym, ap, ap₂, ◌∙◌, subst, arith, eq-eqb, ne_eqb, eqb-true, MatchBool}
-use Rattle.std.specs.Prelude.{if◌then◌else◌, slice_index, slice_get, nat_le, nat_lt}
+use Rattle.std.proofs.Common.{◌≡◌, ℕ, zero, suc, ◌+◌, ◌-◌, ◌*◌, ◌/◌, ◌%◌, ◌<◌, ◌≤◌, ◌==◌, not, Bool, true, false, cond, List, [], ◌∷◌, ◌++◌, length, drop, map, position, Option, MatchResult, Some, None, refl, sym, ap, ap₂, ◌∙◌, subst, arith, eq-eqb, ne_eqb, eqb-true, MatchBool}
+use Rattle.std.specs.Prelude.{if◌then◌else◌, slice_index, nat_le, nat_lt}
 use Rattle.std.specs.List.{position_or_len}
 use Rattle.std.proofs.lemmas.List.{length-map}
 use Rattle.std.proofs.lemmas.Bool.Decides.{nat_tests}
@@ -12,7 +12,6 @@ use Rattle.cpu_8086.specs.declared.machine.Event.{Event}
 use Rattle.cpu_8086.specs.declared.machine.Event.TheVariants as events
 use Rattle.cpu_8086.specs.declared.registers.Far.{Far}
 use Rattle.cpu_8086.specs.declared.registers.Registers.{Registers}
-use Rattle.cpu_8086.specs.Access.{at_offset}
 use Rattle.cpu_8086.specs.Effect.{act}
 use Rattle.cpu_8086.specs.Memory.{address, load_byte, load_word}
 use Rattle.cpu_8086.specs.Process.{Process}

@@ -1,11 +1,10 @@
 -- A far return into an overlay that is loaded is one event.
-use Rattle.std.proofs.Common.{◌≡◌, ℕ, Bool, false, List, refl, sym, ap, ◌∙◌, subst}
+use Rattle.std.proofs.Common.{◌≡◌, ℕ, false, List, refl, sym, ap, ◌∙◌, subst}
 use Rattle.cpu_8086.specs.declared.registers.Far.{Far}
 use Rattle.cpu_8086.specs.Process.{Process}
 use Rattle.overlay_manager.specs.Serves.{table_before}
 use Rattle.overlay_manager.specs.overlay_run.Managed.{Managed}
 use Rattle.resident_machine.specs.Program.{Segment, Image, Overlay, Program}
-use Rattle.resident_machine.specs.Effect.{blurred}
 use Rattle.resident_machine.specs.Framed.{IsFramed}
 use Rattle.resident_machine.specs.Run.{Goes}
 use Rattle.resident_machine.specs.Standing.{StandsFor}
@@ -17,7 +16,7 @@ use Rattle.return_repair.specs.Pairs.{is_out, shown_pair}
 use Rattle.overlay_simulation.specs.Laid.{with_pairs}
 use Rattle.overlay_simulation.specs.Matching.{Matches, TellsApart}
 use Rattle.overlay_simulation.specs.Plain.{GoesAlone}
-use Rattle.overlay_simulation.specs.Shown.{number_by, IsIn, items_of, pairs_by, shown_state}
+use Rattle.overlay_simulation.specs.Shown.{number_by, IsIn, items_of, shown_state}
 use Rattle.overlay_simulation.proofs.BeginLaws.{begun, begins, begins_alone, overlays_begun, flag_begun, stands_whole}
 use Rattle.overlay_simulation.proofs.LeadLaws.{framed_spares, return_flag}
 use Rattle.overlay_simulation.proofs.MirrorLaws.{bare, at_pair, Returns}

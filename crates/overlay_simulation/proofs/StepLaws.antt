@@ -1,5 +1,5 @@
 -- One event of a process that stands for a state of a program without overlays, and what it leaves of bytes that are kept.
-use Rattle.std.proofs.Common.{◌≡◌, ℕ, ◌<◌, ◌≤◌, ◌==◌, Bool, true, false, List, [], ◌++◌, length, drop, Option, Some, Ok, refl, sym, ap, ◌∙◌, subst, arith, eq-eqb, eqb-true}
+use Rattle.std.proofs.Common.{◌≡◌, ℕ, ◌==◌, Bool, true, false, List, [], ◌++◌, drop, Some, Ok, refl, sym, ap, ◌∙◌, subst, arith, eq-eqb, eqb-true}
 use Rattle.std.specs.Prelude.{if◌then◌else◌}
 use Rattle.x86_table.specs.declared.instr.Instr.{Instr}
 use Rattle.x86_table.specs.Spelling.{spelling}
@@ -10,7 +10,7 @@ use Rattle.cpu_8086.specs.Run as plain
 use Rattle.cpu_8086.specs.Step.{effect, fetched}
 use Rattle.cpu_8086.proofs.RunLaws.{goes_by, goes_deterministic}
 use Rattle.cpu_8086.proofs.StepLaws.{steps_by}
-use Rattle.resident_machine.specs.Program.{Segment, Image, Program, code_of}
+use Rattle.resident_machine.specs.Program.{Image, Program, code_of}
 use Rattle.resident_machine.specs.Cells.{Kept, Cells}
 use Rattle.resident_machine.specs.Effect.{effect_of}
 use Rattle.resident_machine.specs.Run.{Goes}

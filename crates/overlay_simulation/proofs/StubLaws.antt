@@ -1,9 +1,8 @@
 -- A stub stands where its bytes stand.
-use Rattle.std.proofs.Common.{◌≡◌, ℕ, zero, suc, ◌+◌, ◌*◌, ◌%◌, ◌<◌, ◌≤◌, ◌==◌, Bool, true, false, List, [], ◌∷◌, length, refl, sym, ap, ◌∙◌, subst, arith, MatchBool}
-use Rattle.std.specs.Prelude.{if◌then◌else◌, slice_index}
+use Rattle.std.proofs.Common.{◌≡◌, ℕ, zero, suc, ◌+◌, ◌<◌, ◌≤◌, List, [], ◌∷◌, length, refl, sym, ap, ◌∙◌, subst, arith}
+use Rattle.std.specs.Prelude.{slice_index}
 use Rattle.cpu_8086.specs.Memory.{address, next_offset, word_of, load_byte, load_word}
-use Rattle.overlay_file.specs.Stubs.{IsTrap, IsJump, IsEntry, AreZeros, AreEntries, IsStub, entry_offset}
-use Rattle.overlay_manager.specs.Stubbing.{routine_at}
+use Rattle.overlay_file.specs.Stubs.{entry_offset}
 use Rattle.overlay_manager.proofs.EntryLaws.{byte-is, routine-same}
 use Rattle.overlay_manager.proofs.ReadLaws.{stub-agrees}
 use Rattle.resident_machine.specs.Cells.{Kept, Cells}

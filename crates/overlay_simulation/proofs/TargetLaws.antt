@@ -1,11 +1,11 @@
 -- A far pointer that leads through a stub names one of its entries.
-use Rattle.std.proofs.Common.{◌≡◌, ℕ, ◌+◌, ◌-◌, ◌*◌, ◌/◌, ◌%◌, ◌≤◌, ◌==◌, ◌&&◌, Bool, true, false, List, Option, Some, None, refl, sym, ap, ◌∙◌, arith, eqb-true}
+use Rattle.std.proofs.Common.{◌≡◌, ℕ, ◌-◌, ◌/◌, ◌%◌, ◌≤◌, ◌==◌, ◌&&◌, Bool, true, false, List, Option, Some, None, refl, sym, ap, ◌∙◌, arith, eqb-true}
 use Rattle.std.specs.Prelude.{if◌then◌else◌, nat_le, slice_get}
 use Rattle.std.proofs.lemmas.Bool.Decides.{nat_tests}
 use Rattle.std.proofs.lemmas.List.Quantifiers.{position-Some}
 use Rattle.std.proofs.lemmas.Option.{get_or_from_slice_get}
 use Rattle.overlay_file.specs.Stubs.{entry_offset}
-use Rattle.resident_machine.specs.Program.{OverlayCode, Program, Target, Into, Through, Nowhere, image_target, entry_target, target_by, routine_at, entry_number, entry_of, stub_owner, far_target}
+use Rattle.resident_machine.specs.Program.{OverlayCode, Program, Through, image_target, entry_target, target_by, routine_at, entry_number, entry_of, stub_owner, far_target}
 
 pub record IsEntryOf (p : Program) (segment offset overlay routine : ℕ) : Type 0 where
   pub code : OverlayCode

@@ -1,5 +1,5 @@
 -- How stubs and the buffer lie in memory, and what a machine holds of a resident state whose return pairs a service looks for.
-use Rattle.std.specs.Prelude.{◌≡◌, ◌≢◌, ◌⊎◌, ℕ, ◌<◌, Bool, IsTrue, List, length, slice_index, slice_get, Some}
+use Rattle.std.specs.Prelude.{◌≡◌, ◌≢◌, ◌⊎◌, ℕ, ◌<◌, Bool, IsTrue, length, slice_index, slice_get, Some}
 use Rattle.cpu_8086.specs.Memory.{address}
 use Rattle.cpu_8086.specs.State.{State}
 use Rattle.overlay_manager.specs.Manager.{Manager}

@@ -1,7 +1,7 @@
 -- Events that have nothing to do with overlays.
-use Rattle.std.specs.Prelude.{◌≡◌, ◌≢◌, ℕ, List}
+use Rattle.std.specs.Prelude.{◌≡◌, ◌≢◌}
 use Rattle.cpu_8086.specs.declared.machine.Event.{Event}
-use Rattle.cpu_8086.specs.declared.machine.Event.TheVariants.{Ran, Service, Divide, Unknown}
+use Rattle.cpu_8086.specs.declared.machine.Event.TheVariants.{Service}
 use Rattle.cpu_8086.specs.State.{State}
 use Rattle.cpu_8086.specs.Process.{Process, Running, after_step}
 use Rattle.cpu_8086.specs.Step.{Steps}
