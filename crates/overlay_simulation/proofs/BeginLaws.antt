@@ -28,7 +28,7 @@ use Rattle.overlay_simulation.proofs.StubLaws.{bytes_from}
 use Rattle.overlay_simulation.proofs.TableLaws.{own_stubs, overlay_code}
 
 module _ (p : Program) (r t : ResidentState) (service : Service) (q : Managed) (told : TellsApart p (table_before q.manager)) (m : Matches p r q) (g : Goes p r t service)
-  (flags : (there : ResidentState) → Leads p (table_before q.manager) none_met r service t there → there.cells p.installed ≡ t.cells p.installed) where
+    (flags : (there : ResidentState) → Leads p (table_before q.manager) none_met r service t there → there.cells p.installed ≡ t.cells p.installed) where
   abbrev table : List Loaded
   table = table_before q.manager
 

@@ -108,6 +108,14 @@ effect_whole p r i w e kept = ap (λ (o : Outcome). and_then o (kept_installed p
 
 -- ## Effects
 
+-- a near call after PUSH CS
+completed_goes : (p : Program) (r : ResidentState) (i : Instr) (v w : ResidentState × Service) → is_near_call i ≡ true → plain_effect p r i ≡ Ok v → made_whole r (past i r.registers).ip v ≡ Ok w → completed p r i ≡ Ok w
+completed_goes p r i v w near goes made =
+    let whole : Outcome = and_then (plain_effect p r i) (made_whole r (past i r.registers).ip) in
+    let first : completed p r i ≡ whole = ap (λ (x : Bool). if x then whole else Err LeavesHalf) near in
+    let second : whole ≡ Ok w = ap (λ (o : Outcome). and_then o (made_whole r (past i r.registers).ip)) goes ∙ made in
+    first ∙ second
+
 module _ (p : Program) (bytes : ℕ → List ℕ) (table : List Loaded) (met : ℕ → Bool) (own : HasOwnStubs table) (r : ResidentState) (here : IsIn table r.cs) where
   abbrev seen : ResidentState
   seen = shown_state table met r
@@ -146,8 +154,7 @@ module _ (p : Program) (bytes : ℕ → List ℕ) (table : List Loaded) (met : �
           record {
             there = end.there;
             service = end.service;
-            goes = ap (λ (x : Bool). if x then and_then (plain_effect (bare p bytes) seen i) (made_whole seen ip) else Err LeavesHalf) near.0
-              ∙ (ap (λ (o : Outcome). and_then o (made_whole seen ip)) first.goes ∙ end.goes);
+            goes = completed_goes (bare p bytes) seen i (first.there, first.service) (end.there, end.service) near.0 first.goes end.goes;
             leads = end.leads;
           }
 

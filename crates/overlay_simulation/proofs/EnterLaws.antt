@@ -106,8 +106,7 @@ enters p r t q told m g framed =
     let half = l.half ∙ unhalved p r t AtCall g.instruction (effect_parts p r g.instruction (t, AtCall) g.result).0 (λ same. absurd (cc)) in
     let at : StandsFor (bare p none) (at_pair (record { offset = l.entry; segment = l.segment }) (shown_state table none_met l.through)) u = subst (λ (x : ResidentState). StandsFor (bare p none) x u) l.state h.stands in
     let here = subst (λ (n : ℕ). StandsFor (bare p none) (at_pair (record { offset = n; segment = e.code.stub }) (shown_state table none_met l.through)) u) e.place
-      (subst (λ (n : ℕ). StandsFor (bare p none) (at_pair (record { offset = l.entry; segment = n }) (shown_state table none_met l.through)) u) (sym e.stub) at) in
-    (
+    (subst (λ (n : ℕ). StandsFor (bare p none) (at_pair (record { offset = l.entry; segment = n }) (shown_state table none_met l.through)) u) (sym e.stub) at) in (
       u,
       begins_alone p r t AtCall q told m g flags (λ own. own),
       record {
@@ -127,7 +126,7 @@ enters p r t q told m g framed =
         stands = stands_blurred (bare p none) (at_entry table e.code e.number l.through) u here;
         image = image_begun p r t AtCall q told m g flags;
         overlays = overlays_begun p r t AtCall q told m g flags none_met (λ v out unmet.
-          ap (λ (xs : List Record). topmost_into table (overlay_at table v).stub (items_of xs)) (left_records p t l.through (l.flag == 0) l.left) ∙ l.topmost v out);
+            ap (λ (xs : List Record). topmost_into table (overlay_at table v).stub (items_of xs)) (left_records p t l.through (l.flag == 0) l.left) ∙ l.topmost v out);
         same_flag = sym (ap (λ (z : ResidentState). z.cells p.installed) l.state) ∙ flags h.there l;
         unset = flag_begun p r t AtCall q told m g flags;
       },

@@ -90,8 +90,8 @@ module _ (p : Program) (table : List Loaded) (told : TellsApart p table) where
   image_owner : (n : ℕ) → IsNamed p (Image n) → owner table n ≡ None
   image_owner n image =
       let none : (k : ℕ) → k < length table → has_segment n (overlay_at table k) ≡ false =
-          λ k lt. not_at n (overlay_at table k) (λ here same. (let is : Overlay k ≡ Image n = told.codes (Overlay k) (Image n) (named k lt) image here tt same in absurd (cc)))
-            (λ same. told.others k (known k lt).0 (Image n) (known k lt).1 image tt (sym (stub_known k lt) ∙ same)) in
+      λ k lt. not_at n (overlay_at table k) (λ here same. (let is : Overlay k ≡ Image n = told.codes (Overlay k) (Image n) (named k lt) image here tt same in absurd (cc)))
+      (λ same. told.others k (known k lt).0 (Image n) (known k lt).1 image tt (sym (stub_known k lt) ∙ same)) in
       let place = position_or_len_is (has_segment n) table (length table) no_overlay (omega arith) none (λ lt. absurd (omega arith)) in
       let outside : nat_lt (length table) (length table) ≡ false = grind (arith, nat_tests) in
       ap (λ (k : ℕ). cond (nat_lt k (length table)) (Some k) None) place ∙ rw outside refl

@@ -26,7 +26,7 @@ KeepsTopmost table met records others =
     (v : ℕ) → is_out (overlay_at table v) ≡ true → met (overlay_at table v).stub ≡ false → topmost_into table (overlay_at table v).stub (items_of others) ≡ topmost_into table (overlay_at table v).stub (items_of records)
 
 module _ (p : Program) (m : Manager) (told : TellsApart p (table_before m)) (met next : ℕ → Bool) (cells later : Cells) (records others : List Record) (memory after : List ℕ)
-  (h : HoldsOverlays p m met cells records memory) (stay : Stay p (table_before m) cells later memory after) where
+    (h : HoldsOverlays p m met cells records memory) (stay : Stay p (table_before m) cells later memory after) where
   stub_stays : (v : ℕ) (o : OverlayCode) → slice_get p.overlays v ≡ Some o → HoldsCode later after o.stub (bytes_from memory o.stub 0 (size_of o))
   stub_stays v o found =
       let stub = h.stubs v o found in

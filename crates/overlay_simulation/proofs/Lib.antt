@@ -22,3 +22,4 @@ pub mod PairLaws
 pub mod FoundLaws
 pub mod OrderLaws
 pub mod ReadyLaws
+pub mod LegalLaws

@@ -284,8 +284,8 @@ module _ (p : Program) (bytes : ℕ → List ℕ) (table : List Loaded) (met : �
       let leads : far_target (bare p bytes) segment offset ≡ Into segment offset = no_stub (bare p bytes) segment offset refl in
       carried (called_to (bare p bytes) seen g (with_word c1 g.ss second Paired) (Into segment offset)) (far_call (bare p bytes) seen g c (far_target (bare p bytes) segment offset)) w end
       (λ y goes. ap (far_call (bare p bytes) seen g c) leads
-        ∙ paired_goes c g.ss first (λ half. paired_then half g.ss second (λ all. called_to (bare p bytes) seen g all (Into segment offset))) y one.low one.high
-          (paired_goes c1 g.ss second (λ all. called_to (bare p bytes) seen g all (Into segment offset)) y two.low two.high goes))
+      ∙ paired_goes c g.ss first (λ half. paired_then half g.ss second (λ all. called_to (bare p bytes) seen g all (Into segment offset))) y one.low one.high
+      (paired_goes c1 g.ss second (λ all. called_to (bare p bytes) seen g all (Into segment offset)) y two.low two.high goes))
 
   -- the record is taken apart
   taken_mirrored : (g : Registers) (c : Cells) (dropped place : ℕ) (segment : Segment) (offset : ℕ) (others : List Record) (w : ResidentState × Service) → (place == g.sp) ≡ true → record { place = place; segment = segment; offset = offset } ∷ others ≡ r.records → returned_into segment (returned r g c dropped (record { place = place; segment = segment; offset = offset }) others) ≡ Ok w
@@ -373,7 +373,7 @@ module _ (p : Program) (bytes : ℕ → List ℕ) (table : List Loaded) (met : �
       let z = free_ok (c to) (on_cells p r next (with_cell c to (c from))) w x in
       carried (on_cells (bare p bytes) seen next (with_cell c to (c from))) (on_cells (bare p bytes) seen (Copy from to next) c) w (tree_mirrored next (with_cell c to (c from)) w z.1)
       (λ y goes. moved_goes (c from) (λ z. free_then (c to) (on_cells p r next (with_cell c to z))) (λ z. free_then (c to) (on_cells (bare p bytes) seen next (with_cell c to z))) w y e
-        (free_goes (c to) (on_cells (bare p bytes) seen next (with_cell c to (c from))) y z.0 goes))
+      (free_goes (c to) (on_cells (bare p bytes) seen next (with_cell c to (c from))) y z.0 goes))
   tree_mirrored (ReadCodeSegment next) c w e = absurd (cc)
   tree_mirrored (FarCall g segment offset) c w e =
       let x = stack_ok r g (far_call p r g c (far_target p segment offset)) w e in

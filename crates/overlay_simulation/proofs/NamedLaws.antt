@@ -27,7 +27,7 @@ renamed p r q cs other records others status later number words stands h = recor
   registers = h.registers;
   cs = h.cs ∙ number;
   memory = subst (λ (n : ℕ). HoldsMemory p r.registers.ss r.cells q.machine.memory (with_half r.half r.registers.sp n (words_of others))) number
-    (subst (λ (ws : List PairWord). HoldsMemory p r.registers.ss r.cells q.machine.memory (with_half r.half r.registers.sp (number_of cs) ws)) words h.memory);
+      (subst (λ (ws : List PairWord). HoldsMemory p r.registers.ss r.cells q.machine.memory (with_half r.half r.registers.sp (number_of cs) ws)) words h.memory);
   input = h.input;
   taken = h.taken;
   out = h.out;
@@ -66,7 +66,7 @@ status_none (Stopped segment offset why) = ap (λ (n : ℕ). process.Stopped n o
 -- a pair that leads into the image
 pair_words : (table : List Loaded) (met : ℕ → Bool) (place offset : ℕ) (segment : Segment) (ws : List PairWord) → IsImage segment
     → low_of (laid_record place (pair_by table met segment offset)) ∷ high_of (laid_record place (pair_by table met segment offset)) ∷ ws
-      ≡ record { offset = place; value = offset } ∷ record { offset = (place + 2) % 65536; value = number_of segment } ∷ ws
+    ≡ record { offset = place; value = offset } ∷ record { offset = (place + 2) % 65536; value = number_of segment } ∷ ws
 pair_words table met place offset (Image number) ws image = refl
 pair_words table met place offset (Overlay v) ws image = absurd image
 
@@ -108,7 +108,7 @@ module _ (p : Program) (r : ResidentState) (q : Managed) (none : p.overlays ≡ 
   pub stands_matches : q.manager.ring.seats ≡ [] → StandsFor p r q.process → Matches p r q
   stands_matches seats h = record {
     stands = subst (λ (table : List Loaded). StandsBy (number_by table) (pairs_by table none_met) p r q.process) (sym table_none)
-      (renamed p r q.process r.cs (Image (number_by [] r.cs)) r.records (with_pairs r.records (pairs_by [] none_met r.records)) r.status (status_by (number_by []) r.status) (sym (number_none r.cs)) (sym shown_none) (sym (status_none r.status)) h);
+        (renamed p r q.process r.cs (Image (number_by [] r.cs)) r.records (with_pairs r.records (pairs_by [] none_met r.records)) r.status (status_by (number_by []) r.status) (sym (number_none r.cs)) (sym shown_none) (sym (status_none r.status)) h);
     here = in_image (table_before q.manager) r.cs outside.cs;
     overlays = no_overlays;
     flag = λ unset. seats;

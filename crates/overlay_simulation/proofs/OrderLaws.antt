@@ -116,7 +116,7 @@ module _ (p : Program) (m : Manager) (met : ℕ → Bool) (kept : ℕ → Bool) 
 
   paired_off_stubs : (at : ℕ) → t.cells at ≡ Paired → IsOffStubs s.memory m.stubs at
   paired_off_stubs at pair = subst (λ (stubs : List ℕ). IsOffStubs s.memory stubs at) (sym ready.manages.stubs)
-    (all_stubs (λ (stub : ℕ). (k : ℕ) → k < stub_size s.memory stub → at ≢ address stub k) p.overlays
+      (all_stubs (λ (stub : ℕ). (k : ℕ) → k < stub_size s.memory stub → at ≢ address stub k) p.overlays
       (λ v o found k lt. pair_not_kept at (address o.stub k) pair (stub_kept v o found k (subst (λ (n : ℕ). k < n) (stub_count v o found) lt))))
 
   off_buffer : (at : ℕ) → (t.cells at ≡ Kept → ⊥) → IsOffBuffer m.ring.room at
@@ -161,7 +161,7 @@ module _ (p : Program) (m : Manager) (met : ℕ → Bool) (kept : ℕ → Bool) 
       pairs v l found =
           let o = entry_stub p (table_before m) ready.told v l found in
           each_place (MissesPair ss l) (λ place fits pair i j li lj. pair_not_kept (address ss (place + j)) (address l.stub (2 + i)) (pair j lj)
-            (ap (λ (stub : ℕ). t.cells (address stub (2 + i))) o.2 ∙ stub_kept v o.0 o.1 (2 + i) (omega arith)))
+          (ap (λ (stub : ℕ). t.cells (address stub (2 + i))) o.2 ∙ stub_kept v o.0 o.1 (2 + i) (omega arith)))
 
       stubs : (v w : ℕ) (a b : Loaded) → slice_get (table_before m) v ≡ Some a → slice_get (table_before m) w ≡ Some b → v < w → MissesStub a b
       stubs v w a b x y lt i j li lj same =
@@ -190,10 +190,10 @@ module _ (p : Program) (m : Manager) (met : ℕ → Bool) (kept : ℕ → Bool) 
     };
     stubs_fit = subst (AllByRecursion (FitsSegment s.memory)) (sym ready.manages.stubs) (all_stubs (FitsSegment s.memory) p.overlays (λ v o found. (ready.overlays.stubs v o found).is_stub.room));
     stubs_apart = subst (StubsApart s.memory) (sym ready.manages.stubs) (apart_stubs s.memory p.overlays (λ v w a b x y lt i j li lj. ready.apart.stubs v w a b x y lt i j
-      (subst (λ (n : ℕ). i < n) (stub_count v a x) li) (subst (λ (n : ℕ). j < n) (stub_count w b y) lj)));
+        (subst (λ (n : ℕ). i < n) (stub_count v a x) li) (subst (λ (n : ℕ). j < n) (stub_count w b y) lj)));
     pairs_off_stubs = at_places (EachPairByte (IsOffStubs s.memory m.stubs) ss) (each_byte (IsOffStubs s.memory m.stubs) paired_off_stubs);
     stubs_off_buffer = subst (AllByRecursion (StubOffBuffer m.ring.room s.memory)) (sym ready.manages.stubs) (all_stubs (StubOffBuffer m.ring.room s.memory) p.overlays
-      (λ v o found k lt. ready.apart.off_buffer v o found k (subst (λ (n : ℕ). k < n) (stub_count v o found) lt)));
+        (λ v o found k lt. ready.apart.off_buffer v o found k (subst (λ (n : ℕ). k < n) (stub_count v o found) lt)));
     pairs_off_buffer = at_places (EachPairByte (IsOffBuffer m.ring.room) ss) (each_byte (IsOffBuffer m.ring.room) paired_off_buffer);
     links_off_buffer = subst (λ links. EachLinkByte (IsOffBuffer m.ring.room) ss (links_of links)) (sym chain_is) (link_bytes f.links s.registers.bp links_are);
     word = next_small p.marked ss t.cells s.registers.bp f.links links_are;

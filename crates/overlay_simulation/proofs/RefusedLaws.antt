@@ -166,7 +166,7 @@ module _ (p : Program) (t : ResidentState) (q : Managed) (u : Process) (bytes : 
   trap_is : trap_of q.manager.stubs trapped ≡ Some (record { overlay = h.overlay; call = true })
   trap_is =
       let found : position (λ (z : ℕ). z == u.machine.cs) q.manager.stubs ≡ Some h.overlay =
-          ap₂ (λ (n : ℕ) (xs : List ℕ). position (λ (z : ℕ). z == n) xs) cs manages.stubs ∙ position_map p.overlays h.code.stub ∙ h.owner in
+      ap₂ (λ (n : ℕ) (xs : List ℕ). position (λ (z : ℕ). z == n) xs) cs manages.stubs ∙ position_map p.overlays h.code.stub ∙ h.owner in
       ap (trap_by trapped) found ∙ trap_there trapped h.overlay h.entry (length h.code.entries) place (ap (λ (n : ℕ). load_word memory n 12) cs ∙ stub.count) lt
 
   refused_is : is_refused q.manager.installed trapped (record { overlay = h.overlay; call = true }) ≡ true
@@ -183,7 +183,7 @@ module _ (p : Program) (t : ResidentState) (q : Managed) (u : Process) (bytes : 
     event = events.Service 63;
     steps = subst (λ (z : State × Event). Steps u.machine z.0 z.1) (int_effect u.machine 63) (steps_by u.machine (instr.Int 63) (fetched_here p x u (instr.Int 63) at).0 (fetched_here p x u (instr.Int 63) at).1);
     result = subst (λ (o : Option Trap). IsTrappedIn bytes called trapped sent o) (sym trap_is)
-      (subst (λ (b : Bool). MatchBool b (sent ≡ with_trap (goes_on called (manager.refused q.manager.error_routine trapped) q.manager))
+        (subst (λ (b : Bool). MatchBool b (sent ≡ with_trap (goes_on called (manager.refused q.manager.error_routine trapped) q.manager))
         (MatchResult (chain_of q.manager.marked trapped) (λ links. IsLoaded bytes called trapped (record { overlay = h.overlay; call = true }) sent) (λ bad. sent ≡ is_stopped called (why.BadChain bad) q.manager))) (sym refused_is) refl);
   }
 
@@ -199,7 +199,7 @@ module _ (p : Program) (t : ResidentState) (q : Managed) (u : Process) (bytes : 
         registers = ap (λ (g : Registers). record g { ip = q.manager.error_routine.offset; ax = 208 }) s.registers ∙ ap (λ (z : Far). record h.through.registers { ip = z.offset; ax = 208 }) manages.error_routine;
         cs = ap (λ (z : Far). z.segment) manages.error_routine;
         memory = unhalved_words p end.registers.ss end.registers.sp (number_of x.cs) (number_of (Image error.segment)) end.half end.cells memory (words_of (shown_state table none_met end).records) h.half
-          (held_by (bare p none) p end.registers.ss end.cells memory (pair_words x) s.memory (λ segment code named. subst (λ (c : Cells). HoldsCode c memory segment code) same_cells (h.image segment code named)));
+            (held_by (bare p none) p end.registers.ss end.cells memory (pair_words x) s.memory (λ segment code named. subst (λ (c : Cells). HoldsCode c memory segment code) same_cells (h.image segment code named)));
         input = s.input;
         taken = s.taken;
         out = s.out;

@@ -54,9 +54,9 @@ loaded_return p r t q told m g framed here =
         stands = stands_whole p r t AtReturn q told m g flags (shown_state table none_met t) refl stands;
         here = here;
         overlays = overlays_begun p r t AtReturn q told m g flags none_met (λ v out unmet.
-          ap (λ (z : ResidentState). topmost_into table (overlay_at table v).stub (items_of z.records)) l.left
-          ∙ sym (topmost_in table x l.back.records own loaded v out)
-          ∙ sym (ap (λ (xs : List Record). topmost_into table (overlay_at table v).stub (items_of xs)) l.taken));
+            ap (λ (z : ResidentState). topmost_into table (overlay_at table v).stub (items_of z.records)) l.left
+            ∙ sym (topmost_in table x l.back.records own loaded v out)
+            ∙ sym (ap (λ (xs : List Record). topmost_into table (overlay_at table v).stub (items_of xs)) l.taken));
         flag = flag_begun p r t AtReturn q told m g flags;
       },
     )

@@ -132,7 +132,7 @@ module _ (p : Program) (x : ResidentState) (q : Process) (i : Instr) (at : IsAt 
       let bytes : ℕ → List ℕ = blocks at.segment at.code b other in
       let to = comes bytes in
       let code : (segment : ℕ) (xs : List ℕ) → Some (bytes segment) ≡ Some xs → HoldsCode x.cells q.machine.memory segment xs =
-          λ segment xs is. (let same : bytes segment ≡ xs = cc in subst (λ (ys : List ℕ). HoldsCode x.cells q.machine.memory segment ys) same (held_blocks x.cells q.machine.memory at.segment b at.code other segment at.held held)) in
+      λ segment xs is. (let same : bytes segment ≡ xs = cc in subst (λ (ys : List ℕ). HoldsCode x.cells q.machine.memory segment ys) same (held_blocks x.cells q.machine.memory at.segment b at.code other segment at.held held)) in
       let stands = stands_by (bare p none) (bare p bytes) x q at.stands code in
       let named : code_of (bare p bytes) x.cs ≡ Some at.code = ap (code_of (bare p bytes)) at.cs ∙ ap Some (first_block at.segment b at.code other) in
       let goes : Goes (bare p bytes) x to.there to.follows = record { running = at.running; instruction = i; stands = record { code = at.code; named = named; rest = at.rest; spelled = at.spelled }; result = to.result } in

@@ -4,3 +4,4 @@ pub mod Matching
 pub mod Plain
 pub mod Managing
 pub mod Layout
+pub mod Segments

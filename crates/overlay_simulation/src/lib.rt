@@ -6,11 +6,14 @@ ghost use Rattle.std.specs.List.{AllByRecursion};
 ghost use Rattle.cpu_8086.specs.Process.{Process};
 ghost use Rattle.cpu_8086.specs.State.{State};
 ghost use Rattle.overlay_manager.specs.Kept.{IsFound, AreReturns};
-ghost use Rattle.overlay_manager.specs.Manager.{Manager};
+ghost use Rattle.overlay_manager.specs.Manager.{Manager, table_by};
 ghost use Rattle.overlay_manager.specs.Orderly as orderly;
 ghost use Rattle.overlay_manager.specs.Orderly.{IsOrderlyFor};
 ghost use Rattle.overlay_manager.specs.Serves.{table_before};
 ghost use Rattle.overlay_manager.specs.overlay_run.Managed.{Managed, ManagedGoes};
+ghost use Rattle.overlay_ring.specs.declared.seat.Seat.{Seat};
+ghost use Rattle.overlay_ring.specs.Seats.{table_of};
+ghost use Rattle.overlay_ring.specs.Table.{IsTable};
 ghost use Rattle.resident_machine.specs.Program.{Image, Overlay, Program};
 ghost use Rattle.resident_machine.specs.Framed.{IsFramed, places_of};
 ghost use Rattle.resident_machine.specs.Run.{Goes};
@@ -26,6 +29,7 @@ ghost use Rattle.overlay_simulation.specs.Layout.{IsReady, LieApart};
 ghost use Rattle.overlay_simulation.specs.Managing.{Manages};
 ghost use Rattle.overlay_simulation.specs.Matching.{Matches, TellsApart};
 ghost use Rattle.overlay_simulation.specs.Plain.{GoesAlone};
+ghost use Rattle.overlay_simulation.specs.Segments.{HasSegments};
 ghost use Rattle.overlay_simulation.specs.Shown.{IsIn, items_of};
 
 /// Where code and return pairs stand as they are named, a process stands for the same states as without overlays. Where there
@@ -74,4 +78,9 @@ pub fn framed_law()
 pub fn found_law()
     ensures found { (p : Program) (table : List Loaded) → TellsApart p table → IsFound table }
     ensures denoted { (p : Program) (table : List Loaded) (records : List Record) → TellsApart p table → AllByRecursion (IsReturn p) records → AreReturns table (items_of records) }
+{}
+
+/// Seats that lie inside the buffer without overlap make a table that tells apart what stands in memory.
+pub fn legal_law()
+    ensures { (p : Program) (m : Manager) (seats : List Seat) → Manages p m → HasSegments p m → IsTable m.ring.sizes m.ring.room (table_of seats) → TellsApart p (table_by m seats) }
 {}
