@@ -13,13 +13,14 @@ use Rattle.resident_machine.specs.Standing.{HoldsCode, StandsFor}
 use Rattle.resident_machine.specs.State.{ResidentState, Service}
 use Rattle.return_repair.specs.declared.table.Loaded.{Loaded}
 use Rattle.return_repair.specs.Follows.{none_met}
+use Rattle.return_repair.specs.Pairs.{saved_at}
 use Rattle.overlay_simulation.specs.Laid.{status_by}
 use Rattle.overlay_simulation.specs.Matching.{size_of, HoldsOverlays, Matches, TellsApart}
 use Rattle.overlay_simulation.specs.Plain.{IsOwn, GoesAlone}
 use Rattle.overlay_simulation.specs.Shown.{number_by, IsIn, shown_state}
 use Rattle.overlay_simulation.proofs.EffectLaws.{GoesSo, effect_mirrored, effect_parts, was_zero}
 use Rattle.overlay_simulation.proofs.EventLaws.{IsOwnBut}
-use Rattle.overlay_simulation.proofs.KeepLaws.{Stay, KeepsTopmost, overlays_stay}
+use Rattle.overlay_simulation.proofs.KeepLaws.{Stay, KeepsTopmost, overlays_stay, saved_stays}
 use Rattle.overlay_simulation.proofs.LeadLaws.{leads_keep}
 use Rattle.overlay_simulation.proofs.MirrorLaws.{bare, Leads}
 use Rattle.overlay_simulation.proofs.OwnLaws.{effect_own}
@@ -115,6 +116,9 @@ module _ (p : Program) (r t : ResidentState) (service : Service) (q : Managed) (
 
   pub overlays_begun : (met : ℕ → Bool) → KeepsTopmost table met r.records t.records → HoldsOverlays p q.manager met t.cells t.records begun.machine.memory
   overlays_begun met topmost = overlays_stay p q.manager told none_met met r.cells t.cells r.records t.records memory begun.machine.memory m.overlays stay_here (λ stub new. refl) topmost
+
+  pub saved_begun : (v : ℕ) (o : OverlayCode) → slice_get p.overlays v ≡ Some o → saved_at begun.machine.memory o.stub ≡ saved_at memory o.stub
+  saved_begun v o found = saved_stays p q.manager told none_met none_met r.cells t.cells r.records t.records memory begun.machine.memory m.overlays stay_here v o found
 
   pub flag_begun : t.cells p.installed ≡ Known 0 → q.manager.ring.seats ≡ []
   flag_begun unset = m.flag (was_zero (r.cells p.installed) (t.cells p.installed) (effect_parts p r i (t, service) g.result).1 unset)

@@ -21,7 +21,7 @@ use Rattle.resident_machine.specs.Effect.{blurred, refused, is_zero, effect_of, 
 use Rattle.resident_machine.specs.Framed.{IsFramed}
 use Rattle.resident_machine.specs.Run.{Goes}
 use Rattle.resident_machine.specs.Standing.{HoldsCode, StandsFor}
-use Rattle.resident_machine.specs.State.{Record, ResidentState, Running, NoService, AtCall}
+use Rattle.resident_machine.specs.State.{Record, ResidentState, NoService, AtCall}
 use Rattle.resident_machine.proofs.TreeLaws.{stands_blurred}
 use Rattle.return_repair.specs.declared.table.Loaded.{Loaded}
 use Rattle.return_repair.specs.Follows.{overlay_at, none_met, topmost_into}
@@ -29,15 +29,16 @@ use Rattle.return_repair.specs.Pairs.{is_out}
 use Rattle.overlay_simulation.specs.Laid.{status_by}
 use Rattle.overlay_simulation.specs.Matching.{size_of, StubStands, HoldsOverlays, Matches, TellsApart}
 use Rattle.overlay_simulation.specs.Plain.{IsOwn, GoesAlone}
-use Rattle.overlay_simulation.specs.Shown.{number_by, IsIn, items_of, shown_state}
-use Rattle.overlay_simulation.proofs.BeginLaws.{begun, begins, begins_alone, image_begun, overlays_begun, flag_begun}
+use Rattle.overlay_simulation.specs.Shown.{at_pair, number_by, IsIn, items_of, shown_state}
+use Rattle.overlay_simulation.specs.Trapping.{at_entry, AtEntry}
+use Rattle.overlay_simulation.proofs.BeginLaws.{begun, begins, begins_alone, overlays_begun, flag_begun, stands_whole}
 use Rattle.overlay_simulation.proofs.EffectLaws.{is_uninstalled, effect_parts, effect_whole}
 use Rattle.overlay_simulation.proofs.EntryLaws.{jumps}
 use Rattle.overlay_simulation.proofs.KeepLaws.{Stay, overlays_stay}
-use Rattle.overlay_simulation.proofs.LeadLaws.{framed_spares, call_flag}
-use Rattle.overlay_simulation.proofs.MirrorLaws.{bare, at_pair, Enters, stack_goes}
+use Rattle.overlay_simulation.proofs.LeadLaws.{called_cells, framed_spares, call_flag}
+use Rattle.overlay_simulation.proofs.MirrorLaws.{bare, Enters, stack_goes}
 use Rattle.overlay_simulation.proofs.OwnLaws.{unhalved}
-use Rattle.overlay_simulation.proofs.StepLaws.{none, IsAt, Comes, stays, stands_there, stands_by, alone}
+use Rattle.overlay_simulation.proofs.StepLaws.{none, IsAt, Comes, stays, stands_there, stands_by, stands_bare, alone}
 use Rattle.overlay_simulation.proofs.StubLaws.{bytes_from, stands_kept, stub_room}
 use Rattle.overlay_simulation.proofs.TargetLaws.{leads_through}
 
@@ -64,32 +65,6 @@ jump_goes p bytes x offset segment half =
     effect_whole (bare p bytes) x i (y, NoService) (ap (λ (b : Bool). if b then completed (bare p bytes) x i else plain_effect (bare p bytes) x i) half ∙ goes) (unchanged (x.cells p.installed))
 
 -- ## The entry that was called
-
--- A state that a call through a stub led to, seen from the stub's entry.
-abbrev pub at_entry : List Loaded → OverlayCode → ℕ → ResidentState → ResidentState
-at_entry table o e t = at_pair (record { offset = entry_offset e; segment = o.stub }) (shown_state table none_met t)
-
--- The process stands at an entry, for the state as the call led through it: `t` is that state or, where no overlay is
--- installed, the error routine's.
-pub record AtEntry (p : Program) (t : ResidentState) (q : Managed) (u : Process) : Type 0 where
-  pub through : ResidentState
-  pub overlay : ℕ
-  pub code : OverlayCode
-  pub found : slice_get p.overlays overlay ≡ Some code
-  pub entry : ℕ
-  pub owner : stub_owner p code.stub ≡ Some overlay
-  pub leads : slice_get code.entries entry ≡ Some through.registers.ip
-  pub cs : through.cs ≡ Overlay overlay
-  pub running : through.status ≡ Running
-  pub half : through.half ≡ false
-  pub flag : ℕ
-  pub known : through.cells p.installed ≡ Known flag
-  pub left : t ≡ blurred (if flag == 0 then refused p through else through)
-  pub stands : StandsFor (bare p none) (at_entry (table_before q.manager) code entry (blurred through)) u
-  pub image : (segment : ℕ) (bytes : List ℕ) → p.image segment ≡ Some bytes → HoldsCode t.cells u.machine.memory segment bytes
-  pub overlays : HoldsOverlays p q.manager none_met t.cells t.records u.machine.memory
-  pub same_flag : through.cells p.installed ≡ t.cells p.installed
-  pub unset : t.cells p.installed ≡ Known 0 → q.manager.ring.seats ≡ []
 
 left_records : (p : Program) (t through : ResidentState) (b : Bool) → t ≡ blurred (if b then refused p through else through) → t.records ≡ through.records
 left_records p t through true e = ap (λ (z : ResidentState). z.records) e
@@ -123,8 +98,8 @@ enters p r t q told m g framed =
         flag = l.flag;
         known = l.known;
         left = l.left;
-        stands = stands_blurred (bare p none) (at_entry table e.code e.number l.through) u here;
-        image = image_begun p r t AtCall q told m g flags;
+        stands = stands_whole p r t AtCall q told m g flags (at_entry table e.code e.number (blurred l.through)) (sym (called_cells p t l.through (l.flag == 0) l.left))
+            (stands_blurred (bare p none) (at_entry table e.code e.number l.through) u here);
         overlays = overlays_begun p r t AtCall q told m g flags none_met (λ v out unmet.
             ap (λ (xs : List Record). topmost_into table (overlay_at table v).stub (items_of xs)) (left_records p t l.through (l.flag == 0) l.left) ∙ l.topmost v out);
         same_flag = sym (ap (λ (z : ResidentState). z.cells p.installed) l.state) ∙ flags h.there l;
@@ -173,7 +148,7 @@ module _ (p : Program) (t : ResidentState) (q : Managed) (u : Process) (told : T
     segment = h.code.stub;
     cs = refl;
     running = ap (status_by (number_by table)) h.running;
-    stands = h.stands;
+    stands = stands_bare p p x u h.stands;
     code = stub_bytes;
     held = stands_kept back.cells memory h.code.stub (size_of h.code) (stub_room back.cells memory h.code load (next_stub q.manager.stubs q.manager.ring.seats h.overlay) stub) stub.kept;
     rest = jump.0;
@@ -214,9 +189,8 @@ module _ (p : Program) (t : ResidentState) (q : Managed) (u : Process) (told : T
   arrived : Matches p back (record q { process = jumped })
   arrived =
       let there = subst (λ (z : ResidentState). StandsFor (bare p none) z jumped) arrives (stands_there p x u (instr.JumpFar routine load) at back.cells comes) in
-      let image = subst (λ (z : ResidentState). (segment : ℕ) (bytes : List ℕ) → p.image segment ≡ Some bytes → HoldsCode z.cells memory segment bytes) left h.image in
       record {
-        stands = stands_by (bare p none) p (shown_state table none_met back) jumped there (λ segment code named. stay.code (Image segment) code named tt (image segment code named));
+        stands = stands_by (bare p none) p (shown_state table none_met back) jumped there (λ segment code named. stay.code (Image segment) code named tt (h.stands.memory.code segment code named));
         here = subst (IsIn table) (sym h.cs) loaded;
         overlays = overlays_stay p q.manager told none_met none_met back.cells back.cells back.records back.records memory jumped.machine.memory overlays stay (λ stub new. new) (λ v out unmet. refl);
         flag = subst (λ (z : ResidentState). z.cells p.installed ≡ Known 0 → q.manager.ring.seats ≡ []) left h.unset;

@@ -32,7 +32,7 @@ module _ (p : Program) (m : Manager) (told : TellsApart p (table_before m)) (met
       let stub = h.stubs v o found in
       stay.stub v o found (stands_kept cells memory o.stub (size_of o) (stub_room cells memory o _ _ stub) stub.kept)
 
-  saved_stays : (v : ℕ) (o : OverlayCode) → slice_get p.overlays v ≡ Some o → saved_at after o.stub ≡ saved_at memory o.stub
+  pub saved_stays : (v : ℕ) (o : OverlayCode) → slice_get p.overlays v ≡ Some o → saved_at after o.stub ≡ saved_at memory o.stub
   saved_stays v o found =
       let room = stub_room cells memory o _ _ (h.stubs v o found) in
       same_word memory after o.stub (size_of o) 2 (same_bytes later memory after o.stub (size_of o) (stub_stays v o found)) (omega arith) room

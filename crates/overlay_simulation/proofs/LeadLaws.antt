@@ -24,7 +24,7 @@ unfolding with_lost
 spared segment offset cells place apart = ap (λ (b : Bool). lost_if b (cells place)) (not_below 64 segment offset place apart)
 
 -- the cells behind a call through a stub
-called_cells : (p : Program) (t through : ResidentState) (b : Bool) → t ≡ blurred (if b then refused p through else through) → t.cells ≡ with_lost through.registers.ss through.registers.sp through.cells
+pub called_cells : (p : Program) (t through : ResidentState) (b : Bool) → t ≡ blurred (if b then refused p through else through) → t.cells ≡ with_lost through.registers.ss through.registers.sp through.cells
 called_cells p t through true e = ap (λ (z : ResidentState). z.cells) e
 called_cells p t through false e = ap (λ (z : ResidentState). z.cells) e
 

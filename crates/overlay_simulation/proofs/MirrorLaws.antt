@@ -20,16 +20,12 @@ use Rattle.return_repair.specs.declared.table.Loaded.{Loaded}
 use Rattle.return_repair.specs.Follows.{overlay_at, met_too, topmost_into}
 use Rattle.return_repair.specs.Pairs.{shown_pair}
 use Rattle.overlay_simulation.specs.Laid.{with_pairs}
-use Rattle.overlay_simulation.specs.Shown.{IsIn, items_of, pairs_by, shown_state}
+use Rattle.overlay_simulation.specs.Shown.{at_pair, IsIn, items_of, pairs_by, shown_state}
 use Rattle.overlay_simulation.proofs.ShownLaws.{pair_by, met_past, HasOwnStubs, laid_record, laid_first, laid_in, SameTopmost, topmost_in}
 
 -- the program without overlays in which each segment names these bytes of code
 abbrev pub bare : Program → (ℕ → List ℕ) → Program
 bare p bytes = record p { image = λ segment. Some (bytes segment); overlays = [] }
-
--- control stands where a pair leads
-abbrev pub at_pair : Far → ResidentState → ResidentState
-at_pair pair t = record t { registers = at_offset t.registers pair.offset; cs = Image pair.segment }
 
 -- ## Where steps lead
 

@@ -30,7 +30,7 @@ use Rattle.resident_machine.specs.Cells.{Known, Cells}
 use Rattle.resident_machine.specs.Effect.{blurred, refused}
 use Rattle.resident_machine.specs.Framed.{IsFramed}
 use Rattle.resident_machine.specs.Run.{Goes}
-use Rattle.resident_machine.specs.Standing.{number_of, PairWord, words_of, with_half, pair_words, HoldsCode, HoldsMemory, StandsFor}
+use Rattle.resident_machine.specs.Standing.{number_of, PairWord, words_of, with_half, HoldsCode, HoldsMemory, StandsFor}
 use Rattle.resident_machine.specs.State.{ResidentState, AtCall}
 use Rattle.return_repair.specs.declared.table.Loaded.{Loaded}
 use Rattle.return_repair.specs.Chain.{chain_of}
@@ -40,10 +40,10 @@ use Rattle.overlay_simulation.specs.Managing.{Manages}
 use Rattle.overlay_simulation.specs.Matching.{size_of, StubStands, Matches, TellsApart}
 use Rattle.overlay_simulation.specs.Plain.{GoesAlone}
 use Rattle.overlay_simulation.specs.Shown.{number_by, IsIn, shown_state}
-use Rattle.overlay_simulation.proofs.EnterLaws.{AtEntry, at_entry, enters}
+use Rattle.overlay_simulation.specs.Trapping.{at_entry, AtEntry}
+use Rattle.overlay_simulation.proofs.EnterLaws.{enters}
 use Rattle.overlay_simulation.proofs.EntryLaws.{traps}
-use Rattle.overlay_simulation.proofs.MirrorLaws.{bare}
-use Rattle.overlay_simulation.proofs.StepLaws.{none, IsAt, fetched_here, running, held_by}
+use Rattle.overlay_simulation.proofs.StepLaws.{none, IsAt, fetched_here, running, stands_bare}
 use Rattle.overlay_simulation.proofs.StubLaws.{bytes_from, stands_kept, stub_room}
 
 -- ## No overlay is loaded
@@ -138,7 +138,7 @@ module _ (p : Program) (t : ResidentState) (q : Managed) (u : Process) (bytes : 
     segment = h.code.stub;
     cs = refl;
     running = ap (status_by (number_by table)) h.running;
-    stands = h.stands;
+    stands = stands_bare p p x u h.stands;
     code = stub_bytes;
     held = subst (λ (c : Cells). HoldsCode c memory h.code.stub stub_bytes) same_cells (stands_kept t.cells memory h.code.stub (size_of h.code) room stub.kept);
     rest = trap_spelled.0;
@@ -199,7 +199,7 @@ module _ (p : Program) (t : ResidentState) (q : Managed) (u : Process) (bytes : 
         registers = ap (λ (g : Registers). record g { ip = q.manager.error_routine.offset; ax = 208 }) s.registers ∙ ap (λ (z : Far). record h.through.registers { ip = z.offset; ax = 208 }) manages.error_routine;
         cs = ap (λ (z : Far). z.segment) manages.error_routine;
         memory = unhalved_words p end.registers.ss end.registers.sp (number_of x.cs) (number_of (Image error.segment)) end.half end.cells memory (words_of (shown_state table none_met end).records) h.half
-            (held_by (bare p none) p end.registers.ss end.cells memory (pair_words x) s.memory (λ segment code named. subst (λ (c : Cells). HoldsCode c memory segment code) same_cells (h.image segment code named)));
+            s.memory;
         input = s.input;
         taken = s.taken;
         out = s.out;

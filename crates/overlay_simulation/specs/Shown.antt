@@ -1,6 +1,7 @@
 -- A resident state as a table of overlays shows it: where their code stands, and how return pairs into them do.
 use Rattle.std.specs.Prelude.{◌≡◌, ℕ, Bool, false, List, [], ◌∷◌}
 use Rattle.cpu_8086.specs.declared.registers.Far.{Far}
+use Rattle.cpu_8086.specs.Access.{at_offset}
 use Rattle.resident_machine.specs.Program.{Segment, Image, Overlay}
 use Rattle.resident_machine.specs.State.{Record, ResidentState}
 use Rattle.return_repair.specs.declared.table.Loaded.{Loaded}
@@ -34,3 +35,7 @@ pairs_by table met records = shown table met (items_of records)
 
 abbrev pub shown_state : List Loaded → (ℕ → Bool) → ResidentState → ResidentState
 shown_state table met r = laid (number_by table) (pairs_by table met) r
+
+-- control stands where a pair leads
+abbrev pub at_pair : Far → ResidentState → ResidentState
+at_pair pair t = record t { registers = at_offset t.registers pair.offset; cs = Image pair.segment }

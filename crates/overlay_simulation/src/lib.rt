@@ -19,7 +19,7 @@ ghost use Rattle.resident_machine.specs.Framed.{IsFramed, places_of};
 ghost use Rattle.resident_machine.specs.Run.{Goes};
 ghost use Rattle.resident_machine.specs.Standing.{number_of, StandsFor};
 ghost use Rattle.resident_machine.specs.State.{Record, ResidentState, NoService, AtCall, AtReturn};
-ghost use Rattle.resident_machine.specs.Whole.{IsOutside, IsReturn, IsWhole};
+ghost use Rattle.resident_machine.specs.Whole.{IsNamed, IsOutside, IsReturn, IsWhole};
 ghost use Rattle.return_repair.specs.declared.table.Loaded.{Loaded};
 ghost use Rattle.return_repair.specs.Chain.{chain_of};
 ghost use Rattle.return_repair.specs.Follows.{none_met, overlay_at};
@@ -31,6 +31,7 @@ ghost use Rattle.overlay_simulation.specs.Matching.{Matches, TellsApart};
 ghost use Rattle.overlay_simulation.specs.Plain.{GoesAlone};
 ghost use Rattle.overlay_simulation.specs.Segments.{HasSegments};
 ghost use Rattle.overlay_simulation.specs.Shown.{IsIn, items_of};
+ghost use Rattle.overlay_simulation.specs.Trapping.{AtBegin, AtEntry};
 
 /// Where code and return pairs stand as they are named, a process stands for the same states as without overlays. Where there
 /// are no overlays, it matches the states that it stands for, and no others.
@@ -83,4 +84,11 @@ pub fn found_law()
 /// Seats that lie inside the buffer without overlap make a table that tells apart what stands in memory.
 pub fn legal_law()
     ensures { (p : Program) (m : Manager) (seats : List Seat) → Manages p m → HasSegments p m → IsTable m.ring.sizes m.ring.room (table_of seats) → TellsApart p (table_by m seats) }
+{}
+
+/// A call through a stub is one event up to the stub's entry, whether the overlay is loaded or not, and a far return into an overlay that is out is
+/// one up to the begin of its stub, which saves the offset where the return goes on.
+pub fn stub_law()
+    ensures call { (p : Program) (r : ResidentState) (t : ResidentState) (q : Managed) → TellsApart p (table_before q.manager) → Matches p r q → Goes p r t AtCall → IsFramed p true t → (u : Process) × GoesAlone q.process u × AtEntry p t q u }
+    ensures back { (p : Program) (r : ResidentState) (t : ResidentState) (q : Managed) (v : ℕ) → TellsApart p (table_before q.manager) → Matches p r q → Goes p r t AtReturn → IsFramed p false t → t.cs ≡ Overlay v → is_out (overlay_at (table_before q.manager) v) ≡ true → IsNamed p (Overlay v) → (u : Process) × GoesAlone q.process u × AtBegin p t q u }
 {}
