@@ -1,0 +1,14 @@
+pub mod Parts
+pub mod Frames
+pub mod Depths
+pub mod HomeLaws
+pub mod Variables
+pub mod Tables
+pub mod Layouts
+pub mod Before
+pub mod LiteralSteps
+pub mod KindTurns
+pub mod NamePlaces
+pub mod Reached
+pub mod SortParts
+pub mod SortLaws

@@ -1,0 +1,10 @@
+pub mod Parts
+pub mod Frames
+pub mod Placed
+pub mod Data
+pub mod Sorts
+pub mod Scenes
+pub mod Shapes
+pub mod Reaches
+pub mod Kinds
+pub mod Laws

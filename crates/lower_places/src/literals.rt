@@ -1,8 +1,16 @@
 //! How many literals trees have: a string or a set each, in the order in which the trees name them.
 
+ghost use Rattle.std.specs.Prelude.{◌≡◌, map};
+ghost use Rattle.std.specs.Option.{option_map};
+ghost use Rattle.typed_tree.specs.Expressions.{NoElements, NoArguments, view_expr, view_place, view_receiver, view_element, view_elements, view_arg, view_args, view_boxed};
+ghost use Rattle.typed_tree.specs.Statements.{view_stmt, view_stmts, view_arms, view_written, view_taken};
+ghost use Rattle.lower_places.specs.Data.{counted, literals_of_value, literals_of, literals_of_place, literals_of_receiver, literals_of_elements, literals_of_arguments, literals_of_width, literals_of_written, literals_of_taken, literals_in, literals_in_all, literals_in_arms};
+
 use typed_tree::{Arg, Arm, Expr, PlaceExpr, ReadItem, SetElement, Stmt, Value, WriteItem};
 
-fn literals_of_value(value: &Value) -> u32 {
+fn literals_of_value(value: &Value) -> u32
+    ensures { result ≡ counted (literals_of_value value.now) }
+{
     match value {
         Value::Number(_) | Value::Nil => 0,
         Value::Chars(_) | Value::Elements(_) => 1,
@@ -11,7 +19,9 @@ fn literals_of_value(value: &Value) -> u32 {
 
 /// The literals of an expression.
 #[cycle(literals)]
-pub fn literals_of_expr(expr: &Expr) -> u32 {
+pub fn literals_of_expr(expr: &Expr) -> u32
+    ensures { result ≡ counted (literals_of (view_expr expr.now)) }
+{
     match expr {
         Expr::Const { value, .. } => literals_of_value(value),
         Expr::RoutineValue { .. } => 0,
@@ -31,13 +41,16 @@ pub fn literals_of_expr(expr: &Expr) -> u32 {
         Expr::CallThrough { place, args, .. } => {
             literals_of_place(place).saturating_add(literals_of_args(args.as_slice()))
         }
-        Expr::Std { args, .. } | Expr::Make { args, .. } => literals_of_args(args.as_slice()),
+        Expr::Std { args, .. } => literals_of_args(args.as_slice()),
+        Expr::Make { args, .. } => literals_of_args(args.as_slice()),
     }
 }
 
 /// The literals of a place.
 #[cycle(literals)]
-pub fn literals_of_place(place: &PlaceExpr) -> u32 {
+pub fn literals_of_place(place: &PlaceExpr) -> u32
+    ensures { result ≡ counted (literals_of_place (view_place place.now)) }
+{
     match place {
         PlaceExpr::Var(_) => 0,
         PlaceExpr::Deref { pointer } => literals_of_expr(pointer),
@@ -50,7 +63,9 @@ pub fn literals_of_place(place: &PlaceExpr) -> u32 {
 
 /// The literals of an instance, if there is one.
 #[cycle(literals)]
-pub fn literals_of_receiver(own: &Option<Box<PlaceExpr>>) -> u32 {
+pub fn literals_of_receiver(own: &Option<Box<PlaceExpr>>) -> u32
+    ensures { result ≡ counted (literals_of_receiver (view_receiver own.now)) }
+{
     match own {
         None => 0,
         Some(place) => literals_of_place(place),
@@ -59,7 +74,9 @@ pub fn literals_of_receiver(own: &Option<Box<PlaceExpr>>) -> u32 {
 
 /// The literals of what a set constructor lists.
 #[cycle(literals)]
-pub fn literals_of_element(element: &SetElement) -> u32 {
+pub fn literals_of_element(element: &SetElement) -> u32
+    ensures { result ≡ counted (literals_of_elements (view_element element.now NoElements)) }
+{
     match element {
         SetElement::One(one) => literals_of_expr(one),
         SetElement::Span(low, high) => {
@@ -69,7 +86,10 @@ pub fn literals_of_element(element: &SetElement) -> u32 {
 }
 
 #[cycle(literals)]
-fn literals_of_elements(elements: &[SetElement]) -> u32 {
+#[tactic(auto, using(crate::proofs::LiteralSteps::element_step))]
+fn literals_of_elements(elements: &[SetElement]) -> u32
+    ensures { result ≡ counted (literals_of_elements (view_elements elements.now)) }
+{
     let mut sum = 0u32;
     for element in elements {
         sum = sum.saturating_add(literals_of_element(element));
@@ -79,7 +99,9 @@ fn literals_of_elements(elements: &[SetElement]) -> u32 {
 
 /// The literals of an argument.
 #[cycle(literals)]
-pub fn literals_of_arg(arg: &Arg) -> u32 {
+pub fn literals_of_arg(arg: &Arg) -> u32
+    ensures { result ≡ counted (literals_of_arguments (view_arg arg.now NoArguments)) }
+{
     match arg {
         Arg::Value(value) => literals_of_expr(value),
         Arg::Place(place) => literals_of_place(place),
@@ -88,7 +110,10 @@ pub fn literals_of_arg(arg: &Arg) -> u32 {
 
 /// The literals of arguments.
 #[cycle(literals)]
-pub fn literals_of_args(args: &[Arg]) -> u32 {
+#[tactic(auto, using(crate::proofs::LiteralSteps::arg_step))]
+pub fn literals_of_args(args: &[Arg]) -> u32
+    ensures { result ≡ counted (literals_of_arguments (view_args args.now)) }
+{
     let mut sum = 0u32;
     for arg in args {
         sum = sum.saturating_add(literals_of_arg(arg));
@@ -96,14 +121,18 @@ pub fn literals_of_args(args: &[Arg]) -> u32 {
     sum
 }
 
-fn literals_of_width(width: &Option<Box<Expr>>) -> u32 {
+fn literals_of_width(width: &Option<Box<Expr>>) -> u32
+    ensures { result ≡ counted (literals_of_width (option_map view_boxed width.now)) }
+{
     match width {
         None => 0,
         Some(width) => literals_of_expr(width),
     }
 }
 
-fn literals_of_written(items: &[WriteItem]) -> u32 {
+fn literals_of_written(items: &[WriteItem]) -> u32
+    ensures { result ≡ counted (literals_of_written (map view_written items.now)) }
+{
     let mut sum = 0u32;
     for item in items {
         sum = sum
@@ -113,7 +142,9 @@ fn literals_of_written(items: &[WriteItem]) -> u32 {
     sum
 }
 
-fn literals_of_taken(items: &[ReadItem]) -> u32 {
+fn literals_of_taken(items: &[ReadItem]) -> u32
+    ensures { result ≡ counted (literals_of_taken (map view_taken items.now)) }
+{
     let mut sum = 0u32;
     for item in items {
         sum = sum.saturating_add(literals_of_place(&item.place));
@@ -123,7 +154,9 @@ fn literals_of_taken(items: &[ReadItem]) -> u32 {
 
 /// The literals of a statement.
 #[cycle(statement_literals)]
-pub fn literals_of_stmt(stmt: &Stmt) -> u32 {
+pub fn literals_of_stmt(stmt: &Stmt) -> u32
+    ensures { result ≡ counted (literals_in (view_stmt stmt.now)) }
+{
     match stmt {
         Stmt::Assign { place, value } => {
             literals_of_place(place).saturating_add(literals_of_expr(value))
@@ -172,7 +205,9 @@ pub fn literals_of_stmt(stmt: &Stmt) -> u32 {
 }
 
 #[cycle(statement_literals)]
-fn literals_of_stmts(statements: &[Stmt]) -> u32 {
+fn literals_of_stmts(statements: &[Stmt]) -> u32
+    ensures { result ≡ counted (literals_in_all (view_stmts statements.now)) }
+{
     let mut sum = 0u32;
     for stmt in statements {
         sum = sum.saturating_add(literals_of_stmt(stmt));
@@ -181,7 +216,9 @@ fn literals_of_stmts(statements: &[Stmt]) -> u32 {
 }
 
 #[cycle(statement_literals)]
-fn literals_of_arms(arms: &[Arm]) -> u32 {
+fn literals_of_arms(arms: &[Arm]) -> u32
+    ensures { result ≡ counted (literals_in_arms (view_arms arms.now)) }
+{
     let mut sum = 0u32;
     for arm in arms {
         sum = sum.saturating_add(literals_of_stmt(&arm.body));

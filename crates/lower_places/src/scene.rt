@@ -1,5 +1,7 @@
 //! What a body is lowered in.
 
+ghost use Rattle.std.specs.Prelude.{◌≡◌, ◌+◌, ◌-◌, ◌^◌, min};
+
 use crate::sorts::Sort;
 use object_vmt::Classes;
 use std::alloc::Global;
@@ -47,7 +49,9 @@ pub struct Spot {
 
 impl Spot {
     /// Behind so many further bytes of the evaluation stack.
-    pub fn above(self, bytes: u32) -> Spot {
+    pub fn above(self, bytes: u32) -> Spot
+        ensures { result ≡ record self { slot = min (self.slot + bytes) (2 ^ 32 - 1) } }
+    {
         Spot {
             slot: self.slot.saturating_add(bytes),
             literal: self.literal,
@@ -55,7 +59,9 @@ impl Spot {
     }
 
     /// Behind so many further literals.
-    pub fn after(self, literals: u32) -> Spot {
+    pub fn after(self, literals: u32) -> Spot
+        ensures { result ≡ record self { literal = min (self.literal + literals) (2 ^ 32 - 1) } }
+    {
         Spot {
             slot: self.slot,
             literal: self.literal.saturating_add(literals),

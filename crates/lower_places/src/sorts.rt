@@ -1,13 +1,22 @@
 //! The types of places, and how values of them are stored.
 
-use crate::records::type_of_variable;
+ghost use Rattle.std.specs.Prelude.{◌≡◌, ◌-◌, ◌≤◌, Some, IfOk, OnOk, option_and_then, slice_get};
+ghost use Rattle.std.specs.Option.{option_map};
+ghost use Rattle.type_layout.specs.Layouts.{bounds_at, layout_at, offset_of};
+ghost use Rattle.typed_tree.specs.Expressions.{view_expr, view_place, type_of};
+ghost use Rattle.tp_meaning.specs.Programs.{Sort as TypeInTable, definition, beside, size_in, sort_in, key_of};
+ghost use Rattle.tp_meaning.specs.Activations.{first_held};
+ghost use Rattle.lower_places.specs.Sorts.{sort_of_number, held_sort_or, sort_of_variable, target_sort, element_sort, field_sort, sort_of_place};
+ghost use Rattle.lower_places.specs.Scenes.{HeldPlace, view_sort, view_held, view_scene, sort_among, surroundings_in};
+ghost use Rattle.lower_places.specs.Shapes.{shape_of, holds_class, index_bounds, slot_kind};
+
+use crate::homes::type_of_variable;
 use crate::scene::{FIRST_HELD, Held, Scene};
+use crate::shapes::{bounds_at, class_at, field_type, holds_class, shape_of};
+use crate::sizes::size_at;
 use object_vmt::Classes;
 use std::alloc::AllocError;
-use type_layout::{
-    Fields, Host, Kind, TypeDef, TypeId, Types, class_field_of, has_field, offset_of, size_of,
-    storage_of,
-};
+use type_layout::{Host, Kind, TypeDef, TypeId, Types, has_field, offset_of};
 use typed_tree::{Expr, PlaceExpr, Routine, Variable};
 
 /// How values of a type are stored.
@@ -39,101 +48,11 @@ pub enum Sort<'a> {
     },
 }
 
-/// The bytes of a value of a type, 0 of one that isn't there.
-pub fn size_at(types: &Types, ty: TypeId) -> u32 {
-    if ty.0 < types.count() {
-        size_of(types, ty)
-    } else {
-        0
-    }
-}
-
-fn bounds_at(types: &Types, ty: TypeId) -> (i32, i32) {
-    if ty.0 >= types.count() {
-        return (0, 0);
-    }
-    match types.get(ty) {
-        TypeDef::Ordinal { low, high, .. } => (*low, *high),
-        _ => (0, 0),
-    }
-}
-
-fn whole_of(types: &Types, ty: TypeId) -> Shape {
-    Shape::Whole {
-        size: (size_at(types, ty) % 0x1_0000) as u16,
-        class: class_at(types, ty),
-    }
-}
-
-// Where instances of a type say their class.
-fn class_at(types: &Types, ty: TypeId) -> Option<u16> {
-    if ty.0 < types.count() {
-        class_field_of(types, ty).map(|at| (at % 0x1_0000) as u16)
-    } else {
-        None
-    }
-}
-
-fn set_of(types: &Types, ty: TypeId, base: TypeId) -> Shape {
-    let (low, _) = bounds_at(types, base);
-    Shape::Set {
-        first: (low.unsigned_abs() / 8 % 32) as u16,
-        bytes: (size_at(types, ty) % 0x1_0000) as u16,
-    }
-}
-
-/// How values of a type are stored, if the table has it.
-pub fn shape_of(types: &Types, ty: TypeId) -> Option<Shape> {
-    if ty.0 >= types.count() {
-        return None;
-    }
-    Some(match types.get(ty) {
-        TypeDef::Ordinal { host, low, high } => Shape::Number {
-            host: storage_of(*host, *low, *high),
-            low: *low,
-            high: *high,
-        },
-        TypeDef::Str { max } => Shape::Text { max: *max },
-        TypeDef::SetOf { base } => set_of(types, ty, *base),
-        TypeDef::PointerTo { .. } | TypeDef::Procedural { .. } => Shape::Far,
-        TypeDef::ArrayOf { .. } | TypeDef::RecordOf { .. } | TypeDef::ObjectOf { .. } => {
-            whole_of(types, ty)
-        }
-    })
-}
-
-fn any_holds_class(types: &Types, fields: &Fields, bound: u32) -> bool {
-    for field in fields.as_slice() {
-        if field.ty.0 < bound && holds_class(types, field.ty) {
-            return true;
-        }
-    }
-    false
-}
-
-/// Whether a value of a type has the class of an instance in it. What a type is made of stands before it in the table.
-pub fn holds_class(types: &Types, ty: TypeId) -> bool {
-    if ty.0 >= types.count() {
-        return false;
-    }
-    match types.get(ty) {
-        TypeDef::ArrayOf { element, .. } => element.0 < ty.0 && holds_class(types, *element),
-        TypeDef::RecordOf { fields } => any_holds_class(types, fields, ty.0),
-        TypeDef::ObjectOf { parent, fields, .. } => {
-            class_at(types, ty).is_some()
-                || any_holds_class(types, fields, ty.0)
-                || match parent {
-                    None => false,
-                    Some(parent) => parent.0 < ty.0 && holds_class(types, *parent),
-                }
-        }
-        _ => false,
-    }
-}
-
 impl<'a> Sort<'a> {
     /// How values are stored.
-    pub fn shape(&self) -> Result<Shape, AllocError> {
+    pub fn shape(&self) -> Result<Shape, AllocError>
+        ensures { IfOk result (λ shape. shape_of (view_sort self.now).table.types (view_sort self.now).ty ≡ Some shape) }
+    {
         match self {
             Sort::Char => Ok(Shape::Number {
                 host: Host::Char,
@@ -150,7 +69,9 @@ impl<'a> Sort<'a> {
     }
 
     /// The bytes of a value.
-    pub fn size(&self) -> u32 {
+    pub fn size(&self) -> u32
+        ensures { result ≡ size_in (view_sort self.now) }
+    {
         match self {
             Sort::Char => 1,
             Sort::Integer => 2,
@@ -158,91 +79,108 @@ impl<'a> Sort<'a> {
         }
     }
 
-    // A type of the same table.
-    fn beside(&self, other: TypeId) -> Sort<'a> {
+    /// The type itself.
+    pub fn definition(&self) -> Result<&'a TypeDef, AllocError>
+        ensures { IfOk result (λ one. definition (view_sort self.now) ≡ Some one.now) }
+    {
         match self {
-            Sort::Char => Sort::Char,
-            Sort::Integer => Sort::Integer,
-            Sort::Of { types, classes, .. } => Sort::Of {
-                types: *types,
-                classes: *classes,
-                ty: other,
-            },
+            Sort::Of { types, ty, .. } => {
+                if ty.0 < types.count() {
+                    Ok(types.get(*ty))
+                } else {
+                    Err(AllocError)
+                }
+            }
+            Sort::Char | Sort::Integer => Err(AllocError),
         }
     }
 
-    /// The type itself.
-    pub fn definition(&self) -> Result<&'a TypeDef, AllocError> {
+    // A type of the same table.
+    fn beside(&self, other: TypeId) -> Result<Sort<'a>, AllocError>
+        ensures { IfOk result (λ sort. view_sort sort ≡ beside (view_sort self.now) other) }
+    {
         match self {
-            Sort::Of { types, ty, .. } if ty.0 < types.count() => Ok(types.get(*ty)),
-            _ => Err(AllocError),
+            Sort::Char | Sort::Integer => Err(AllocError),
+            Sort::Of { types, classes, .. } => Ok(Sort::Of {
+                types: *types,
+                classes: *classes,
+                ty: other,
+            }),
+        }
+    }
+
+    fn bounds_of(&self, index: TypeId) -> Result<(i32, i32), AllocError>
+        ensures { IfOk result (λ bounds. bounds ≡ bounds_at (view_sort self.now).table.types index) }
+    {
+        match self {
+            Sort::Char | Sort::Integer => Err(AllocError),
+            Sort::Of { types, .. } => Ok(bounds_at(types, index)),
         }
     }
 
     /// The lowest index, the greatest one, and the type of an element: of an array or a string.
-    pub fn elements(&self) -> Result<(i32, i32, Sort<'a>), AllocError> {
+    pub fn elements(&self) -> Result<(i32, i32, Sort<'a>), AllocError>
+        ensures bounds { IfOk result (λ elements. index_bounds (view_sort self.now) ≡ Some (elements.0, elements.1)) }
+        ensures element { IfOk result (λ elements. element_sort (view_sort self.now) ≡ Some (view_sort elements.2)) }
+    {
         match self.definition()? {
             TypeDef::ArrayOf { index, element } => {
-                let (low, high) = self.bounds_of(*index);
-                Ok((low, high, self.beside(*element)))
+                let (low, high) = self.bounds_of(*index)?;
+                Ok((low, high, self.beside(*element)?))
             }
             TypeDef::Str { max } => Ok((0, i32::from(*max), Sort::Char)),
             _ => Err(AllocError),
         }
     }
 
-    fn bounds_of(&self, index: TypeId) -> (i32, i32) {
-        match self {
-            Sort::Char | Sort::Integer => (0, 0),
-            Sort::Of { types, .. } => bounds_at(types, index),
-        }
-    }
-
     /// Where a field lies in a record or an object, those of ancestors counted first.
-    pub fn offset(&self, field: u32) -> Result<u16, AllocError> {
+    pub fn offset(&self, field: u32) -> Result<u16, AllocError>
+        ensures { IfOk result (λ at. at ≡ offset_of (view_sort self.now).table.types (view_sort self.now).ty field) }
+    {
         match self {
-            Sort::Of { types, ty, .. } if ty.0 < types.count() && has_field(types, *ty, field) => {
-                Ok((offset_of(types, *ty, field) % 0x1_0000) as u16)
-            }
-            _ => Err(AllocError),
-        }
-    }
-
-    // The type of a field of an object.
-    fn member(&self, field: u32) -> Result<Sort<'a>, AllocError> {
-        match self {
-            Sort::Of { classes, ty, .. } if classes.has(*ty) => {
-                match classes.class(*ty).fields().get(field as usize) {
-                    Some(one) => Ok(self.beside(one.ty)),
-                    None => Err(AllocError),
+            Sort::Of { types, ty, .. } => {
+                if ty.0 < types.count() && has_field(types, *ty, field) {
+                    u16::try_from(offset_of(types, *ty, field)).map_err(|_| AllocError)
+                } else {
+                    Err(AllocError)
                 }
             }
-            _ => Err(AllocError),
+            Sort::Char | Sort::Integer => Err(AllocError),
         }
     }
 
     /// The type of a field of a record or an object.
-    pub fn field(&self, number: u32) -> Result<Sort<'a>, AllocError> {
-        match self.definition()? {
-            TypeDef::RecordOf { fields } => match fields.as_slice().get(number as usize) {
-                Some(one) => Ok(self.beside(one.ty)),
+    #[tactic(auto, using(crate::proofs::SortParts::field_found))]
+    pub fn field(&self, number: u32) -> Result<Sort<'a>, AllocError>
+        ensures { IfOk result (λ field. field_sort number (view_sort self.now) ≡ Some (view_sort field)) }
+    {
+        match self {
+            Sort::Of { types, classes, ty } => match field_type(types, *ty, number) {
+                Some(found) => Ok(Sort::Of {
+                    types: *types,
+                    classes: *classes,
+                    ty: found,
+                }),
                 None => Err(AllocError),
             },
-            TypeDef::ObjectOf { .. } => self.member(number),
-            _ => Err(AllocError),
+            Sort::Char | Sort::Integer => Err(AllocError),
         }
     }
 
     /// What a pointer type points to.
-    pub fn target(&self) -> Result<Sort<'a>, AllocError> {
+    pub fn target(&self) -> Result<Sort<'a>, AllocError>
+        ensures { IfOk result (λ target. target_sort (view_sort self.now) ≡ Some (view_sort target)) }
+    {
         match self.definition()? {
-            TypeDef::PointerTo { target } => Ok(self.beside(*target)),
+            TypeDef::PointerTo { target } => self.beside(*target),
             _ => Err(AllocError),
         }
     }
 
     /// Where an instance says its class, if it does.
-    pub fn class_offset(&self) -> Option<u16> {
+    pub fn class_offset(&self) -> Option<u16>
+        ensures { result ≡ (layout_at (view_sort self.now).table.types (view_sort self.now).ty).class_field }
+    {
         match self {
             Sort::Char | Sort::Integer => None,
             Sort::Of { types, ty, .. } => class_at(types, *ty),
@@ -250,7 +188,9 @@ impl<'a> Sort<'a> {
     }
 
     /// Whether a value has the class of an instance in it.
-    pub fn holds_class(&self) -> bool {
+    pub fn holds_class(&self) -> bool
+        ensures { result ≡ holds_class (view_sort self.now).table.types (view_sort self.now).ty }
+    {
         match self {
             Sort::Char | Sort::Integer => false,
             Sort::Of { types, ty, .. } => holds_class(types, *ty),
@@ -258,18 +198,27 @@ impl<'a> Sort<'a> {
     }
 
     /// The kind of the method that answers a virtual slot.
-    pub fn virtual_kind(&self, slot: u32) -> Result<Kind, AllocError> {
+    #[tactic(auto, using(crate::proofs::SortParts::kind_found))]
+    pub fn virtual_kind(&self, slot: u32) -> Result<Kind, AllocError>
+        ensures { IfOk result (λ kind. slot_kind self.now slot ≡ Some kind) }
+    {
         match self {
-            Sort::Of { classes, ty, .. } if classes.has(*ty) && slot < classes.slots(*ty) => {
-                Ok(classes.class(*ty).method_at(slot).header.kind)
+            Sort::Of { classes, ty, .. } => {
+                if classes.has(*ty) && slot < classes.slots(*ty) {
+                    Ok(classes.class(*ty).method_at(slot).header.kind)
+                } else {
+                    Err(AllocError)
+                }
             }
-            _ => Err(AllocError),
+            Sort::Char | Sort::Integer => Err(AllocError),
         }
     }
 }
 
 /// The type of an expression, if it has one.
-pub fn type_of(expr: &Expr) -> Option<TypeId> {
+pub fn type_of(expr: &Expr) -> Option<TypeId>
+    ensures { result ≡ type_of (view_expr expr.now) }
+{
     match expr {
         Expr::Const { ty, .. }
         | Expr::RoutineValue { ty, .. }
@@ -289,7 +238,9 @@ pub fn type_of(expr: &Expr) -> Option<TypeId> {
 
 impl<'a> Scene<'a> {
     /// A type of the unit's own table.
-    pub fn sort(&self, ty: TypeId) -> Sort<'a> {
+    pub fn sort(&self, ty: TypeId) -> Sort<'a>
+        ensures { view_sort result ≡ sort_in self.now.unit.now ty }
+    {
         Sort::Of {
             types: &self.unit.types,
             classes: self.classes,
@@ -298,17 +249,27 @@ impl<'a> Scene<'a> {
     }
 
     /// How values of a type of the unit are stored.
-    pub fn shape(&self, ty: TypeId) -> Result<Shape, AllocError> {
+    pub fn shape(&self, ty: TypeId) -> Result<Shape, AllocError>
+        ensures { IfOk result (λ shape. shape_of self.now.unit.now.types.types ty ≡ Some shape) }
+    {
         shape_of(&self.unit.types, ty).ok_or(AllocError)
     }
 
     /// How the value of an expression is stored.
-    pub fn shape_of(&self, expr: &Expr) -> Result<Shape, AllocError> {
-        self.shape(type_of(expr).ok_or(AllocError)?)
+    pub fn shape_of(&self, expr: &Expr) -> Result<Shape, AllocError>
+        ensures { IfOk result (λ shape. option_and_then (shape_of self.now.unit.now.types.types) (type_of (view_expr expr.now)) ≡ Some shape) }
+    {
+        match type_of(expr) {
+            Some(ty) => self.shape(ty),
+            None => Err(AllocError),
+        }
     }
 
     // The type of a global.
-    fn global_sort(&self, variable: Variable) -> Result<Sort<'a>, AllocError> {
+    #[tactic(auto, using(crate::proofs::SortParts::global_found, crate::proofs::SortParts::overlay_found))]
+    fn global_sort(&self, variable: Variable) -> Result<Sort<'a>, AllocError>
+        ensures { IfOk result (λ sort. option_and_then (sort_among self.now.globals.now) (key_of self.now.unit.now variable.unit variable.number) ≡ Some (view_sort sort)) }
+    {
         if self.is_overlay(variable.unit) {
             return Ok(Sort::Integer);
         }
@@ -324,7 +285,10 @@ impl<'a> Scene<'a> {
     }
 
     /// The place that an open `with` holds, by the number of its variable.
-    pub fn held(&self, number: u32) -> Result<&'a Held<'a>, AllocError> {
+    pub fn held(&self, number: u32) -> Result<&'a Held<'a>, AllocError>
+        ensures value { IfOk result (λ held. slice_get self.now.withs.now (number - first_held) ≡ Some held.now) }
+        ensures held { OnOk result (first_held ≤ number) }
+    {
         if number < FIRST_HELD {
             return Err(AllocError);
         }
@@ -334,7 +298,10 @@ impl<'a> Scene<'a> {
         }
     }
 
-    fn local_sort(&self, number: u32, routine: &Routine) -> Result<Sort<'a>, AllocError> {
+    #[tactic(auto, using(crate::proofs::SortParts::local_found))]
+    fn local_sort(&self, number: u32, routine: &Routine) -> Result<Sort<'a>, AllocError>
+        ensures { IfOk result (λ sort. sort_of_number (surroundings_in (view_scene self.now)) number routine.now ≡ Some (view_sort sort)) }
+    {
         match type_of_variable(routine, number) {
             Some(ty) => Ok(self.sort(ty)),
             None => Err(AllocError),
@@ -342,7 +309,9 @@ impl<'a> Scene<'a> {
     }
 
     // The type of a variable of the routine itself, or of what an open `with` holds.
-    fn inner_sort(&self, number: u32) -> Result<Sort<'a>, AllocError> {
+    fn inner_sort(&self, number: u32) -> Result<Sort<'a>, AllocError>
+        ensures { IfOk result (λ sort. held_sort_or (surroundings_in (view_scene self.now)) number (sort_of_number (surroundings_in (view_scene self.now)) number self.now.routine.now) ≡ Some (view_sort sort)) }
+    {
         if number < FIRST_HELD {
             self.local_sort(number, self.routine)
         } else {
@@ -350,25 +319,42 @@ impl<'a> Scene<'a> {
         }
     }
 
+    // The type of a variable of the routine that so many static links lead to.
+    fn outer_sort(&self, links: u32, number: u32) -> Result<Sort<'a>, AllocError>
+        ensures { IfOk result (λ sort. option_and_then (sort_of_number (surroundings_in (view_scene self.now)) number) ((surroundings_in (view_scene self.now)).routines links) ≡ Some (view_sort sort)) }
+    {
+        let routine = self.routine_around(links)?;
+        self.local_sort(number, routine)
+    }
+
     /// The type of a variable.
-    pub fn sort_of_variable(&self, variable: Variable) -> Result<Sort<'a>, AllocError> {
+    #[tactic(auto, using(crate::proofs::SortParts::global_level, crate::proofs::SortParts::inner_level, crate::proofs::SortParts::outer_level))]
+    pub fn sort_of_variable(&self, variable: Variable) -> Result<Sort<'a>, AllocError>
+        ensures { IfOk result (λ sort. sort_of_variable (surroundings_in (view_scene self.now)) variable ≡ Some (view_sort sort)) }
+    {
         if variable.level == 0 {
             return self.global_sort(variable);
         }
         if variable.level == 1 {
             return self.inner_sort(variable.number);
         }
-        let routine = self.routine_around(variable.level - 1)?;
-        self.local_sort(variable.number, routine)
+        self.outer_sort(variable.level - 1, variable.number)
     }
 
     /// What a pointer expression points to.
-    pub fn target_of(&self, pointer: &Expr) -> Result<Sort<'a>, AllocError> {
-        self.sort(type_of(pointer).ok_or(AllocError)?).target()
+    pub fn target_of(&self, pointer: &Expr) -> Result<Sort<'a>, AllocError>
+        ensures { IfOk result (λ target. option_and_then (λ ty. target_sort (sort_in self.now.unit.now ty)) (type_of (view_expr pointer.now)) ≡ Some (view_sort target)) }
+    {
+        match type_of(pointer) {
+            Some(ty) => self.sort(ty).target(),
+            None => Err(AllocError),
+        }
     }
 
     /// The type of a place.
-    pub fn sort_of_place(&self, place: &PlaceExpr) -> Result<Sort<'a>, AllocError> {
+    pub fn sort_of_place(&self, place: &PlaceExpr) -> Result<Sort<'a>, AllocError>
+        ensures { IfOk result (λ sort. sort_of_place (surroundings_in (view_scene self.now)) (view_place place.now) ≡ Some (view_sort sort)) }
+    {
         match place {
             PlaceExpr::Var(variable) => self.sort_of_variable(*variable),
             PlaceExpr::Deref { pointer } => self.target_of(pointer),

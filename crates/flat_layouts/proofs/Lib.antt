@@ -1,4 +1,0 @@
-pub mod Parts
-pub mod Frames
-pub mod Homes
-pub mod Sorts

@@ -1,0 +1,7 @@
+use Rattle.std.proofs.Common.{◌≡◌, take}
+use Rattle.std.specs.List.{sum_by}
+use Rattle.typed_tree.specs.Frames.{param_bytes}
+use Rattle.lower_places.proofs.sizes.params_bytes.Given as goal
+
+abbrev pub invariant-loop-param : goal.invariant-loop-param
+invariant-loop-param l = l.bytes ≡ sum_by (param_bytes l.types.types) (take l.param-index l.params)
