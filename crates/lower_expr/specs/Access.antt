@@ -81,12 +81,19 @@ is_through _ slot = false
 abbrev pub set_part : ℕ → ℕ → ℕ → ℤ
 set_part locals first slot = slot_at locals slot 32 +ℤ pos first
 
+-- the bytes round some of a set become zeros
+abbrev pub cleared_around : ℕ → ℕ → ℕ → ℕ → Code
+cleared_around locals first bytes slot = cleared (slot_at locals slot 32) first then cleared (set_part locals first slot +ℤ pos bytes) (32 - first - bytes)
+
+abbrev pub set_moved : ℕ → Reach → ℕ → ℕ → ℕ → Code
+set_moved locals from first bytes slot = moved (At (Local (set_part locals first slot))) from bytes
+
 -- some bytes of a set of 32; those round them are zeros. A pointer in the slot itself is used before they are.
 abbrev pub load_set : ℕ → Reach → ℕ → ℕ → ℕ → Code
 load_set locals from first bytes slot =
     if is_through from (slot_at locals slot 4)
-    then moved (At (Local (set_part locals first slot))) from bytes then (cleared (slot_at locals slot 32) first then cleared (set_part locals first slot +ℤ pos bytes) (32 - first - bytes))
-    else cleared (slot_at locals slot 32) 32 then moved (At (Local (set_part locals first slot))) from bytes
+    then set_moved locals from first bytes slot then cleared_around locals first bytes slot
+    else cleared (slot_at locals slot 32) 32 then set_moved locals from first bytes slot
 
 abbrev pub pointed_at : ℕ → Address → ℕ → Code
 pointed_at locals at slot = pair (set (slot_at locals slot 4) (AddressOf at)) (set (slot_at locals slot 2) (SegmentOf at))

@@ -3,7 +3,7 @@
 ghost use Rattle.std.specs.Prelude.{◌≡◌, IfOk, ◌∷◌, []};
 ghost use Rattle.flat_code.specs.Tree.{Code, Do};
 ghost use Rattle.flat_code.specs.View.{view_expr, view_exprs, view_stmt, view_list};
-ghost use Rattle.lower_expr.specs.Access.{segment_of, offset_of, place_words, moved, stored_word, loading, load_word, load_text, assigned, cleared, is_through, load_set, point, load, store_word, store, pointer_words};
+ghost use Rattle.lower_expr.specs.Access.{segment_of, offset_of, place_words, moved, stored_word, loading, load_word, load_text, assigned, cleared, is_through, set_part, cleared_around, set_moved, load_set, point, load, store_word, store, pointer_words};
 
 use crate::forms::{Form, high_in, low_in, slot_place, text_words, word_in};
 use crate::nodes::{clear, pair, runtime, signed_byte, single, with_result};
@@ -145,6 +145,40 @@ fn is_through(from: Reach, slot: i32) -> bool
     }
 }
 
+// So far from BP lies the byte with a number of the set in a slot.
+fn set_part(scene: &Scene, first: u16, slot: u32) -> Result<i32, AllocError>
+    ensures { IfOk result (λ at. at ≡ set_part scene.now.locals first slot) }
+{
+    let at = scene.slot_at(slot, 32)?;
+    at.checked_add(i32::from(first)).ok_or(AllocError)
+}
+
+// The bytes round some of the set in a slot become zeros.
+fn cleared_around(scene: &Scene, first: u16, bytes: u16, slot: u32) -> Result<FlatList, AllocError>
+    ensures { IfOk result (λ list. view_list list.items ≡ cleared_around scene.now.locals first bytes slot) }
+{
+    let alloc = scene.alloc;
+    let part = set_part(scene, first, slot)?;
+    let behind = part.checked_add(i32::from(bytes)).ok_or(AllocError)?;
+    let rest = 32u16.saturating_sub(first).saturating_sub(bytes);
+    let before = cleared(alloc, scene.slot_at(slot, 32)?, first)?;
+    then(before, cleared(alloc, behind, rest)?)
+}
+
+// So many bytes of a set go from a place to that with a number of the set in a slot.
+fn set_moved(
+    scene: &Scene,
+    from: Reach,
+    first: u16,
+    bytes: u16,
+    slot: u32,
+) -> Result<FlatList, AllocError>
+    ensures { IfOk result (λ list. view_list list.items ≡ set_moved scene.now.locals from first bytes slot) }
+{
+    let to = Address::Local(set_part(scene, first, slot)?);
+    moved(scene.alloc, Reach::At(to), from, bytes)
+}
+
 // So many bytes of a set lie at a place, from the one with a number on; all 32 go to a slot.
 fn load_set(
     scene: &Scene,
@@ -155,17 +189,13 @@ fn load_set(
 ) -> Result<FlatList, AllocError>
     ensures { IfOk result (λ list. view_list list.items ≡ load_set scene.now.locals from first bytes slot) }
 {
-    let alloc = scene.alloc;
-    let to = scene.slot_at(slot, 32)?;
-    let part = to.checked_add(i32::from(first)).ok_or(AllocError)?;
-    let copied = moved(alloc, Reach::At(Address::Local(part)), from, bytes)?;
-    if !is_through(from, scene.slot_at(slot, 4)?) {
-        return then(cleared(alloc, to, 32)?, copied);
+    let copied = set_moved(scene, from, first, bytes, slot)?;
+    if is_through(from, scene.slot_at(slot, 4)?) {
+        then(copied, cleared_around(scene, first, bytes, slot)?)
+    } else {
+        let empty = cleared(scene.alloc, scene.slot_at(slot, 32)?, 32)?;
+        then(empty, copied)
     }
-    let behind = part.checked_add(i32::from(bytes)).ok_or(AllocError)?;
-    let rest = 32u16.saturating_sub(first).saturating_sub(bytes);
-    let around = then(cleared(alloc, to, first)?, cleared(alloc, behind, rest)?)?;
-    then(copied, around)
 }
 
 /// A far pointer to a place goes to a slot of 4 bytes.
