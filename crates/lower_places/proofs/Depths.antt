@@ -1,14 +1,13 @@
 -- How far below the caller's SP the parts of an activation record end, as sums.
 use Rattle.std.proofs.Common.{◌≡◌, ℕ, zero, suc, ◌+◌, ◌-◌, ◌≤◌, ◌<◌, Bool, true, false, List, [], ◌∷◌, ◌++◌, map, length, take, pos, negsuc, refl, sym, ap, ◌∙◌, arith}
-use Rattle.std.specs.Prelude.{sum, sum_by, slice_index, nat_le, if◌then◌else◌}
+use Rattle.std.specs.Prelude.{sum_by, slice_index, nat_le, if◌then◌else◌}
 use Rattle.std.proofs.lemmas.List.Sums as sums
 use Rattle.std.proofs.lemmas.Bool.Decides.{nat_tests}
 use Rattle.type_layout.specs.declared.definitions.TypeDef.{TypeDef}
 use Rattle.typed_tree.specs.declared.units.Routine.{Routine}
 use Rattle.typed_tree.specs.Frames.{param_bytes, copy_bytes, even_size, result_argument, result_bytes, frame_of}
-use Rattle.lower_places.specs.Parts.{above, until}
-use Rattle.lower_places.specs.Frames.{FramePart, StringResult, Instance, Parameter, ClassWord, StaticLink, ReturnLinks, CopyOf, ResultValue, OwnVariable, instance_bytes, static_bytes, return_bytes, handed_bytes, bp_depth, depth_of, top_of, from_bp, part_at}
-use Rattle.lower_places.proofs.Parts.{Leads, length-map}
+use Rattle.lower_places.specs.Parts.{above}
+use Rattle.lower_places.specs.Frames.{FramePart, StringResult, Instance, Parameter, ClassWord, ReturnLinks, CopyOf, ResultValue, OwnVariable, instance_bytes, static_bytes, return_bytes, handed_bytes, bp_depth, depth_of, from_bp, part_at}
 use Rattle.lower_places.proofs.Frames.{frame-laws, to-handed, to-words, to-copies, to-result, to-owned, from_words, from_result, from_stack, handed-sum, copies-sum}
 
 -- the first of some sizes end where their sum is

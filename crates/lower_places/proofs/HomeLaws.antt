@@ -11,12 +11,12 @@ use Rattle.type_layout.specs.declared.definitions.TypeDef.{TypeDef}
 use Rattle.type_layout.specs.declared.definitions.TypeDef.TheVariants as type
 use Rattle.type_layout.specs.Storage.{storage_of, width_of}
 use Rattle.type_layout.specs.declared.layout.Layout.{Layout}
-use Rattle.type_layout.specs.Layouts.{layout_by, layouts_of, layout_at, size_of, IsMeasured}
+use Rattle.type_layout.specs.Layouts.{layout_by, layouts_of, size_of, IsMeasured}
 use Rattle.typed_tree.specs.declared.units.Routine.{Routine}
 use Rattle.typed_tree.specs.Slots.{slot_of_definition, slot_of_type}
-use Rattle.typed_tree.specs.Frames.{param_bytes, copy_bytes, is_copied, is_string, even_size, result_argument, result_bytes}
-use Rattle.typed_tree.specs.type_fits.Routines.{listed, variables_of}
-use Rattle.lower_places.specs.Frames.{FramePart, StringResult, Instance, Parameter, CopyOf, ResultValue, OwnVariable, parameters, number_in, Home, In, Behind, part_of, home_of_param, home_of_own, home_of_result, home_from_result, home_from_instance, home_from, home_of}
+use Rattle.typed_tree.specs.Frames.{is_copied, is_string, even_size, result_argument, result_bytes}
+use Rattle.typed_tree.specs.type_fits.Routines.{listed}
+use Rattle.lower_places.specs.Frames.{StringResult, Instance, Parameter, CopyOf, ResultValue, OwnVariable, parameters, number_in, Home, In, Behind, part_of, home_of_param, home_of_own, home_from_result, home_from_instance, home_from, home_of}
 use Rattle.lower_places.specs.Laws.{FrameLaws, HasRoom, HomeLaws}
 use Rattle.lower_places.proofs.Frames.{frame-laws}
 

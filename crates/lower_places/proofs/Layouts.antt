@@ -1,17 +1,15 @@
 -- A class field has room in a value, and a set within 32 bytes.
 use Rattle.std.proofs.Common.{◌≡◌, ℕ, zero, suc, ◌+◌, ◌≤◌, ◌<◌, Bool, true, false, ℤ, pos, List, [], ◌∷◌, ◌++◌, length, get_or, Option, Some, None, refl, sym, ap, subst, ◌∙◌, arith}
-use Rattle.std.specs.Prelude.{slice_get, unsigned_abs, ◌≤ℤ◌, ◌/◌}
-use Rattle.std.specs.List.{All}
+use Rattle.std.specs.Prelude.{slice_get, unsigned_abs, ◌≤ℤ◌}
 use Rattle.std.proofs.lemmas.List.Elements.{All-get_or}
-use Rattle.type_layout.specs.declared.definitions.Host.{Host}
 use Rattle.type_layout.specs.declared.definitions.TypeId.{TypeId}
 use Rattle.type_layout.specs.declared.definitions.TypeDef.{TypeDef}
 use Rattle.type_layout.specs.declared.definitions.TypeDef.TheVariants as type
 use Rattle.type_layout.specs.declared.layout.Layout.{Layout}
-use Rattle.type_layout.specs.Layouts.{bounds_of, bounds_at, plain, layout_in, inherited, object_by, layout_by, given_by, layouts_of, layout_at, size_of, fields_size}
-use Rattle.type_layout.specs.Table.{Table, IsByteRange, IsDefinedOver, AllDefined, IsWellFormed}
+use Rattle.type_layout.specs.Layouts.{bounds_of, bounds_at, plain, inherited, object_by, layout_by, given_by, layouts_of, layout_at, size_of, fields_size}
+use Rattle.type_layout.specs.Table.{Table, IsByteRange, AllDefined, IsWellFormed}
 use Rattle.type_layout.proofs.Given.{length-layouts_of}
-use Rattle.type_layout.proofs.Measured.{Round, round}
+use Rattle.type_layout.proofs.Measured.{round}
 
 abbrev HasRoomForClass : Layout → Type 0
 HasRoomForClass layout = (at : ℕ) → layout.class_field ≡ Some at → at + 2 ≤ layout.size

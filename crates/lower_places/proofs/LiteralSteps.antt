@@ -1,5 +1,5 @@
 -- Literals of the first of a row and of the rest.
-use Rattle.std.proofs.Common.{◌≡◌, ℕ, ◌+◌, List, [], ◌∷◌, ◌++◌, length, length-append, arith}
+use Rattle.std.proofs.Common.{◌≡◌, ◌+◌, List, [], ◌++◌, length, length-append, arith}
 use Rattle.typed_tree.specs.declared.expressions.SetElement.{SetElement}
 use Rattle.typed_tree.specs.declared.expressions.SetElement.TheVariants as element
 use Rattle.typed_tree.specs.declared.expressions.Arg.{Arg}

@@ -1,16 +1,15 @@
 -- Names by their places, and the routines round others.
-use Rattle.std.proofs.Common.{◌≡◌, ℕ, zero, suc, ◌+◌, ◌-◌, ◌≤◌, ◌<◌, Bool, true, false, cond, List, [], ◌∷◌, ◌++◌, length, Option, Some, None, refl, sym, ap, ◌∙◌, arith}
+use Rattle.std.proofs.Common.{◌≡◌, ℕ, zero, suc, ◌+◌, ◌-◌, ◌<◌, Bool, true, false, cond, List, [], ◌∷◌, ◌++◌, length, Option, Some, None, sym, ap, ◌∙◌, arith}
 use Rattle.std.specs.Prelude.{◌==◌, if◌then◌else◌, option_and_then, slice_get, position, codes}
 use Rattle.std.specs.Option.{option_map}
 use Rattle.std.specs.List.{position_from}
 use Rattle.std.proofs.lemmas.Iterator.Adapters.{position_from-zero}
 use Rattle.type_layout.specs.declared.definitions.Origin.{Origin}
 use Rattle.type_layout.specs.Words.{same_bytes}
-use Rattle.type_layout.specs.Table.{Table}
 use Rattle.typed_tree.specs.declared.units.Routine.{Routine}
 use Rattle.typed_tree.specs.declared.units.Unit.{Unit as TypedUnit}
 use Rattle.tp_meaning.specs.Trees.{Key}
-use Rattle.tp_meaning.specs.Programs.{Sort, class_by, class_key}
+use Rattle.tp_meaning.specs.Programs.{Sort, class_by}
 use Rattle.lower_places.specs.Data.{flat_names}
 use Rattle.lower_places.specs.Scenes.{routine_in, outer_of, routine_around}
 use Rattle.lower_places.specs.Reaches.{class_at, class_of, outer_number, links_within}

@@ -1,5 +1,5 @@
 -- Parts that lie one below another keep apart, and what lies behind others is found behind them.
-use Rattle.std.proofs.Common.{◌≡◌, ℕ, zero, suc, ◌+◌, ◌≤◌, ◌<◌, List, [], ◌∷◌, ◌++◌, map, length, Some, refl, sym, ap, ◌∙◌, arith}
+use Rattle.std.proofs.Common.{◌≡◌, ℕ, zero, suc, ◌+◌, ◌≤◌, ◌<◌, List, [], ◌∷◌, ◌++◌, map, length, Some, refl, ap, ◌∙◌, arith}
 use Rattle.std.specs.Prelude.{sum, sum_by, slice_get, slice_index}
 use Rattle.std.proofs.lemmas.List.Sums as sums
 use Rattle.lower_places.specs.Parts.{above, until}

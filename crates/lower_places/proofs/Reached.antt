@@ -1,5 +1,5 @@
 -- How variables are reached, by their homes and levels.
-use Rattle.std.proofs.Common.{◌≡◌, ℕ, zero, suc, ◌+◌, ◌-◌, ◌≤◌, ◌<◌, ℤ, List, [], ◌∷◌, map, Option, Some, None, refl, sym, ap, ◌∙◌, pos, arith}
+use Rattle.std.proofs.Common.{◌≡◌, ℕ, zero, suc, ◌-◌, ◌<◌, ℤ, List, [], ◌∷◌, map, Option, Some, None, refl, ap, ◌∙◌, pos, arith}
 use Rattle.std.specs.Prelude.{◌-ℤ◌, option_and_then, slice_get, Bool}
 use Rattle.std.specs.Option.{option_map, option_map_or}
 use Rattle.type_layout.specs.declared.definitions.TypeDef.{TypeDef}
@@ -14,7 +14,7 @@ use Rattle.lower_places.specs.declared.reach.Reach.TheVariants.{At, Beyond}
 use Rattle.lower_places.specs.declared.scene.Held.{Held}
 use Rattle.lower_places.specs.Frames.{Home, In, Behind, return_bytes, home_of}
 use Rattle.lower_places.specs.Placed.{placed}
-use Rattle.lower_places.specs.Scenes.{HeldPlace, Setting, routine_around, view_held}
+use Rattle.lower_places.specs.Scenes.{Setting, routine_around, view_held}
 use Rattle.lower_places.specs.Reaches.{slot_below, own_reach, outer_reach, outer_reach_in, held_reach, inner_reach, reach_of, is_self_by_level}
 
 -- of the routine itself, by where it is placed

@@ -8,7 +8,7 @@ use Rattle.type_layout.specs.declared.definitions.Param.{Param}
 use Rattle.type_layout.specs.declared.definitions.TypeDef.{TypeDef}
 use Rattle.typed_tree.specs.declared.units.Routine.{Routine}
 use Rattle.typed_tree.specs.type_fits.Routines.{listed, variables_of}
-use Rattle.lower_places.specs.Frames.{Home, In, Behind, Instance, OwnVariable, part_at, home_of_param, home_of_own, home_of_result, home_from_result, home_from_instance, home_from, home_of}
+use Rattle.lower_places.specs.Frames.{Home, In, OwnVariable, part_at, home_of_param, home_of_own, home_from_result, home_from_instance, home_from, home_of}
 use Rattle.lower_places.specs.declared.homes.Home.{Home as PlacedHome}
 use Rattle.lower_places.specs.declared.homes.Home.TheVariants as placed_home
 use Rattle.lower_places.specs.Placed.{placed}

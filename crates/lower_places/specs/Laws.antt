@@ -12,7 +12,6 @@ use Rattle.typed_tree.specs.type_fits.Routines.{variables_of}
 use Rattle.common_values.specs.integers.Words.{w16, word_of, wrapping_add}
 use Rattle.tp_meaning.specs.Store.{Store}
 use Rattle.tp_meaning.specs.Activations.{Reached, Activation, variable_at}
-use Rattle.lower_places.specs.Parts.{above, until}
 use Rattle.lower_places.specs.Frames.{FramePart, StringResult, Instance, Parameter, ClassWord, StaticLink, ReturnLinks, CopyOf, ResultValue, OwnVariable, EvaluationStack, instance_bytes, static_bytes, return_bytes, frame_parts, number_in, top_of, depth_of, slot_depth, bp_depth, from_bp, Home, In, Behind, part_of, home_of}
 use Rattle.lower_places.specs.Sorts.{sort_of_variable, surroundings_of}
 

@@ -1,5 +1,5 @@
 -- How the bytes of variables are reached, and what the numbers of a unit lead to.
-use Rattle.std.specs.Prelude.{ℕ, zero, suc, ◌+◌, ◌-◌, ◌==◌, nat_lt, Bool, false, if◌then◌else◌, ℤ, pos, ◌+ℤ◌, ◌-ℤ◌, List, [], ◌∷◌, Option, Some, None, option_and_then, slice_get, position}
+use Rattle.std.specs.Prelude.{ℕ, zero, suc, ◌+◌, ◌-◌, ◌==◌, nat_lt, Bool, false, if◌then◌else◌, ℤ, pos, ◌+ℤ◌, ◌-ℤ◌, List, Option, Some, None, option_and_then, slice_get, position}
 use Rattle.std.specs.Option.{option_map, option_map_or}
 use Rattle.type_layout.specs.declared.definitions.RoutineId.{RoutineId}
 use Rattle.type_layout.specs.declared.definitions.TypeDef.{TypeDef}

@@ -1,12 +1,10 @@
 -- What a body is lowered in.
-use Rattle.std.specs.Prelude.{ℕ, zero, suc, ◌+◌, ◌==◌, ◌^◌, if◌then◌else◌, List, [], ◌∷◌, map, Option, Some, None, option_and_then, slice_get}
-use Rattle.std.specs.Option.{option_map}
-use Rattle.type_layout.specs.declared.definitions.TypeId.{TypeId}
+use Rattle.std.specs.Prelude.{ℕ, zero, suc, if◌then◌else◌, List, [], ◌∷◌, map, Option, Some, None, option_and_then, slice_get}
 use Rattle.type_layout.specs.Words.{same_bytes}
 use Rattle.typed_tree.specs.declared.units.Routine.{Routine}
 use Rattle.typed_tree.specs.declared.units.Unit.{Unit as TypedUnit}
 use Rattle.tp_meaning.specs.Trees.{Key}
-use Rattle.tp_meaning.specs.Programs.{Sort as TypeInTable, is_overlay, sort_in, integer_sort, char_sort, global_in}
+use Rattle.tp_meaning.specs.Programs.{Sort as TypeInTable, is_overlay, integer_sort, char_sort, global_in}
 use Rattle.lower_places.specs.Sorts.{Surroundings}
 use Rattle.lower_places.specs.declared.sorts.Sort.{Sort}
 use Rattle.lower_places.specs.declared.sorts.Sort.TheVariants as sort

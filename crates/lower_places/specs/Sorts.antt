@@ -8,7 +8,7 @@ use Rattle.typed_tree.specs.declared.expressions.Variable.{Variable}
 use Rattle.typed_tree.specs.declared.units.Routine.{Routine}
 use Rattle.typed_tree.specs.declared.units.Unit.{Unit as TypedUnit}
 use Rattle.typed_tree.specs.declared.units.Program.{Program}
-use Rattle.typed_tree.specs.Expressions.{Expression, type_of, Place, Var, Deref, Index, FieldOf}
+use Rattle.typed_tree.specs.Expressions.{type_of, Place, Var, Deref, Index, FieldOf}
 use Rattle.typed_tree.specs.type_fits.Fits.{field_type}
 use Rattle.typed_tree.specs.type_fits.Routines.{variables_of}
 use Rattle.tp_meaning.specs.Trees.{Key}

@@ -1,4 +1,4 @@
-use Rattle.std.proofs.Common.{arith, ◌≡◌, ◌+◌, ◌-◌, ◌^◌, ◌<◌, ◌≤◌, min, ap, sym, ◌∙◌, drop, drop-cons, add-one, length, length-append, List, [], ◌∷◌}
+use Rattle.std.proofs.Common.{arith, ◌≡◌, ◌+◌, ◌-◌, ◌^◌, ◌<◌, min, ap, sym, ◌∙◌, drop, drop-cons, add-one, length, length-append, List, [], ◌∷◌}
 use Rattle.std.proofs.lemmas.List.{drop_all}
 use Rattle.typed_tree.specs.declared.expressions.Arg.{Arg}
 use Rattle.typed_tree.specs.declared.expressions.SetElement.{SetElement}

@@ -11,4 +11,4 @@ pub field_by-returns-in-Err : goal.field_by-returns-in-Err
 field_by-returns-in-Err t c =
     let within = rw c.as_slice-in-Err.ensures at c.field_within-in-Err.ensures in
     let above = types_in (field_types_of (take c.args.before c.args.types.now.types)) c.in-ObjectOf.parent in
-    rw c.in-ObjectOf.is (found_behind above (map (λ (field : Field). field.ty) c.in-ObjectOf.fields) c.field_within-in-Err.result c.args.number c.in-Err.rest (c.in-Err.ensures tt) within)
+    rw c.in-ObjectOf.is (found_behind above (map (λ (field : Field). field.ty) c.in-ObjectOf.fields) c.field_within-in-Err.result c.args.number c.in-Err.rest (c.in-Err.ensures {u = tt}) within)
