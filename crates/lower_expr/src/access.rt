@@ -1,5 +1,10 @@
 //! Loads and stores, and pointers to places.
 
+ghost use Rattle.std.specs.Prelude.{◌≡◌, IfOk, ◌∷◌, []};
+ghost use Rattle.flat_code.specs.Tree.{Code, Do};
+ghost use Rattle.flat_code.specs.View.{view_expr, view_exprs, view_stmt, view_list};
+ghost use Rattle.lower_expr.specs.Access.{segment_of, offset_of, place_words, moved, stored_word, loading, load_word, load_text, assigned, cleared, is_through, set_part, cleared_around, set_moved, load_set, point, load, store_word, store, pointer_words};
+
 use crate::forms::{Form, high_in, low_in, slot_place, text_words, word_in};
 use crate::nodes::{clear, pair, runtime, signed_byte, single, with_result};
 use flat_code::flat_builders::{set, then};
@@ -10,7 +15,9 @@ use std::alloc::{AllocError, Global};
 use type_layout::Host;
 
 /// The segment of a place.
-pub fn segment_of(reach: Reach) -> Result<FlatExpr, AllocError> {
+pub fn segment_of(reach: Reach) -> Result<FlatExpr, AllocError>
+    ensures { IfOk result (λ expr. view_expr expr ≡ segment_of reach) }
+{
     match reach {
         Reach::At(at) => Ok(FlatExpr::SegmentOf(at)),
         Reach::Beyond(pointer) => Ok(FlatExpr::Word(further(pointer, 2)?)),
@@ -18,7 +25,9 @@ pub fn segment_of(reach: Reach) -> Result<FlatExpr, AllocError> {
 }
 
 /// The offset of a place.
-pub fn offset_of(reach: Reach) -> FlatExpr {
+pub fn offset_of(reach: Reach) -> FlatExpr
+    ensures { view_expr result ≡ offset_of reach }
+{
     match reach {
         Reach::At(at) => FlatExpr::AddressOf(at),
         Reach::Beyond(pointer) => FlatExpr::Word(pointer),
@@ -26,12 +35,16 @@ pub fn offset_of(reach: Reach) -> FlatExpr {
 }
 
 /// The segment and the offset of a place, as arguments.
-pub fn place_words(alloc: Global, reach: Reach) -> Result<FlatExprs, AllocError> {
+pub fn place_words(alloc: Global, reach: Reach) -> Result<FlatExprs, AllocError>
+    ensures { IfOk result (λ exprs. view_exprs exprs.items ≡ place_words reach) }
+{
     Ok(vec![in alloc; segment_of(reach)?, offset_of(reach)]?)
 }
 
 // Bytes that are moved from a place to another.
-fn moved(alloc: Global, to: Reach, from: Reach, bytes: u16) -> Result<FlatList, AllocError> {
+fn moved(alloc: Global, to: Reach, from: Reach, bytes: u16) -> Result<FlatList, AllocError>
+    ensures { IfOk result (λ list. view_list list.items ≡ moved to from bytes) }
+{
     if let (Reach::At(to), Reach::At(from)) = (to, from) {
         return single(alloc, FlatStmt::Copy { to, from, bytes });
     }
@@ -46,7 +59,9 @@ fn moved(alloc: Global, to: Reach, from: Reach, bytes: u16) -> Result<FlatList, 
 }
 
 // The number of a host that lies at a place, as a word.
-fn stored_word(alloc: Global, host: Host, at: Address) -> Result<FlatExpr, AllocError> {
+fn stored_word(alloc: Global, host: Host, at: Address) -> Result<FlatExpr, AllocError>
+    ensures { IfOk result (λ expr. view_expr expr ≡ stored_word host at) }
+{
     match host {
         Host::ShortInt => signed_byte(alloc, FlatExpr::Byte(at)),
         Host::Byte | Host::Char | Host::Boolean | Host::Enumeration => Ok(FlatExpr::Byte(at)),
@@ -55,7 +70,9 @@ fn stored_word(alloc: Global, host: Host, at: Address) -> Result<FlatExpr, Alloc
 }
 
 // The routine that loads a number of a host.
-fn loading(host: Host) -> RuntimeRoutine {
+fn loading(host: Host) -> RuntimeRoutine
+    ensures { result ≡ loading host }
+{
     match host {
         Host::ShortInt => RuntimeRoutine::LoadShort,
         Host::Byte | Host::Char | Host::Boolean | Host::Enumeration => RuntimeRoutine::LoadByte,
@@ -64,12 +81,9 @@ fn loading(host: Host) -> RuntimeRoutine {
 }
 
 /// The number of a host of at most 2 bytes at a place goes to a slot.
-pub fn load_word(
-    scene: &Scene,
-    from: Reach,
-    host: Host,
-    slot: u32,
-) -> Result<FlatList, AllocError> {
+pub fn load_word(scene: &Scene, from: Reach, host: Host, slot: u32) -> Result<FlatList, AllocError>
+    ensures { IfOk result (λ list. view_list list.items ≡ load_word scene.now.locals from host slot) }
+{
     let alloc = scene.alloc;
     let to = scene.slot_at(slot, 2)?;
     match from {
@@ -82,7 +96,9 @@ pub fn load_word(
 }
 
 // The string at a place goes to a slot.
-fn load_text(scene: &Scene, from: Reach, slot: u32) -> Result<FlatList, AllocError> {
+fn load_text(scene: &Scene, from: Reach, slot: u32) -> Result<FlatList, AllocError>
+    ensures { IfOk result (λ list. view_list list.items ≡ load_text scene.now.locals from slot) }
+{
     let to = Reach::At(slot_place(scene, slot, 256)?);
     single(
         scene.alloc,
@@ -96,7 +112,9 @@ fn assigned(
     max: u8,
     segment: FlatExpr,
     offset: FlatExpr,
-) -> Result<FlatStmt, AllocError> {
+) -> Result<FlatStmt, AllocError>
+    ensures { IfOk result (λ stmt. (next : Code) → view_stmt stmt next ≡ Do (assigned to max (view_expr segment) (view_expr offset)) next) }
+{
     let args = vec![in alloc;
         segment_of(to)?,
         offset_of(to),
@@ -108,7 +126,9 @@ fn assigned(
 }
 
 // Bytes so far from BP become zeros, if there are any.
-fn cleared(alloc: Global, at: i32, count: u16) -> Result<FlatList, AllocError> {
+fn cleared(alloc: Global, at: i32, count: u16) -> Result<FlatList, AllocError>
+    ensures { IfOk result (λ list. view_list list.items ≡ cleared at count) }
+{
     if count == 0 {
         return Ok(Vec::new(alloc));
     }
@@ -116,11 +136,47 @@ fn cleared(alloc: Global, at: i32, count: u16) -> Result<FlatList, AllocError> {
 }
 
 // Whether a place is reached through the slot of 4 bytes there.
-fn is_through(from: Reach, slot: i32) -> bool {
+fn is_through(from: Reach, slot: i32) -> bool
+    ensures { result ≡ is_through from slot }
+{
     match from {
         Reach::At(Address::Through { slot: pointer, .. }) => pointer == slot,
         _ => false,
     }
+}
+
+// So far from BP lies the byte with a number of the set in a slot.
+fn set_part(scene: &Scene, first: u16, slot: u32) -> Result<i32, AllocError>
+    ensures { IfOk result (λ at. at ≡ set_part scene.now.locals first slot) }
+{
+    let at = scene.slot_at(slot, 32)?;
+    at.checked_add(i32::from(first)).ok_or(AllocError)
+}
+
+// The bytes round some of the set in a slot become zeros.
+fn cleared_around(scene: &Scene, first: u16, bytes: u16, slot: u32) -> Result<FlatList, AllocError>
+    ensures { IfOk result (λ list. view_list list.items ≡ cleared_around scene.now.locals first bytes slot) }
+{
+    let alloc = scene.alloc;
+    let part = set_part(scene, first, slot)?;
+    let behind = part.checked_add(i32::from(bytes)).ok_or(AllocError)?;
+    let rest = 32u16.saturating_sub(first).saturating_sub(bytes);
+    let before = cleared(alloc, scene.slot_at(slot, 32)?, first)?;
+    then(before, cleared(alloc, behind, rest)?)
+}
+
+// So many bytes of a set go from a place to that with a number of the set in a slot.
+fn set_moved(
+    scene: &Scene,
+    from: Reach,
+    first: u16,
+    bytes: u16,
+    slot: u32,
+) -> Result<FlatList, AllocError>
+    ensures { IfOk result (λ list. view_list list.items ≡ set_moved scene.now.locals from first bytes slot) }
+{
+    let to = Address::Local(set_part(scene, first, slot)?);
+    moved(scene.alloc, Reach::At(to), from, bytes)
 }
 
 // So many bytes of a set lie at a place, from the one with a number on; all 32 go to a slot.
@@ -130,22 +186,22 @@ fn load_set(
     first: u16,
     bytes: u16,
     slot: u32,
-) -> Result<FlatList, AllocError> {
-    let alloc = scene.alloc;
-    let to = scene.slot_at(slot, 32)?;
-    let part = to.checked_add(i32::from(first)).ok_or(AllocError)?;
-    let copied = moved(alloc, Reach::At(Address::Local(part)), from, bytes)?;
-    if !is_through(from, scene.slot_at(slot, 4)?) {
-        return then(cleared(alloc, to, 32)?, copied);
+) -> Result<FlatList, AllocError>
+    ensures { IfOk result (λ list. view_list list.items ≡ load_set scene.now.locals from first bytes slot) }
+{
+    let copied = set_moved(scene, from, first, bytes, slot)?;
+    if is_through(from, scene.slot_at(slot, 4)?) {
+        then(copied, cleared_around(scene, first, bytes, slot)?)
+    } else {
+        let empty = cleared(scene.alloc, scene.slot_at(slot, 32)?, 32)?;
+        then(empty, copied)
     }
-    let behind = part.checked_add(i32::from(bytes)).ok_or(AllocError)?;
-    let rest = 32u16.saturating_sub(first).saturating_sub(bytes);
-    let around = then(cleared(alloc, to, first)?, cleared(alloc, behind, rest)?)?;
-    then(copied, around)
 }
 
 /// A far pointer to a place goes to a slot of 4 bytes.
-pub fn point(scene: &Scene, to: Reach, slot: u32) -> Result<FlatList, AllocError> {
+pub fn point(scene: &Scene, to: Reach, slot: u32) -> Result<FlatList, AllocError>
+    ensures { IfOk result (λ list. view_list list.items ≡ point scene.now.locals to slot) }
+{
     let alloc = scene.alloc;
     let low = scene.slot_at(slot, 4)?;
     let high = scene.slot_at(slot, 2)?;
@@ -173,7 +229,9 @@ pub fn point(scene: &Scene, to: Reach, slot: u32) -> Result<FlatList, AllocError
 }
 
 /// The value at a place goes to a slot; of a structured value a far pointer to it.
-pub fn load(scene: &Scene, from: Reach, shape: Shape, slot: u32) -> Result<FlatList, AllocError> {
+pub fn load(scene: &Scene, from: Reach, shape: Shape, slot: u32) -> Result<FlatList, AllocError>
+    ensures { IfOk result (λ list. view_list list.items ≡ load scene.now.locals from shape slot) }
+{
     match shape {
         Shape::Number { host, .. } if host.width() <= 2 => load_word(scene, from, host, slot),
         Shape::Number { .. } | Shape::Far => {
@@ -186,7 +244,9 @@ pub fn load(scene: &Scene, from: Reach, shape: Shape, slot: u32) -> Result<FlatL
 }
 
 // The number in a slot of 2 bytes goes to a place of a host.
-fn store_word(scene: &Scene, to: Reach, host: Host, slot: u32) -> Result<FlatList, AllocError> {
+fn store_word(scene: &Scene, to: Reach, host: Host, slot: u32) -> Result<FlatList, AllocError>
+    ensures { IfOk result (λ list. view_list list.items ≡ store_word scene.now.locals to host slot) }
+{
     let alloc = scene.alloc;
     let one_byte = host.width() == 1;
     match to {
@@ -216,7 +276,9 @@ pub fn store(
     shape: Shape,
     slot: u32,
     literal: bool,
-) -> Result<FlatList, AllocError> {
+) -> Result<FlatList, AllocError>
+    ensures { IfOk result (λ list. view_list list.items ≡ store scene.now.locals to shape slot literal) }
+{
     let alloc = scene.alloc;
     match shape {
         Shape::Number { host, .. } if host.width() <= 2 => store_word(scene, to, host, slot),
@@ -237,6 +299,8 @@ pub fn store(
 }
 
 /// The segment and the offset of the far pointer in a slot of 4 bytes, as arguments.
-pub fn pointer_words(scene: &Scene, slot: u32) -> Result<FlatExprs, AllocError> {
+pub fn pointer_words(scene: &Scene, slot: u32) -> Result<FlatExprs, AllocError>
+    ensures { IfOk result (λ exprs. view_exprs exprs.items ≡ pointer_words scene.now.locals slot) }
+{
     Ok(vec![in scene.alloc; high_in(scene, slot)?, low_in(scene, slot)?]?)
 }

@@ -1,9 +1,8 @@
 //! Calls, behind their arguments.
 
-use crate::forms::{
-    Form, form_of, high_in, long_words, low_in, slot_of_arg, slot_place, text_words, word_in,
-};
+use crate::forms::{Form, form_of, high_in, long_words, low_in, next_slot, slot_place, text_words};
 use crate::nodes::{clear_at, runtime, signed_byte, single, with_result};
+use crate::words::{push_class, push_link, words_with, words_without};
 use flat_code::flat_builders::{op, set, then};
 use flat_code::{Address, FlatExpr, FlatExprs, FlatList, FlatOp, FlatResult, FlatStmt};
 use lower_places::{Scene, Shape, Sort};
@@ -12,89 +11,7 @@ use std::alloc::AllocError;
 use type_layout::{Host, Kind, RoutineId, TypeId};
 use typed_tree::{Arg, Destructor, Expr, PlaceExpr};
 
-// ---- what is handed over
-
-// The far pointer in a slot of 4 bytes, or the words of a LongInt, the upper one first.
-fn push_four(scene: &Scene, words: &mut FlatExprs, slot: u32) -> Result<(), AllocError> {
-    words.push(high_in(scene, slot)?)?;
-    words.push(low_in(scene, slot)?)?;
-    Ok(())
-}
-
-// A far pointer to a place.
-fn push_place(words: &mut FlatExprs, at: Address) -> Result<(), AllocError> {
-    words.push(FlatExpr::SegmentOf(at))?;
-    words.push(FlatExpr::AddressOf(at))?;
-    Ok(())
-}
-
-// The argument in a slot: a word, 4 bytes, or a far pointer to the slot of a string or a set.
-fn push_argument(
-    scene: &Scene,
-    words: &mut FlatExprs,
-    slot: u32,
-    bytes: u32,
-) -> Result<(), AllocError> {
-    match bytes {
-        2 => {
-            words.push(word_in(scene, slot)?)?;
-            Ok(())
-        }
-        4 => push_four(scene, words, slot),
-        _ => push_place(words, slot_place(scene, slot, bytes)?),
-    }
-}
-
-fn push_arguments(
-    scene: &Scene,
-    words: &mut FlatExprs,
-    args: &[Arg],
-    slot: u32,
-) -> Result<(), AllocError> {
-    let mut at = slot;
-    for arg in args {
-        let bytes = slot_of_arg(&scene.unit.types, arg);
-        push_argument(scene, words, at, bytes)?;
-        at = at.saturating_add(bytes);
-    }
-    Ok(())
-}
-
-// The word of a class for a constructor or a destructor.
-fn push_class(words: &mut FlatExprs, kind: Kind, class: FlatExpr) -> Result<(), AllocError> {
-    match kind {
-        Kind::Procedure | Kind::Function => {}
-        Kind::Constructor => words.push(class)?,
-        Kind::Destructor => words.push(FlatExpr::Number(0))?,
-    }
-    Ok(())
-}
-
-// The static link.
-fn push_link(scene: &Scene, words: &mut FlatExprs, routine: RoutineId) -> Result<(), AllocError> {
-    if let Some(link) = scene.link_for(routine)? {
-        words.push(FlatExpr::AddressOf(link))?;
-    }
-    Ok(())
-}
-
 // ---- results
-
-// Where a string result goes.
-fn push_result(
-    scene: &Scene,
-    words: &mut FlatExprs,
-    ty: Option<TypeId>,
-    slot: u32,
-) -> Result<(), AllocError> {
-    let Some(ty) = ty else {
-        return Ok(());
-    };
-    match scene.shape(ty)? {
-        Shape::Text { .. } => push_place(words, slot_place(scene, slot, 256)?),
-        _ => Ok(()),
-    }
-}
 
 // Where the bytes of a result go that is no string.
 fn result_place(
@@ -217,25 +134,6 @@ fn overlay_call(
     }
 }
 
-// The words of a call up to its arguments: the instance, if there is one, lies in a slot of 4 bytes before them.
-fn words_of(
-    scene: &Scene,
-    ty: Option<TypeId>,
-    has_instance: bool,
-    args: &[Arg],
-    slot: u32,
-) -> Result<FlatExprs, AllocError> {
-    let mut words = Vec::new(scene.alloc);
-    push_result(scene, &mut words, ty, slot)?;
-    if has_instance {
-        push_four(scene, &mut words, slot)?;
-        push_arguments(scene, &mut words, args, slot.saturating_add(4))?;
-    } else {
-        push_arguments(scene, &mut words, args, slot)?;
-    }
-    Ok(words)
-}
-
 // The class of the instance of a call that may be that of a constructor.
 fn class_given(
     scene: &Scene,
@@ -257,7 +155,11 @@ fn routine_call(
     slot: u32,
 ) -> Result<FlatList, AllocError> {
     let kind = scene.kind_of(routine)?;
-    let mut words = words_of(scene, ty, own.is_some(), args, slot)?;
+    let mut words = if own.is_some() {
+        words_with(scene, ty, args, slot)?
+    } else {
+        words_without(scene, ty, args, slot, slot)?
+    };
     push_class(&mut words, kind, class_given(scene, kind, own)?)?;
     push_link(scene, &mut words, routine)?;
     let call = FlatStmt::Call {
@@ -292,7 +194,7 @@ fn virtual_call(
     slot: u32,
 ) -> Result<FlatList, AllocError> {
     let found = method_found(scene, target, entry, slot)?;
-    let mut words = words_of(scene, ty, true, args, slot)?;
+    let mut words = words_with(scene, ty, args, slot)?;
     push_class(&mut words, target.virtual_kind(entry)?, FlatExpr::Number(0))?;
     then(
         found,
@@ -307,9 +209,7 @@ fn variable_call(
     args: &[Arg],
     slot: u32,
 ) -> Result<FlatList, AllocError> {
-    let mut words = Vec::new(scene.alloc);
-    push_result(scene, &mut words, ty, slot)?;
-    push_arguments(scene, &mut words, args, slot.saturating_add(4))?;
+    let words = words_without(scene, ty, args, slot, next_slot(slot, 4)?)?;
     let pointer = Address::Through {
         slot: scene.slot_at(slot, 4)?,
         plus: 0,
@@ -336,17 +236,16 @@ pub fn made_block(scene: &Scene, target: &Sort, slot: u32) -> Result<FlatList, A
     )
 }
 
-// The call of a constructor on the new block to which the far pointer in a slot leads.
-fn constructor_call(
+// The call of a method on the instance to which the far pointer in a slot leads, with the word of a class.
+fn method_call(
     scene: &Scene,
-    target: &Sort,
     routine: RoutineId,
+    class: FlatExpr,
     args: &[Arg],
     slot: u32,
 ) -> Result<FlatList, AllocError> {
-    let kind = scene.kind_of(routine)?;
-    let mut words = words_of(scene, None, true, args, slot)?;
-    push_class(&mut words, kind, class_word(scene, target)?)?;
+    let mut words = words_with(scene, None, args, slot)?;
+    push_class(&mut words, scene.kind_of(routine)?, class)?;
     push_link(scene, &mut words, routine)?;
     let call = FlatStmt::Call {
         routine,
@@ -370,15 +269,7 @@ pub fn call_destructor(
             scene, None, target, entry, args, slot,
         ),
         Destructor::Routine(routine) => {
-            let mut words = words_of(scene, None, true, args, slot)?;
-            push_class(&mut words, scene.kind_of(routine)?, FlatExpr::Number(0))?;
-            push_link(scene, &mut words, routine)?;
-            let call = FlatStmt::Call {
-                routine,
-                args: words,
-                result: None,
-            };
-            single(scene.alloc, call)
+            method_call(scene, routine, FlatExpr::Number(0), args, slot)
         }
     }
 }
@@ -411,7 +302,8 @@ pub fn call(scene: &Scene, expr: &Expr, slot: u32) -> Result<FlatList, AllocErro
         Expr::CallThrough { ty, args, .. } => variable_call(scene, *ty, args.as_slice(), slot),
         Expr::Make { ty, routine, args } => {
             let target = scene.sort(*ty).target()?;
-            constructor_call(scene, &target, *routine, args.as_slice(), slot)
+            let class = class_word(scene, &target)?;
+            method_call(scene, *routine, class, args.as_slice(), slot)
         }
         _ => Err(AllocError),
     }

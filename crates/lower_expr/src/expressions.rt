@@ -8,7 +8,8 @@ use crate::nodes::{high_number, number, pair, single};
 use crate::operators::{binary, unary};
 use crate::places::{indexed, inside, through};
 use crate::sets::{emptied, with_element, with_span};
-use crate::standard::{length_at, length_of, standard};
+use crate::standard::standard;
+use crate::text_functions::{length_at, length_of};
 use crate::word_operators::early;
 use flat_code::flat_builders::{set, then};
 use flat_code::{FlatExpr, FlatList, FlatStmt};
@@ -119,6 +120,19 @@ fn behind_receiver(own: &Option<Box<PlaceExpr>>, spot: Spot) -> Spot {
     if own.is_some() { after.above(4) } else { after }
 }
 
+// The far pointer in a slot goes on from an array or a string to the element of the index behind it.
+fn element(
+    scene: &Scene,
+    place: &PlaceExpr,
+    index: &Expr,
+    checked: bool,
+    slot: u32,
+) -> Result<FlatList, AllocError> {
+    let (low, high, element) = scene.sort_of_place(place)?.elements()?;
+    let form = form_of(scene, index)?;
+    indexed(scene, (low, high), element.size(), form, checked, slot)
+}
+
 // What is found by the far pointer in a slot.
 fn with_through(scene: &Scene, code: FlatList, slot: u32) -> Result<(FlatList, Reach), AllocError> {
     Ok((code, through(scene, slot)?))
@@ -225,9 +239,7 @@ pub fn lower_place(
             let code = lower_address(scene, place, spot)?;
             let next = spot.above(4).after(literals_of_place(place));
             let number = lower_expr(scene, index, next)?;
-            let whole = scene.sort_of_place(place)?;
-            let form = form_of(scene, index)?;
-            let moved = indexed(scene, &whole, form, *checked, spot.slot)?;
+            let moved = element(scene, place, index, *checked, spot.slot)?;
             with_through(scene, then(code, then(number, moved)?)?, spot.slot)
         }
         PlaceExpr::FieldOf { place, number } => {
@@ -281,6 +293,12 @@ fn lower_arg(scene: &Scene, arg: &Arg, spot: Spot) -> Result<FlatList, AllocErro
     }
 }
 
+// Where the next argument begins.
+fn behind_arg(scene: &Scene, arg: &Arg, spot: Spot) -> Spot {
+    spot.above(slot_of_arg(&scene.unit.types, arg))
+        .after(literals_of_arg(arg))
+}
+
 /// Code that leaves arguments in slots one behind the other: values, and far pointers to places.
 #[cycle(lowering)]
 pub fn lower_args(scene: &Scene, args: &[Arg], spot: Spot) -> Result<FlatList, AllocError> {
@@ -288,9 +306,7 @@ pub fn lower_args(scene: &Scene, args: &[Arg], spot: Spot) -> Result<FlatList, A
     let mut at = spot;
     for arg in args {
         code = then(code, lower_arg(scene, arg, at)?)?;
-        at = at
-            .above(slot_of_arg(&scene.unit.types, arg))
-            .after(literals_of_arg(arg));
+        at = behind_arg(scene, arg, at);
     }
     Ok(code)
 }

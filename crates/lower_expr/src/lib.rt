@@ -12,8 +12,10 @@ mod operators;
 mod places;
 mod sets;
 mod standard;
+mod text_functions;
 mod texts;
 mod word_operators;
+mod words;
 
 pub use access::{
     load, load_word, offset_of, place_words, point, pointer_words, segment_of, store,

@@ -1,6 +1,10 @@
 //! Operators on LongInts.
 
-use crate::forms::{Form, high_in, low_in, low_word, two_longs, word_in};
+ghost use Rattle.std.specs.Prelude.{◌≡◌, IfOk};
+ghost use Rattle.flat_code.specs.View.{view_exprs, view_list};
+ghost use Rattle.lower_expr.specs.LongOperators.{long_result, told, on_bits, long_shift, long_binary, long_negation, long_unary};
+
+use crate::forms::{Form, high_in, low_in, low_word, next_slot, two_longs, word_in};
 use crate::nodes::{not, pair, single, with_result};
 use flat_code::flat_builders::{op, set};
 use flat_code::{FlatExpr, FlatExprs, FlatList, FlatOp};
@@ -15,7 +19,9 @@ pub fn long_result(
     routine: RuntimeRoutine,
     args: FlatExprs,
     slot: u32,
-) -> Result<FlatList, AllocError> {
+) -> Result<FlatList, AllocError>
+    ensures { IfOk result (λ list. view_list list.items ≡ long_result scene.now.locals routine (view_exprs args.items) slot) }
+{
     let at = scene.slot_at(slot, 4)?;
     single(scene.alloc, with_result(routine, args, at, 4))
 }
@@ -27,7 +33,9 @@ pub fn told(
     args: FlatExprs,
     contrary: bool,
     slot: u32,
-) -> Result<FlatList, AllocError> {
+) -> Result<FlatList, AllocError>
+    ensures { IfOk result (λ list. view_list list.items ≡ told scene.now.locals routine (view_exprs args.items) contrary slot) }
+{
     let alloc = scene.alloc;
     let at = scene.slot_at(slot, 2)?;
     let tell = with_result(routine, args, at, 2);
@@ -39,9 +47,11 @@ pub fn told(
 }
 
 // An operator on bits, of the words of both.
-fn on_bits(scene: &Scene, one: FlatOp, slot: u32) -> Result<FlatList, AllocError> {
+fn on_bits(scene: &Scene, one: FlatOp, slot: u32) -> Result<FlatList, AllocError>
+    ensures { IfOk result (λ list. view_list list.items ≡ on_bits scene.now.locals one slot) }
+{
     let alloc = scene.alloc;
-    let other = slot.saturating_add(4);
+    let other = next_slot(slot, 4)?;
     let low = op(alloc, one, low_in(scene, slot)?, low_in(scene, other)?)?;
     let high = op(alloc, one, high_in(scene, slot)?, high_in(scene, other)?)?;
     pair(
@@ -57,11 +67,13 @@ pub fn long_shift(
     operator: BinaryOp,
     right: Form,
     slot: u32,
-) -> Result<FlatList, AllocError> {
+) -> Result<FlatList, AllocError>
+    ensures { IfOk result (λ list. view_list list.items ≡ long_shift scene.now.locals operator right slot) }
+{
     let args = vec![in scene.alloc;
         low_in(scene, slot)?,
         high_in(scene, slot)?,
-        low_word(scene, right, slot.saturating_add(4))?,
+        low_word(scene, right, next_slot(slot, 4)?)?,
     ]?;
     match operator {
         BinaryOp::ShiftLeft => long_result(scene, RuntimeRoutine::LeftShift, args, slot),
@@ -71,8 +83,10 @@ pub fn long_shift(
 }
 
 /// An operator on the LongInts in two slots, one behind the other.
-pub fn long_binary(scene: &Scene, operator: BinaryOp, slot: u32) -> Result<FlatList, AllocError> {
-    let other = slot.saturating_add(4);
+pub fn long_binary(scene: &Scene, operator: BinaryOp, slot: u32) -> Result<FlatList, AllocError>
+    ensures { IfOk result (λ list. view_list list.items ≡ long_binary scene.now.locals operator slot) }
+{
+    let other = next_slot(slot, 4)?;
     let onward = two_longs(scene, slot, other)?;
     let back = two_longs(scene, other, slot)?;
     match operator {
@@ -95,13 +109,17 @@ pub fn long_binary(scene: &Scene, operator: BinaryOp, slot: u32) -> Result<FlatL
 }
 
 /// The negative of the LongInt in a slot.
-pub fn long_negation(scene: &Scene, slot: u32) -> Result<FlatList, AllocError> {
+pub fn long_negation(scene: &Scene, slot: u32) -> Result<FlatList, AllocError>
+    ensures { IfOk result (λ list. view_list list.items ≡ long_negation scene.now.locals slot) }
+{
     let args = vec![in scene.alloc; low_in(scene, slot)?, high_in(scene, slot)?]?;
     long_result(scene, RuntimeRoutine::Negation, args, slot)
 }
 
 /// An operator on the LongInt in a slot.
-pub fn long_unary(scene: &Scene, operator: UnaryOp, slot: u32) -> Result<FlatList, AllocError> {
+pub fn long_unary(scene: &Scene, operator: UnaryOp, slot: u32) -> Result<FlatList, AllocError>
+    ensures { IfOk result (λ list. view_list list.items ≡ long_unary scene.now.locals operator slot) }
+{
     let alloc = scene.alloc;
     match operator {
         UnaryOp::Plus => Ok(Vec::new(alloc)),

@@ -1,5 +1,9 @@
 //! Operators, by how their operands lie in slots.
 
+ghost use Rattle.std.specs.Prelude.{◌≡◌, IfOk};
+ghost use Rattle.flat_code.specs.View.{view_list};
+ghost use Rattle.lower_expr.specs.Operators.{host_of, binary, unary};
+
 use crate::conversions::fitted;
 use crate::forms::Form;
 use crate::long_operators::{long_binary, long_shift, long_unary};
@@ -14,7 +18,9 @@ use type_layout::Host;
 use typed_tree::{BinaryOp, UnaryOp};
 
 // What stores the result of an operator on words.
-fn host_of(stored: Form) -> Result<Host, AllocError> {
+fn host_of(stored: Form) -> Result<Host, AllocError>
+    ensures { IfOk result (λ host. host ≡ host_of stored) }
+{
     match stored {
         Form::Word(host) => Ok(host),
         _ => Err(AllocError),
@@ -29,7 +35,9 @@ pub fn binary(
     right: Form,
     stored: Form,
     slot: u32,
-) -> Result<FlatList, AllocError> {
+) -> Result<FlatList, AllocError>
+    ensures { IfOk result (λ list. view_list list.items ≡ binary scene.now.locals operator left right stored slot) }
+{
     if let BinaryOp::In = operator {
         return membership(scene, left, slot);
     }
@@ -58,7 +66,9 @@ pub fn unary(
     operand: Form,
     stored: Form,
     slot: u32,
-) -> Result<FlatList, AllocError> {
+) -> Result<FlatList, AllocError>
+    ensures { IfOk result (λ list. view_list list.items ≡ unary scene.now.locals operator operand stored slot) }
+{
     let ready = fitted(scene, operand, stored, slot)?;
     let done = match stored {
         Form::Word(host) => word_unary(scene, operator, host, slot)?,

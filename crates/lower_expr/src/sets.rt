@@ -1,29 +1,45 @@
 //! Operators on sets, and sets that are made of elements.
 
-use crate::forms::{Form, long_words, low_word, slot_place, word_in};
+ghost use Rattle.std.specs.Prelude.{◌≡◌, IfOk, [], ◌∷◌};
+ghost use Rattle.flat_code.specs.View.{view_expr, view_exprs, view_list};
+ghost use Rattle.lower_expr.specs.Sets.{places, combined, compared, set_binary, membership, emptied, included, with_element, outside, compare_of, is_empty, with_span};
+
+use crate::forms::{Form, long_words, low_word, next_slot, slot_place, word_in};
 use crate::long_operators::told;
 use crate::nodes::{clear, runtime, single};
 use flat_code::flat_builders::{op, when};
-use flat_code::{FlatExpr, FlatExprs, FlatList, FlatOp, FlatStmt};
+use flat_code::{Address, FlatExpr, FlatExprs, FlatList, FlatOp};
 use lower_places::Scene;
 use runtime_units::numbers::RuntimeRoutine;
 use std::alloc::{AllocError, Global};
 use type_layout::Host;
 use typed_tree::BinaryOp;
 
-fn places(alloc: Global, all: &[flat_code::Address]) -> Result<FlatExprs, AllocError> {
-    let mut args = Vec::new(alloc);
-    for at in all {
-        args.push(FlatExpr::SegmentOf(*at))?;
-        args.push(FlatExpr::AddressOf(*at))?;
-    }
-    Ok(args)
+// The segments and the offsets of two places.
+fn places(alloc: Global, one: Address, other: Address) -> Result<FlatExprs, AllocError>
+    ensures { IfOk result (λ exprs. view_exprs exprs.items ≡ places (one ∷ other ∷ [])) }
+{
+    Ok(vec![in alloc;
+        FlatExpr::SegmentOf(one),
+        FlatExpr::AddressOf(one),
+        FlatExpr::SegmentOf(other),
+        FlatExpr::AddressOf(other),
+    ]?)
 }
 
-fn combined(scene: &Scene, routine: RuntimeRoutine, slot: u32) -> Result<FlatList, AllocError> {
+fn combined(scene: &Scene, routine: RuntimeRoutine, slot: u32) -> Result<FlatList, AllocError>
+    ensures { IfOk result (λ list. view_list list.items ≡ combined scene.now.locals routine slot) }
+{
     let left = slot_place(scene, slot, 32)?;
-    let right = slot_place(scene, slot.saturating_add(32), 32)?;
-    let args = places(scene.alloc, &[left, left, right])?;
+    let right = slot_place(scene, next_slot(slot, 32)?, 32)?;
+    let args = vec![in scene.alloc;
+        FlatExpr::SegmentOf(left),
+        FlatExpr::AddressOf(left),
+        FlatExpr::SegmentOf(left),
+        FlatExpr::AddressOf(left),
+        FlatExpr::SegmentOf(right),
+        FlatExpr::AddressOf(right),
+    ]?;
     single(scene.alloc, runtime(routine, args))
 }
 
@@ -33,19 +49,23 @@ fn compared(
     onward: bool,
     contrary: bool,
     slot: u32,
-) -> Result<FlatList, AllocError> {
+) -> Result<FlatList, AllocError>
+    ensures { IfOk result (λ list. view_list list.items ≡ compared scene.now.locals routine onward contrary slot) }
+{
     let left = slot_place(scene, slot, 32)?;
-    let right = slot_place(scene, slot.saturating_add(32), 32)?;
+    let right = slot_place(scene, next_slot(slot, 32)?, 32)?;
     let args = if onward {
-        places(scene.alloc, &[left, right])?
+        places(scene.alloc, left, right)?
     } else {
-        places(scene.alloc, &[right, left])?
+        places(scene.alloc, right, left)?
     };
     told(scene, routine, args, contrary, slot)
 }
 
 /// An operator on the sets in two slots, one behind the other.
-pub fn set_binary(scene: &Scene, operator: BinaryOp, slot: u32) -> Result<FlatList, AllocError> {
+pub fn set_binary(scene: &Scene, operator: BinaryOp, slot: u32) -> Result<FlatList, AllocError>
+    ensures { IfOk result (λ list. view_list list.items ≡ set_binary scene.now.locals operator slot) }
+{
     match operator {
         BinaryOp::Add => combined(scene, RuntimeRoutine::Union, slot),
         BinaryOp::Subtract => combined(scene, RuntimeRoutine::SetDifference, slot),
@@ -59,9 +79,11 @@ pub fn set_binary(scene: &Scene, operator: BinaryOp, slot: u32) -> Result<FlatLi
 }
 
 /// Whether the ordinal in a slot is an element of the set in the next one.
-pub fn membership(scene: &Scene, left: Form, slot: u32) -> Result<FlatList, AllocError> {
+pub fn membership(scene: &Scene, left: Form, slot: u32) -> Result<FlatList, AllocError>
+    ensures { IfOk result (λ list. view_list list.items ≡ membership scene.now.locals left slot) }
+{
     let (low, high) = long_words(scene, left, slot)?;
-    let set = slot_place(scene, slot.saturating_add(left.bytes()), 32)?;
+    let set = slot_place(scene, next_slot(slot, left.bytes())?, 32)?;
     let args = vec![in scene.alloc;
         low,
         high,
@@ -72,7 +94,9 @@ pub fn membership(scene: &Scene, left: Form, slot: u32) -> Result<FlatList, Allo
 }
 
 /// The set in a slot becomes empty.
-pub fn emptied(scene: &Scene, slot: u32) -> Result<FlatList, AllocError> {
+pub fn emptied(scene: &Scene, slot: u32) -> Result<FlatList, AllocError>
+    ensures { IfOk result (λ list. view_list list.items ≡ emptied scene.now.locals slot) }
+{
     single(
         scene.alloc,
         clear(scene.alloc, scene.slot_at(slot, 32)?, 32)?,
@@ -85,19 +109,18 @@ pub fn included(
     set: u32,
     low: FlatExpr,
     high: FlatExpr,
-) -> Result<FlatList, AllocError> {
+) -> Result<FlatList, AllocError>
+    ensures { IfOk result (λ list. view_list list.items ≡ included scene.now.locals set (view_expr low) (view_expr high)) }
+{
     let to = slot_place(scene, set, 32)?;
     let args = vec![in scene.alloc; FlatExpr::SegmentOf(to), FlatExpr::AddressOf(to), low, high]?;
     single(scene.alloc, runtime(RuntimeRoutine::Include, args))
 }
 
 /// The set in a slot gets the ordinal in another slot.
-pub fn with_element(
-    scene: &Scene,
-    set: u32,
-    form: Form,
-    slot: u32,
-) -> Result<FlatList, AllocError> {
+pub fn with_element(scene: &Scene, set: u32, form: Form, slot: u32) -> Result<FlatList, AllocError>
+    ensures { IfOk result (λ list. view_list list.items ≡ with_element scene.now.locals set form slot) }
+{
     included(
         scene,
         set,
@@ -107,7 +130,9 @@ pub fn with_element(
 }
 
 // A word that is 0 where an ordinal in a slot lies in 0..65535.
-fn outside(scene: &Scene, form: Form, slot: u32) -> Result<FlatExpr, AllocError> {
+fn outside(scene: &Scene, form: Form, slot: u32) -> Result<FlatExpr, AllocError>
+    ensures { IfOk result (λ expr. view_expr expr ≡ outside scene.now.locals form slot) }
+{
     match form {
         Form::Word(host) if host.least() < 0 => op(
             scene.alloc,
@@ -122,7 +147,9 @@ fn outside(scene: &Scene, form: Form, slot: u32) -> Result<FlatExpr, AllocError>
 }
 
 // Whether two ordinals are words that are compared in one way.
-fn compare_of(low: Form, high: Form) -> Option<FlatOp> {
+fn compare_of(low: Form, high: Form) -> Option<FlatOp>
+    ensures { result ≡ compare_of low high }
+{
     match (low, high) {
         (Form::Word(one), Form::Word(other)) => {
             if (one.least() < 0) == (other.least() < 0) {
@@ -140,9 +167,11 @@ fn compare_of(low: Form, high: Form) -> Option<FlatOp> {
 }
 
 // Not 0 where a range adds no elements, or is out of all bounds.
-fn is_empty(scene: &Scene, low: Form, high: Form, slot: u32) -> Result<FlatExpr, AllocError> {
+fn is_empty(scene: &Scene, low: Form, high: Form, slot: u32) -> Result<FlatExpr, AllocError>
+    ensures { IfOk result (λ expr. view_expr expr ≡ is_empty scene.now.locals low high slot) }
+{
     let alloc = scene.alloc;
-    let next = slot.saturating_add(low.bytes());
+    let next = next_slot(slot, low.bytes())?;
     let first = low_word(scene, low, slot)?;
     let last = low_word(scene, high, next)?;
     if let Some(less) = compare_of(low, high) {
@@ -166,10 +195,12 @@ pub fn with_span(
     low: Form,
     high: Form,
     slot: u32,
-) -> Result<FlatList, AllocError> {
+) -> Result<FlatList, AllocError>
+    ensures { IfOk result (λ list. view_list list.items ≡ with_span scene.now.locals set low high slot) }
+{
     let alloc = scene.alloc;
     let first = low_word(scene, low, slot)?;
-    let last = low_word(scene, high, slot.saturating_add(low.bytes()))?;
+    let last = low_word(scene, high, next_slot(slot, low.bytes())?)?;
     let test = is_empty(scene, low, high, slot)?;
     single(
         alloc,

@@ -1,18 +1,20 @@
 //! Standard functions, behind their arguments.
 
-use crate::access::load_word;
+ghost use Rattle.std.specs.Prelude.{◌≡◌, IfOk};
+ghost use Rattle.typed_tree.specs.Expressions.{view_expr as view_tree};
+ghost use Rattle.flat_code.specs.View.{view_expr, view_list};
+ghost use Rattle.lower_expr.specs.Forms.{low_word};
+ghost use Rattle.lower_expr.specs.Standard.{of_number, of_word, absolute_word, absolute_long, with_one, of_long, word_of, given_word, of_low_word, asked, upper, of_value};
+
 use crate::calls::made_block;
 use crate::conversions::fitted;
-use crate::forms::{
-    Form, form_of, high_in, long_words, low_in, low_word, slot_of_arg, slot_place, text_words,
-    word_in,
-};
+use crate::forms::{Form, form_of, high_in, low_in, low_word, two_longs, word_in};
 use crate::long_operators::{long_negation, long_result};
-use crate::nodes::{kept, pair, runtime, single, with_result};
-use crate::texts::joined;
+use crate::nodes::{kept, pair, single, with_result};
+use crate::text_functions::{concatenated, copied, found, length_of};
 use flat_code::flat_builders::{op, set, then, when};
-use flat_code::{Address, FlatExpr, FlatList, FlatOp, FlatStmt};
-use lower_places::{Reach, Scene};
+use flat_code::{FlatExpr, FlatList, FlatOp};
+use lower_places::Scene;
 use runtime_units::numbers::RuntimeRoutine;
 use std::alloc::AllocError;
 use type_layout::{Host, TypeId};
@@ -25,7 +27,9 @@ use typed_tree::{Arg, Expr};
 // ---- functions of a number
 
 // What a function of an ordinal in a slot gives, once that has the width of the result.
-fn of_number(scene: &Scene, number: u32, stored: Form, slot: u32) -> Result<FlatList, AllocError> {
+fn of_number(scene: &Scene, number: u32, stored: Form, slot: u32) -> Result<FlatList, AllocError>
+    ensures { IfOk result (λ list. view_list list.items ≡ of_number scene.now.locals number stored slot) }
+{
     match (stored, number) {
         (_, ORD) => Ok(Vec::new(scene.alloc)),
         (Form::Word(host), _) => of_word(scene, number, host, slot),
@@ -34,7 +38,9 @@ fn of_number(scene: &Scene, number: u32, stored: Form, slot: u32) -> Result<Flat
     }
 }
 
-fn of_word(scene: &Scene, number: u32, host: Host, slot: u32) -> Result<FlatList, AllocError> {
+fn of_word(scene: &Scene, number: u32, host: Host, slot: u32) -> Result<FlatList, AllocError>
+    ensures { IfOk result (λ list. view_list list.items ≡ of_word scene.now.locals number host slot) }
+{
     let alloc = scene.alloc;
     let at = scene.slot_at(slot, 2)?;
     let one = word_in(scene, slot)?;
@@ -48,7 +54,9 @@ fn of_word(scene: &Scene, number: u32, host: Host, slot: u32) -> Result<FlatList
     single(alloc, set(at, kept(alloc, host, value)?))
 }
 
-fn absolute_word(scene: &Scene, host: Host, slot: u32) -> Result<FlatList, AllocError> {
+fn absolute_word(scene: &Scene, host: Host, slot: u32) -> Result<FlatList, AllocError>
+    ensures { IfOk result (λ list. view_list list.items ≡ absolute_word scene.now.locals host slot) }
+{
     let alloc = scene.alloc;
     if host.least() == 0 {
         return Ok(Vec::new(alloc));
@@ -72,7 +80,9 @@ fn absolute_word(scene: &Scene, host: Host, slot: u32) -> Result<FlatList, Alloc
     )
 }
 
-fn absolute_long(scene: &Scene, slot: u32) -> Result<FlatList, AllocError> {
+fn absolute_long(scene: &Scene, slot: u32) -> Result<FlatList, AllocError>
+    ensures { IfOk result (λ list. view_list list.items ≡ absolute_long scene.now.locals slot) }
+{
     let alloc = scene.alloc;
     let negative = op(
         alloc,
@@ -87,7 +97,9 @@ fn absolute_long(scene: &Scene, slot: u32) -> Result<FlatList, AllocError> {
 }
 
 // A routine of the runtime on the LongInt in a slot and 1.
-fn with_one(scene: &Scene, routine: RuntimeRoutine, slot: u32) -> Result<FlatList, AllocError> {
+fn with_one(scene: &Scene, routine: RuntimeRoutine, slot: u32) -> Result<FlatList, AllocError>
+    ensures { IfOk result (λ list. view_list list.items ≡ with_one scene.now.locals routine slot) }
+{
     let args = vec![in scene.alloc;
         low_in(scene, slot)?,
         high_in(scene, slot)?,
@@ -97,11 +109,13 @@ fn with_one(scene: &Scene, routine: RuntimeRoutine, slot: u32) -> Result<FlatLis
     long_result(scene, routine, args, slot)
 }
 
-fn of_long(scene: &Scene, number: u32, slot: u32) -> Result<FlatList, AllocError> {
+fn of_long(scene: &Scene, number: u32, slot: u32) -> Result<FlatList, AllocError>
+    ensures { IfOk result (λ list. view_list list.items ≡ of_long scene.now.locals number slot) }
+{
     match number {
         ABS => absolute_long(scene, slot),
         SQR => {
-            let args = crate::forms::two_longs(scene, slot, slot)?;
+            let args = two_longs(scene, slot, slot)?;
             long_result(scene, RuntimeRoutine::Product, args, slot)
         }
         SUCC => with_one(scene, RuntimeRoutine::Sum, slot),
@@ -112,20 +126,18 @@ fn of_long(scene: &Scene, number: u32, slot: u32) -> Result<FlatList, AllocError
 
 // ---- functions of the low word of a number
 
-fn word_of(
-    scene: &Scene,
-    number: u32,
-    low: FlatExpr,
-    again: FlatExpr,
-) -> Result<FlatExpr, AllocError> {
+fn word_of(scene: &Scene, number: u32, form: Form, slot: u32) -> Result<FlatExpr, AllocError>
+    ensures { IfOk result (λ expr. view_expr expr ≡ word_of number (low_word scene.now.locals form slot)) }
+{
     let alloc = scene.alloc;
-    let byte = FlatExpr::Number(255);
+    let low = low_word(scene, form, slot)?;
     match number {
         ODD => op(alloc, FlatOp::And, low, FlatExpr::Number(1)),
-        CHR | LO => op(alloc, FlatOp::And, low, byte),
+        CHR | LO => op(alloc, FlatOp::And, low, FlatExpr::Number(255)),
         HI => op(alloc, FlatOp::Shr, low, FlatExpr::Number(8)),
         SWAP => {
             let upper = op(alloc, FlatOp::Shl, low, FlatExpr::Number(8))?;
+            let again = low_word(scene, form, slot)?;
             let lower = op(alloc, FlatOp::Shr, again, FlatExpr::Number(8))?;
             op(alloc, FlatOp::Or, upper, lower)
         }
@@ -139,7 +151,9 @@ fn given_word(
     value: FlatExpr,
     stored: Form,
     slot: u32,
-) -> Result<FlatList, AllocError> {
+) -> Result<FlatList, AllocError>
+    ensures { IfOk result (λ list. view_list list.items ≡ given_word scene.now.locals (view_expr value) stored slot) }
+{
     let alloc = scene.alloc;
     let high = scene.slot_at(slot, 2)?;
     match stored {
@@ -159,122 +173,11 @@ fn of_low_word(
     form: Form,
     stored: Form,
     slot: u32,
-) -> Result<FlatList, AllocError> {
-    let low = low_word(scene, form, slot)?;
-    let again = low_word(scene, form, slot)?;
-    let value = word_of(scene, number, low, again)?;
+) -> Result<FlatList, AllocError>
+    ensures { IfOk result (λ list. view_list list.items ≡ of_low_word scene.now.locals number form stored slot) }
+{
+    let value = word_of(scene, number, form, slot)?;
     given_word(scene, value, stored, slot)
-}
-
-// ---- text
-
-/// The length of the string at a place goes to a slot.
-pub fn length_at(scene: &Scene, from: Reach, slot: u32) -> Result<FlatList, AllocError> {
-    load_word(scene, from, Host::Byte, slot)
-}
-
-/// The length of the string in a slot goes to that slot.
-pub fn length_of(scene: &Scene, form: Form, slot: u32) -> Result<FlatList, AllocError> {
-    let from = match form {
-        Form::Text => slot_place(scene, slot, 256)?,
-        Form::Literal => Address::Through {
-            slot: scene.slot_at(slot, 4)?,
-            plus: 0,
-        },
-        _ => return Err(AllocError),
-    };
-    length_at(scene, Reach::At(from), slot)
-}
-
-fn copied(
-    scene: &Scene,
-    text: &Expr,
-    place: &Expr,
-    count: &Expr,
-    slot: u32,
-) -> Result<FlatList, AllocError> {
-    let form = form_of(scene, text)?;
-    let place_form = form_of(scene, place)?;
-    let place_slot = slot.saturating_add(form.bytes());
-    let count_slot = place_slot.saturating_add(place_form.bytes());
-    let to = slot_place(scene, slot, 256)?;
-    let from = text_words(scene, form, slot)?;
-    let first = long_words(scene, place_form, place_slot)?;
-    let bytes = long_words(scene, form_of(scene, count)?, count_slot)?;
-    let args = vec![in scene.alloc;
-        FlatExpr::SegmentOf(to),
-        FlatExpr::AddressOf(to),
-        from.0,
-        from.1,
-        first.0,
-        first.1,
-        bytes.0,
-        bytes.1,
-    ]?;
-    single(scene.alloc, runtime(RuntimeRoutine::Copy, args))
-}
-
-fn found(scene: &Scene, part: &Expr, text: &Expr, slot: u32) -> Result<FlatList, AllocError> {
-    let form = form_of(scene, part)?;
-    let first = text_words(scene, form, slot)?;
-    let next = slot.saturating_add(form.bytes());
-    let second = text_words(scene, form_of(scene, text)?, next)?;
-    let args = vec![in scene.alloc; first.0, first.1, second.0, second.1]?;
-    let at = scene.slot_at(slot, 2)?;
-    single(scene.alloc, with_result(RuntimeRoutine::Pos, args, at, 2))
-}
-
-// The bytes of all arguments.
-fn bytes_of_args(scene: &Scene, args: &[Arg]) -> u32 {
-    let mut sum = 0u32;
-    for arg in args {
-        sum = sum.saturating_add(slot_of_arg(&scene.unit.types, arg));
-    }
-    sum
-}
-
-// An empty string, for what begins with none.
-fn empty(scene: &Scene) -> Result<(FlatExpr, FlatExpr), AllocError> {
-    let scratch = scene.scratch(0)?;
-    Ok((FlatExpr::SegmentOf(scratch), FlatExpr::AddressOf(scratch)))
-}
-
-// The strings in slots one behind the other are joined to what stands at a place behind them all.
-fn chained(scene: &Scene, args: &[Arg], slot: u32, to: Address) -> Result<FlatList, AllocError> {
-    let mut code = Vec::new(scene.alloc);
-    let mut at = slot;
-    for arg in args {
-        let Arg::Value(text) = arg else {
-            return Err(AllocError);
-        };
-        let form = form_of(scene, text)?;
-        let first = (FlatExpr::SegmentOf(to), FlatExpr::AddressOf(to));
-        let one = joined(scene, to, first, text_words(scene, form, at)?)?;
-        code = then(code, one)?;
-        at = at.saturating_add(form.bytes());
-    }
-    Ok(code)
-}
-
-// All strings are joined behind them, and go from there to the first slot, upward.
-fn concatenated(scene: &Scene, args: &[Arg], slot: u32) -> Result<FlatList, AllocError> {
-    let alloc = scene.alloc;
-    let behind = slot_place(scene, slot.saturating_add(bytes_of_args(scene, args)), 256)?;
-    let start = pair(
-        alloc,
-        FlatStmt::StoreByte {
-            to: behind,
-            value: FlatExpr::Number(0),
-        },
-        FlatStmt::StoreByte {
-            to: scene.scratch(0)?,
-            value: FlatExpr::Number(0),
-        },
-    )?;
-    let made = then(start, chained(scene, args, slot, behind)?)?;
-    let result = (FlatExpr::SegmentOf(behind), FlatExpr::AddressOf(behind));
-    let moved = joined(scene, slot_place(scene, slot, 256)?, empty(scene)?, result)?;
-    then(made, moved)
 }
 
 // ---- the others
@@ -307,7 +210,9 @@ fn size(scene: &Scene, arg: &Arg, stored: Form, slot: u32) -> Result<FlatList, A
 }
 
 // A routine of the runtime without arguments gives a word to a slot.
-fn asked(scene: &Scene, routine: RuntimeRoutine, slot: u32) -> Result<FlatList, AllocError> {
+fn asked(scene: &Scene, routine: RuntimeRoutine, slot: u32) -> Result<FlatList, AllocError>
+    ensures { IfOk result (λ list. view_list list.items ≡ asked scene.now.locals routine slot) }
+{
     let at = scene.slot_at(slot, 2)?;
     single(
         scene.alloc,
@@ -315,7 +220,9 @@ fn asked(scene: &Scene, routine: RuntimeRoutine, slot: u32) -> Result<FlatList, 
     )
 }
 
-fn upper(scene: &Scene, slot: u32) -> Result<FlatList, AllocError> {
+fn upper(scene: &Scene, slot: u32) -> Result<FlatList, AllocError>
+    ensures { IfOk result (λ list. view_list list.items ≡ upper scene.now.locals slot) }
+{
     let args = vec![in scene.alloc; word_in(scene, slot)?]?;
     let at = scene.slot_at(slot, 2)?;
     single(
@@ -331,7 +238,9 @@ fn of_value(
     value: &Expr,
     stored: Form,
     slot: u32,
-) -> Result<FlatList, AllocError> {
+) -> Result<FlatList, AllocError>
+    ensures { IfOk result (λ list. view_list list.items ≡ of_value scene.now.locals scene.now.unit.now.types.types number (view_tree value.now) stored slot) }
+{
     let form = form_of(scene, value)?;
     match number {
         UP_CASE => upper(scene, slot),

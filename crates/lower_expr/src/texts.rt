@@ -1,6 +1,10 @@
 //! Operators on strings, and on pointers.
 
-use crate::forms::{Form, high_in, low_in, slot_place, text_words, word_in};
+ghost use Rattle.std.specs.Prelude.{◌≡◌, IfOk};
+ghost use Rattle.flat_code.specs.View.{view_expr, view_exprs, view_list};
+ghost use Rattle.lower_expr.specs.Texts.{joined, both, compared, text_binary, pointer_binary};
+
+use crate::forms::{Form, high_in, low_in, next_slot, slot_place, text_words, word_in};
 use crate::nodes::{not, pair, runtime, single, with_result};
 use crate::word_operators::related;
 use flat_code::flat_builders::{op, set};
@@ -16,7 +20,9 @@ pub fn joined(
     to: Address,
     first: (FlatExpr, FlatExpr),
     second: (FlatExpr, FlatExpr),
-) -> Result<FlatList, AllocError> {
+) -> Result<FlatList, AllocError>
+    ensures { IfOk result (λ list. view_list list.items ≡ joined to (view_expr first.0, view_expr first.1) (view_expr second.0, view_expr second.1)) }
+{
     let args = vec![in scene.alloc;
         FlatExpr::SegmentOf(to),
         FlatExpr::AddressOf(to),
@@ -28,9 +34,11 @@ pub fn joined(
     single(scene.alloc, runtime(RuntimeRoutine::Concat, args))
 }
 
-fn both(scene: &Scene, left: Form, right: Form, slot: u32) -> Result<FlatExprs, AllocError> {
+fn both(scene: &Scene, left: Form, right: Form, slot: u32) -> Result<FlatExprs, AllocError>
+    ensures { IfOk result (λ exprs. view_exprs exprs.items ≡ both scene.now.locals left right slot) }
+{
     let first = text_words(scene, left, slot)?;
-    let second = text_words(scene, right, slot.saturating_add(left.bytes()))?;
+    let second = text_words(scene, right, next_slot(slot, left.bytes())?)?;
     Ok(vec![in scene.alloc; first.0, first.1, second.0, second.1]?)
 }
 
@@ -40,7 +48,9 @@ fn compared(
     operator: BinaryOp,
     args: FlatExprs,
     slot: u32,
-) -> Result<FlatList, AllocError> {
+) -> Result<FlatList, AllocError>
+    ensures { IfOk result (λ list. view_list list.items ≡ compared scene.now.locals operator (view_exprs args.items) slot) }
+{
     let alloc = scene.alloc;
     let at = scene.slot_at(slot, 2)?;
     let order = word_in(scene, slot)?;
@@ -59,11 +69,13 @@ pub fn text_binary(
     left: Form,
     right: Form,
     slot: u32,
-) -> Result<FlatList, AllocError> {
+) -> Result<FlatList, AllocError>
+    ensures { IfOk result (λ list. view_list list.items ≡ text_binary scene.now.locals operator left right slot) }
+{
     match operator {
         BinaryOp::Add => {
             let first = text_words(scene, left, slot)?;
-            let second = text_words(scene, right, slot.saturating_add(left.bytes()))?;
+            let second = text_words(scene, right, next_slot(slot, left.bytes())?)?;
             joined(scene, slot_place(scene, slot, 256)?, first, second)
         }
         _ => compared(scene, operator, both(scene, left, right, slot)?, slot),
@@ -71,13 +83,11 @@ pub fn text_binary(
 }
 
 /// Whether the far pointers in two slots, one behind the other, are the same.
-pub fn pointer_binary(
-    scene: &Scene,
-    operator: BinaryOp,
-    slot: u32,
-) -> Result<FlatList, AllocError> {
+pub fn pointer_binary(scene: &Scene, operator: BinaryOp, slot: u32) -> Result<FlatList, AllocError>
+    ensures { IfOk result (λ list. view_list list.items ≡ pointer_binary scene.now.locals operator slot) }
+{
     let alloc = scene.alloc;
-    let other = slot.saturating_add(4);
+    let other = next_slot(slot, 4)?;
     let low = op(
         alloc,
         FlatOp::Equal,

@@ -1,6 +1,10 @@
 //! Operators on ordinals of at most 2 bytes.
 
-use crate::forms::{Form, low_word, word_in};
+ghost use Rattle.std.specs.Prelude.{◌≡◌, IfOk};
+ghost use Rattle.flat_code.specs.View.{view_expr, view_list};
+ghost use Rattle.lower_expr.specs.WordOperators.{related, is_relation, is_shift, bits, word_op, computed, decided, less_of, word_value, word_binary, complement, word_unary, early};
+
+use crate::forms::{Form, low_word, next_slot, word_in};
 use crate::nodes::{kept, not, single, truth};
 use flat_code::flat_builders::{op, set, then, when};
 use flat_code::{FlatExpr, FlatList, FlatOp};
@@ -16,7 +20,9 @@ pub fn related(
     less: FlatOp,
     a: FlatExpr,
     b: FlatExpr,
-) -> Result<FlatExpr, AllocError> {
+) -> Result<FlatExpr, AllocError>
+    ensures { IfOk result (λ expr. view_expr expr ≡ related operator less (view_expr a) (view_expr b)) }
+{
     match operator {
         BinaryOp::Equal => op(alloc, FlatOp::Equal, a, b),
         BinaryOp::NotEqual => not(alloc, op(alloc, FlatOp::Equal, a, b)?),
@@ -29,7 +35,9 @@ pub fn related(
 }
 
 /// Whether an operator is a relation of two values of one type.
-pub fn is_relation(operator: BinaryOp) -> bool {
+pub fn is_relation(operator: BinaryOp) -> bool
+    ensures { result ≡ is_relation operator }
+{
     matches!(
         operator,
         BinaryOp::Equal
@@ -42,12 +50,16 @@ pub fn is_relation(operator: BinaryOp) -> bool {
 }
 
 /// Whether an operator shifts.
-pub fn is_shift(operator: BinaryOp) -> bool {
+pub fn is_shift(operator: BinaryOp) -> bool
+    ensures { result ≡ is_shift operator }
+{
     matches!(operator, BinaryOp::ShiftLeft | BinaryOp::ShiftRight)
 }
 
 // The bits of a host's number, with zeros above them.
-fn bits(alloc: Global, host: Host, word: FlatExpr) -> Result<FlatExpr, AllocError> {
+fn bits(alloc: Global, host: Host, word: FlatExpr) -> Result<FlatExpr, AllocError>
+    ensures { IfOk result (λ expr. view_expr expr ≡ bits host (view_expr word)) }
+{
     if host.width() == 1 {
         op(alloc, FlatOp::And, word, FlatExpr::Number(255))
     } else {
@@ -56,7 +68,9 @@ fn bits(alloc: Global, host: Host, word: FlatExpr) -> Result<FlatExpr, AllocErro
 }
 
 // The operator of flat code, for words that are signed or not.
-fn word_op(operator: BinaryOp, signed: bool) -> Option<FlatOp> {
+fn word_op(operator: BinaryOp, signed: bool) -> Option<FlatOp>
+    ensures { result ≡ word_op operator signed }
+{
     match operator {
         BinaryOp::Add => Some(FlatOp::Add),
         BinaryOp::Subtract => Some(FlatOp::Sub),
@@ -87,7 +101,9 @@ fn computed(
     host: Host,
     a: FlatExpr,
     b: FlatExpr,
-) -> Result<FlatExpr, AllocError> {
+) -> Result<FlatExpr, AllocError>
+    ensures { IfOk result (λ expr. view_expr expr ≡ computed operator host (view_expr a) (view_expr b)) }
+{
     let one = word_op(operator, host.least() < 0).ok_or(AllocError)?;
     let a = match operator {
         BinaryOp::ShiftRight => bits(alloc, host, a)?,
@@ -102,7 +118,9 @@ fn decided(
     operator: BinaryOp,
     a: FlatExpr,
     b: FlatExpr,
-) -> Result<FlatExpr, AllocError> {
+) -> Result<FlatExpr, AllocError>
+    ensures { IfOk result (λ expr. view_expr expr ≡ decided operator (view_expr a) (view_expr b)) }
+{
     let one = match operator {
         BinaryOp::And => FlatOp::And,
         BinaryOp::Or => FlatOp::Or,
@@ -113,7 +131,9 @@ fn decided(
 }
 
 // How two words of a host are compared.
-fn less_of(host: Host) -> FlatOp {
+fn less_of(host: Host) -> FlatOp
+    ensures { result ≡ less_of host }
+{
     match host {
         Host::Word => FlatOp::Below,
         _ => FlatOp::Less,
@@ -128,7 +148,9 @@ pub fn word_value(
     stored: Host,
     a: FlatExpr,
     b: FlatExpr,
-) -> Result<FlatExpr, AllocError> {
+) -> Result<FlatExpr, AllocError>
+    ensures { IfOk result (λ expr. view_expr expr ≡ word_value operator host stored (view_expr a) (view_expr b)) }
+{
     if is_relation(operator) {
         return related(alloc, operator, less_of(host), a, b);
     }
@@ -146,11 +168,27 @@ pub fn word_binary(
     right: Form,
     stored: Host,
     slot: u32,
-) -> Result<FlatList, AllocError> {
+) -> Result<FlatList, AllocError>
+    ensures { IfOk result (λ list. view_list list.items ≡ word_binary scene.now.locals operator host right stored slot) }
+{
     let a = word_in(scene, slot)?;
-    let b = low_word(scene, right, slot.saturating_add(2))?;
+    let b = low_word(scene, right, next_slot(slot, 2)?)?;
     let value = word_value(scene.alloc, operator, host, stored, a, b)?;
     single(scene.alloc, set(scene.slot_at(slot, 2)?, value))
+}
+
+// `not` of a word that is stored as a host.
+fn complement(alloc: Global, stored: Host, word: FlatExpr) -> Result<FlatExpr, AllocError>
+    ensures { IfOk result (λ expr. view_expr expr ≡ complement stored (view_expr word)) }
+{
+    match stored {
+        Host::Boolean => not(alloc, word),
+        _ => kept(
+            alloc,
+            stored,
+            op(alloc, FlatOp::Xor, word, FlatExpr::Number(0xffff))?,
+        ),
+    }
 }
 
 /// An operator on the word in a slot, whose result is stored as a host.
@@ -159,24 +197,27 @@ pub fn word_unary(
     operator: UnaryOp,
     stored: Host,
     slot: u32,
-) -> Result<FlatList, AllocError> {
+) -> Result<FlatList, AllocError>
+    ensures { IfOk result (λ list. view_list list.items ≡ word_unary scene.now.locals operator stored slot) }
+{
     let alloc = scene.alloc;
-    let one = word_in(scene, slot)?;
-    let value = match (operator, stored) {
-        (UnaryOp::Plus, _) => return Ok(Vec::new(alloc)),
-        (UnaryOp::Minus, _) => kept(
-            alloc,
-            stored,
-            op(alloc, FlatOp::Sub, FlatExpr::Number(0), one)?,
-        )?,
-        (UnaryOp::Not, Host::Boolean) => not(alloc, one)?,
-        (UnaryOp::Not, _) => kept(
-            alloc,
-            stored,
-            op(alloc, FlatOp::Xor, one, FlatExpr::Number(0xffff))?,
-        )?,
-    };
-    single(alloc, set(scene.slot_at(slot, 2)?, value))
+    match operator {
+        UnaryOp::Plus => Ok(Vec::new(alloc)),
+        UnaryOp::Minus => {
+            let negative = op(
+                alloc,
+                FlatOp::Sub,
+                FlatExpr::Number(0),
+                word_in(scene, slot)?,
+            )?;
+            let value = kept(alloc, stored, negative)?;
+            single(alloc, set(scene.slot_at(slot, 2)?, value))
+        }
+        UnaryOp::Not => {
+            let value = complement(alloc, stored, word_in(scene, slot)?)?;
+            single(alloc, set(scene.slot_at(slot, 2)?, value))
+        }
+    }
 }
 
 /// `and` or `or` that leaves its right side out where the left one decides; both come to the same slot.
@@ -186,7 +227,9 @@ pub fn early(
     left: FlatList,
     right: FlatList,
     slot: u32,
-) -> Result<FlatList, AllocError> {
+) -> Result<FlatList, AllocError>
+    ensures { IfOk result (λ list. view_list list.items ≡ early scene.now.locals operator (view_list left.items) (view_list right.items) slot) }
+{
     let alloc = scene.alloc;
     let at = scene.slot_at(slot, 2)?;
     let told = set(at, truth(alloc, word_in(scene, slot)?)?);
