@@ -1,0 +1,48 @@
+//! Code of the kernel, from instructions and lines.
+
+use object_file::object_unit::{Code8086, Ref, RefKind, Refs};
+use std::alloc::{AllocError, Global};
+use type_layout::{Bytes, Name};
+use x86_table::{CodeBytes, Instr, Line, assemble, is_small};
+
+/// Instructions, one after another, as bytes.
+pub(crate) fn encoded(alloc: Global, code: &[Instr]) -> Result<Bytes, AllocError> {
+    let mut bytes = CodeBytes::new(alloc);
+    for instr in code {
+        bytes.push_instr(instr)?;
+    }
+    Ok(Bytes::from_vec(bytes.into_vec()))
+}
+
+/// Lines with labels, as bytes; fails where they are too many or a short jump doesn't reach, which those of the kernel
+/// never are.
+pub(crate) fn assembled(alloc: Global, lines: &[Line]) -> Result<Bytes, AllocError> {
+    if !is_small(lines) {
+        return Err(AllocError);
+    }
+    match assemble(alloc, lines) {
+        Ok(code) => Ok(Bytes::from_vec(code.bytes.into_vec())),
+        Err(_) => Err(AllocError),
+    }
+}
+
+/// A reference to a part.
+pub(crate) fn reference(offset: u32, kind: RefKind, unit: &Name, number: u32) -> Ref {
+    Ref {
+        offset,
+        kind,
+        unit: unit.copied(),
+        number,
+    }
+}
+
+/// A far routine that is called by its frameless code.
+pub(crate) fn routine(name: Name, code: Bytes, refs: Refs) -> Code8086 {
+    Code8086 {
+        name,
+        far: true,
+        frame: 0,
+        code,
+        refs,
+    }
+}

@@ -1,0 +1,19 @@
+//! The linker: from the object units of a program to its executable and its overlays.
+#![tactic(auto)]
+
+mod data_segment;
+mod error;
+mod filling;
+mod image;
+mod link;
+mod overlays;
+mod parts;
+mod placement;
+mod reached;
+mod sizes;
+mod stubs;
+mod unit;
+
+pub use error::LinkError;
+pub use link::{Linked, link};
+pub use unit::{LinkUnit, Overlays, RUNTIME_UNITS, Setting};

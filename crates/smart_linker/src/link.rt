@@ -1,0 +1,195 @@
+//! Linking.
+
+ghost use Rattle.std.specs.Prelude.{◌≡◌, ◌≤◌, length};
+
+use crate::error::LinkError;
+use crate::filling::Placed;
+use crate::image::Image;
+use crate::overlays::largest;
+use crate::parts::{Kind, Part, Parts};
+use crate::placement::{Placement, home_segments};
+use crate::reached::reached_parts;
+use crate::sizes::{measure, sizes};
+use crate::unit::{LinkUnit, Overlays, Setting};
+use cpu_8086::Far;
+use kernel_code::{Initial, KERNEL_NAME, kernel_unit};
+use link_layout::{Layout, lay_out};
+use mz_file::{Block, Exe, Segments};
+use overlay_file::OverlayCode8086;
+use std::alloc::{AllocError, Global};
+use type_layout::{Bytes, Name};
+
+/// A program as its files hold it.
+#[derive(Drop)]
+pub struct Linked {
+    pub exe: Exe,
+    /// What the overlay file holds; none where the program has no overlays.
+    pub overlays: Overlays,
+}
+
+/// Where the kernel has its start and the error routine, and its byte of the installed flag.
+const START: usize = 0;
+const ERROR: usize = 1;
+const FLAG: usize = 1;
+
+/// Whether a unit is overlaid.
+fn has_overlays(units: &[LinkUnit]) -> bool {
+    units.iter().any(|unit| unit.overlaid)
+}
+
+/// Refuses a unit that can't be overlaid, or whose frames aren't marked in a program with overlays.
+fn check_overlays(units: &[LinkUnit]) -> Result<(), LinkError> {
+    for unit in units {
+        if unit.overlaid && !unit.overlayable {
+            return Err(LinkError::NotOverlayable {
+                unit: unit.name.copied(),
+            });
+        }
+    }
+    if has_overlays(units) {
+        for unit in units {
+            if !unit.marked {
+                return Err(LinkError::OldFrames {
+                    unit: unit.name.copied(),
+                });
+            }
+        }
+    }
+    Ok(())
+}
+
+/// The main and initialisation parts, in the order of the units.
+fn initials(alloc: Global, units: &[LinkUnit]) -> Result<Vec<Initial>, AllocError> {
+    let mut initials = Vec::new(alloc);
+    for unit in units {
+        if let Some(number) = unit.initial {
+            initials.push(Initial {
+                unit: unit.name.copied(),
+                number,
+            })?;
+        }
+    }
+    Ok(initials)
+}
+
+/// The kernel of a program of these units.
+fn kernel(alloc: Global, units: &[LinkUnit]) -> Result<LinkUnit, AllocError> {
+    let Some(name) = Name::new(KERNEL_NAME) else {
+        unreachable!();
+    };
+    let initials = initials(alloc, units)?;
+    let object = kernel_unit(alloc, &name, initials.as_slice(), has_overlays(units))?;
+    Ok(LinkUnit {
+        name,
+        object,
+        initial: None,
+        overlayable: false,
+        overlaid: false,
+        marked: true,
+    })
+}
+
+/// Where the reached parts of a program lie.
+fn placement(alloc: Global, parts: Parts, setting: &Setting) -> Result<Placement, LinkError> {
+    let marks = reached_parts(alloc, parts)?;
+    let measured = measure(alloc, parts, marks.as_slice())?;
+    let sizes = sizes(alloc, parts, marks.as_slice(), &measured, setting)?;
+    let layout = lay_out(alloc, &sizes)?;
+    let segments = home_segments(alloc, parts, &layout)?;
+    Ok(Placement {
+        marks,
+        measured,
+        layout,
+        segments,
+    })
+}
+
+fn copied(alloc: Global, segments: &Segments) -> Result<Segments, AllocError> {
+    let mut copy = Segments::new(alloc);
+    for segment in segments.as_slice() {
+        copy.push(*segment)?;
+    }
+    Ok(copy)
+}
+
+/// What the runner is told.
+fn block(
+    alloc: Global,
+    placed: Placed,
+    setting: &Setting,
+    overlays: &[OverlayCode8086],
+) -> Result<Block, AllocError> {
+    let layout = &placed.places.layout;
+    let kernel = placed.parts.units.len();
+    let error = Part {
+        kind: Kind::Routine,
+        unit: kernel,
+        number: ERROR,
+    };
+    let flag = Part {
+        kind: Kind::Datum,
+        unit: kernel,
+        number: FLAG,
+    };
+    Ok(Block {
+        stubs: copied(alloc, &layout.stubs)?,
+        largest: largest(overlays),
+        error_routine: placed.places.far(placed.parts, error),
+        installed: Far {
+            offset: placed.places.offset(flag),
+            segment: layout.data_segment,
+        },
+        stack: setting.stack,
+        heap: setting.heap,
+        data_segment: layout.data_segment,
+        data_bytes: (placed.places.measured.bytes % 0x1_0000) as u16,
+        marked: true,
+    })
+}
+
+/// SS and SP as the program starts: an odd size of the stack is counted one up.
+fn stack(layout: &Layout, setting: &Setting) -> Far {
+    Far {
+        offset: setting.stack.saturating_add(setting.stack % 2),
+        segment: layout.stack_segment,
+    }
+}
+
+/// The executable with this image.
+fn executable(placed: Placed, setting: &Setting, image: Image, block: Block) -> Exe {
+    let start = Part {
+        kind: Kind::Routine,
+        unit: placed.parts.units.len(),
+        number: START,
+    };
+    Exe {
+        image: Bytes::from_vec(image.bytes),
+        relocations: image.relocations,
+        entry: placed.places.far(placed.parts, start),
+        stack: stack(&placed.places.layout, setting),
+        extra: placed.places.layout.extra,
+        block,
+    }
+}
+
+/// Links units in the order in which they start, the runtime's three behind them. What the start, the main and
+/// initialisation parts and the data of the runtime lead to is linked, and nothing else.
+pub fn link(alloc: Global, units: &[LinkUnit], setting: &Setting) -> Result<Linked, LinkError> {
+    check_overlays(units)?;
+    let kernel = kernel(alloc, units)?;
+    let parts = Parts {
+        units,
+        kernel: &kernel,
+    };
+    let places = placement(alloc, parts, setting)?;
+    let placed = Placed {
+        parts,
+        places: &places,
+    };
+    let overlays = placed.overlays(alloc)?;
+    let data = placed.data_segment(alloc, setting, has_overlays(units))?;
+    let image = placed.image(alloc, overlays.as_slice(), &data)?;
+    let block = block(alloc, placed, setting, overlays.as_slice())?;
+    let exe = executable(placed, setting, image, block);
+    Ok(Linked { exe, overlays })
+}

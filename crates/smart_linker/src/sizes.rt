@@ -1,0 +1,209 @@
+//! What the parts that are reached take, and where each lies in what holds it.
+
+ghost use Rattle.std.specs.Prelude.{◌≡◌, ◌≤◌, IfOk};
+
+use crate::error::LinkError;
+use crate::parts::Parts;
+use crate::reached::UnitMarks;
+use crate::unit::{LinkUnit, Setting};
+use link_layout::{Numbers, Sizes, Sums, even, prefix_sums};
+use object_file::object_unit::{Code8086, Datum, Ref, RefKind};
+use std::alloc::{AllocError, Global};
+use type_layout::Sequence;
+
+/// The most bytes of a unit's code.
+const MOST_CODE: u64 = 65_520;
+
+/// The most entries for which a stub has room.
+const MOST_ENTRIES: u64 = 13_100;
+
+/// Where the parts of a unit lie. One that isn't reached takes no room.
+#[derive(Drop)]
+pub(crate) struct UnitSums {
+    /// The offset of each routine in the code of its unit, and the size of that.
+    pub(crate) code: Sums,
+    /// The number of each routine's entry in the stub of its unit, where it has one, and how many there are.
+    pub(crate) entries: Sums,
+    /// The offset of each datum in the data segment.
+    pub(crate) globals: Numbers,
+    /// The offset of each virtual method table in the data segment.
+    pub(crate) vmts: Numbers,
+}
+
+/// Where the parts of each unit lie, and the size of the data segment.
+#[derive(Drop)]
+pub(crate) struct Measured {
+    pub(crate) units: Sequence<UnitSums>,
+    pub(crate) bytes: u64,
+}
+
+/// Whether a routine has an entry in the stub of its unit: it is reached and far.
+pub(crate) fn has_entry(code: &Code8086, is_reached: bool) -> bool {
+    is_reached && code.far
+}
+
+fn code_sizes(alloc: Global, codes: &[Code8086], marks: &[bool]) -> Result<Numbers, AllocError> {
+    let mut sizes = Numbers::new(alloc);
+    for (code, is_reached) in codes.iter().zip(marks.iter()) {
+        sizes.push(if *is_reached { code.code.len() as u64 } else { 0 })?;
+    }
+    Ok(sizes)
+}
+
+fn entry_counts(alloc: Global, codes: &[Code8086], marks: &[bool]) -> Result<Numbers, AllocError> {
+    let mut counts = Numbers::new(alloc);
+    for (code, is_reached) in codes.iter().zip(marks.iter()) {
+        counts.push(if has_entry(code, *is_reached) { 1 } else { 0 })?;
+    }
+    Ok(counts)
+}
+
+/// The size of each datum, rounded up to even.
+fn data_sizes(alloc: Global, data: &[Datum], marks: &[bool]) -> Result<Numbers, AllocError> {
+    let mut sizes = Numbers::new(alloc);
+    for (datum, is_reached) in data.iter().zip(marks.iter()) {
+        sizes.push(if *is_reached { even(datum.size) } else { 0 })?;
+    }
+    Ok(sizes)
+}
+
+/// Where the parts of a unit lie, whose first datum has this offset, and the offset behind its last one.
+fn unit_sums(
+    alloc: Global,
+    unit: &LinkUnit,
+    marks: &UnitMarks,
+    first: u64,
+) -> Result<(UnitSums, u64), LinkError> {
+    let routines = unit.object.routines.as_slice();
+    let code = code_sizes(alloc, routines, marks.routines.as_slice())?;
+    let code = prefix_sums(alloc, 0, code.as_slice())?;
+    if code.end > MOST_CODE {
+        return Err(LinkError::CodeTooLarge {
+            unit: unit.name.copied(),
+            bytes: code.end,
+        });
+    }
+    let entries = entry_counts(alloc, routines, marks.routines.as_slice())?;
+    let entries = prefix_sums(alloc, 0, entries.as_slice())?;
+    if unit.overlaid && entries.end > MOST_ENTRIES {
+        return Err(LinkError::TooManyEntries {
+            unit: unit.name.copied(),
+            count: entries.end,
+        });
+    }
+    let globals = data_sizes(
+        alloc,
+        unit.object.globals.as_slice(),
+        marks.globals.as_slice(),
+    )?;
+    let globals = prefix_sums(alloc, first, globals.as_slice())?;
+    let vmts = data_sizes(alloc, unit.object.vmts.as_slice(), marks.vmts.as_slice())?;
+    let vmts = prefix_sums(alloc, globals.end, vmts.as_slice())?;
+    let sums = UnitSums {
+        code,
+        entries,
+        globals: globals.places,
+        vmts: vmts.places,
+    };
+    Ok((sums, vmts.end))
+}
+
+/// Where the parts of each unit lie: data of one unit behind those of the other.
+pub(crate) fn measure(
+    alloc: Global,
+    parts: Parts,
+    marks: &[UnitMarks],
+) -> Result<Measured, LinkError> {
+    let mut units = Sequence::new(alloc);
+    let mut bytes = 0;
+    for (place, unit) in marks.iter().enumerate() {
+        let (sums, end) = unit_sums(alloc, parts.unit(place), unit, bytes)?;
+        units.push(sums)?;
+        bytes = end;
+    }
+    Ok(Measured { units, bytes })
+}
+
+/// Where in its bytes a reference has the word that is a segment.
+pub(crate) fn segment_word(one: &Ref) -> Option<u64> {
+    match one.kind {
+        RefKind::FarRoutine | RefKind::Runtime => Some(u64::from(one.offset) + 2),
+        RefKind::DataSegment => Some(u64::from(one.offset)),
+        RefKind::NearRoutine | RefKind::DataOffset | RefKind::Vmt => None,
+    }
+}
+
+/// How many words are segments, with those counted before.
+fn words_with(before: u64, refs: &[Ref]) -> Result<u64, AllocError> {
+    let mut count = before;
+    for one in refs {
+        if segment_word(one).is_some() {
+            count = count.checked_add(1).ok_or(AllocError)?;
+        }
+    }
+    Ok(count)
+}
+
+fn words_of_data(before: u64, data: &[Datum], marks: &[bool]) -> Result<u64, AllocError> {
+    let mut count = before;
+    for (datum, is_reached) in data.iter().zip(marks.iter()) {
+        if *is_reached {
+            count = words_with(count, datum.refs.as_slice())?;
+        }
+    }
+    Ok(count)
+}
+
+fn words_of_code(before: u64, codes: &[Code8086], marks: &[bool]) -> Result<u64, AllocError> {
+    let mut count = before;
+    for (code, is_reached) in codes.iter().zip(marks.iter()) {
+        if *is_reached {
+            count = words_with(count, code.refs.as_slice())?;
+        }
+    }
+    Ok(count)
+}
+
+/// How many words of the image are segments: those of resident code, of data, and the heap's.
+fn relocations(parts: Parts, marks: &[UnitMarks]) -> Result<u64, AllocError> {
+    let mut count = 1;
+    for (place, unit) in marks.iter().enumerate() {
+        let LinkUnit {
+            object, overlaid, ..
+        } = parts.unit(place);
+        if !*overlaid {
+            let routines = object.routines.as_slice();
+            count = words_of_code(count, routines, unit.routines.as_slice())?;
+        }
+        count = words_of_data(count, object.globals.as_slice(), unit.globals.as_slice())?;
+        count = words_of_data(count, object.vmts.as_slice(), unit.vmts.as_slice())?;
+    }
+    Ok(count)
+}
+
+/// What the parts of a program take.
+pub(crate) fn sizes(
+    alloc: Global,
+    parts: Parts,
+    marks: &[UnitMarks],
+    measured: &Measured,
+    setting: &Setting,
+) -> Result<Sizes, AllocError> {
+    let mut resident = Numbers::new(alloc);
+    let mut entries = Numbers::new(alloc);
+    for (place, unit) in measured.units.as_slice().iter().enumerate() {
+        if parts.unit(place).overlaid {
+            entries.push(unit.entries.end)?;
+        } else {
+            resident.push(unit.code.end)?;
+        }
+    }
+    Ok(Sizes {
+        resident,
+        entries,
+        bytes: measured.bytes,
+        stack: setting.stack,
+        heap: setting.heap,
+        relocations: relocations(parts, marks)?,
+    })
+}
