@@ -2,12 +2,11 @@
 #![tactic(auto)]
 
 mod errors;
+mod initial;
 mod kernel;
 mod lines;
 mod services;
 mod start;
 
-pub use errors::error_routine;
-pub use kernel::{KERNEL_NAME, KERNEL_ROUTINES, kernel_unit};
-pub use services::{clear_routine, flag_routine};
-pub use start::{Initial, start_routine};
+pub use initial::Initial;
+pub use kernel::{kernel_name, kernel_unit};

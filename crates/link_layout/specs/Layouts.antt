@@ -15,7 +15,7 @@ abbrev pub code_paragraphs : Sizes → List ℕ
 code_paragraphs sizes = map paragraphs sizes.resident
 
 abbrev pub stub_paragraphs : Sizes → List ℕ
-stub_paragraphs sizes = map (λ entries. paragraphs (stub_size entries)) sizes.entries
+stub_paragraphs sizes = map paragraphs (map stub_size sizes.entries)
 
 -- Code stands first, each unit's on a paragraph; then the stubs; then the data segment, with which the image ends. The stack and the heap follow it.
 abbrev pub first_stub : Sizes → ℕ

@@ -125,9 +125,7 @@ pub fn lay_out(alloc: Global, sizes: &Sizes) -> Result<Layout, LayoutError>
     let data = first_stub
         .checked_add(sum(stubs.as_slice())?)
         .ok_or(AllocError)?;
-    let image = data
-        .checked_add(paragraphs(sizes.bytes))
-        .ok_or(AllocError)?;
+    let image = data.checked_add(paragraphs(sizes.bytes)).ok_or(AllocError)?;
     within_limits(sizes, image)?;
     let stack = paragraphs(u64::from(sizes.stack));
     let heap = paragraphs(u64::from(sizes.heap));

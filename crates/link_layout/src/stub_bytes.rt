@@ -58,11 +58,7 @@ fn push_entry(bytes: &mut Bytes, offset: u16) -> Result<(), AllocError>
 
 /// Appends the stub of an overlay that is out, with an entry for each of its routines that begin at these offsets; their
 /// number is a word.
-pub fn push_stub(
-    bytes: &mut Bytes,
-    entry: &OvrEntry,
-    offsets: &[u16],
-) -> Result<(), AllocError>
+pub fn push_stub(bytes: &mut Bytes, entry: &OvrEntry, offsets: &[u16]) -> Result<(), AllocError>
     requires { length offsets.now < 65536 }
     ensures { OnOk result (bytes.new ≡ bytes.old ++ stub_bytes entry.now offsets.now) }
 {

@@ -139,19 +139,123 @@ pub struct RefRow {
 /// References of unit A, whose routine of 16 bytes is far and refers to its datum in the first two, in a program that has
 /// a unit B with a far routine too.
 pub const REFERENCES: [(RefRow, Verdict); 13] = [
-    (RefRow { kind: RefKind::FarRoutine, offset: 8, unit: b"A", number: 0 }, Verdict::Linked),
-    (RefRow { kind: RefKind::FarRoutine, offset: 8, unit: b"B", number: 0 }, Verdict::Linked),
-    (RefRow { kind: RefKind::FarRoutine, offset: 8, unit: b"C", number: 0 }, Verdict::Misfit),
-    (RefRow { kind: RefKind::FarRoutine, offset: 8, unit: b"B", number: 1 }, Verdict::Misfit),
-    (RefRow { kind: RefKind::FarRoutine, offset: 8, unit: b"OVERLAY", number: 0 }, Verdict::Linked),
-    (RefRow { kind: RefKind::FarRoutine, offset: 8, unit: b"TEXT", number: 0 }, Verdict::Misfit),
-    (RefRow { kind: RefKind::NearRoutine, offset: 8, unit: b"A", number: 0 }, Verdict::Linked),
-    (RefRow { kind: RefKind::NearRoutine, offset: 8, unit: b"B", number: 0 }, Verdict::Misfit),
-    (RefRow { kind: RefKind::DataOffset, offset: 14, unit: b"A", number: 0 }, Verdict::Linked),
-    (RefRow { kind: RefKind::DataOffset, offset: 8, unit: b"A", number: 1 }, Verdict::Misfit),
-    (RefRow { kind: RefKind::Vmt, offset: 8, unit: b"A", number: 0 }, Verdict::Misfit),
-    (RefRow { kind: RefKind::DataOffset, offset: 15, unit: b"A", number: 0 }, Verdict::Misfit),
-    (RefRow { kind: RefKind::DataOffset, offset: 1, unit: b"A", number: 0 }, Verdict::Misfit),
+    (
+        RefRow {
+            kind: RefKind::FarRoutine,
+            offset: 8,
+            unit: b"A",
+            number: 0,
+        },
+        Verdict::Linked,
+    ),
+    (
+        RefRow {
+            kind: RefKind::FarRoutine,
+            offset: 8,
+            unit: b"B",
+            number: 0,
+        },
+        Verdict::Linked,
+    ),
+    (
+        RefRow {
+            kind: RefKind::FarRoutine,
+            offset: 8,
+            unit: b"C",
+            number: 0,
+        },
+        Verdict::Misfit,
+    ),
+    (
+        RefRow {
+            kind: RefKind::FarRoutine,
+            offset: 8,
+            unit: b"B",
+            number: 1,
+        },
+        Verdict::Misfit,
+    ),
+    (
+        RefRow {
+            kind: RefKind::FarRoutine,
+            offset: 8,
+            unit: b"OVERLAY",
+            number: 0,
+        },
+        Verdict::Linked,
+    ),
+    (
+        RefRow {
+            kind: RefKind::FarRoutine,
+            offset: 8,
+            unit: b"TEXT",
+            number: 0,
+        },
+        Verdict::Misfit,
+    ),
+    (
+        RefRow {
+            kind: RefKind::NearRoutine,
+            offset: 8,
+            unit: b"A",
+            number: 0,
+        },
+        Verdict::Linked,
+    ),
+    (
+        RefRow {
+            kind: RefKind::NearRoutine,
+            offset: 8,
+            unit: b"B",
+            number: 0,
+        },
+        Verdict::Misfit,
+    ),
+    (
+        RefRow {
+            kind: RefKind::DataOffset,
+            offset: 14,
+            unit: b"A",
+            number: 0,
+        },
+        Verdict::Linked,
+    ),
+    (
+        RefRow {
+            kind: RefKind::DataOffset,
+            offset: 8,
+            unit: b"A",
+            number: 1,
+        },
+        Verdict::Misfit,
+    ),
+    (
+        RefRow {
+            kind: RefKind::Vmt,
+            offset: 8,
+            unit: b"A",
+            number: 0,
+        },
+        Verdict::Misfit,
+    ),
+    (
+        RefRow {
+            kind: RefKind::DataOffset,
+            offset: 15,
+            unit: b"A",
+            number: 0,
+        },
+        Verdict::Misfit,
+    ),
+    (
+        RefRow {
+            kind: RefKind::DataOffset,
+            offset: 1,
+            unit: b"A",
+            number: 0,
+        },
+        Verdict::Misfit,
+    ),
 ];
 
 fn reference(offset: u32, kind: RefKind, unit: &Name, number: u32) -> Ref {
@@ -237,13 +341,7 @@ fn sized_units(alloc: Global, row: &SizesRow) -> Result<Vec<LinkUnit>, AllocErro
     for number in 0..row.units.min(20) {
         units.push(sized_unit(alloc, b'A' + number, row.code, row.pointers, 2)?)?;
     }
-    units.push(sized_unit(
-        alloc,
-        b'Z',
-        row.last_code,
-        row.last_pointers,
-        row.data,
-    )?)?;
+    units.push(sized_unit(alloc, b'Z', row.last_code, row.last_pointers, row.data)?)?;
     push_runtime(alloc, &mut units)?;
     Ok(units)
 }

@@ -5,29 +5,57 @@
 #[derive(Clone, Copy)]
 pub enum Step {
     /// Writes bytes of the unit's text.
-    Say { from: u16, count: u16 },
+    Say {
+        from: u16,
+        count: u16,
+    },
     /// Writes the argument as a digit.
     SayArgument,
     /// Calls a routine that has no argument.
-    Call { unit: u32, number: u32 },
+    Call {
+        unit: u32,
+        number: u32,
+    },
     /// Calls a routine with this argument.
-    CallWith { unit: u32, number: u32, value: u16 },
+    CallWith {
+        unit: u32,
+        number: u32,
+        value: u16,
+    },
     /// Where the argument isn't 0, calls a routine with one less, and else another one that has no argument.
-    CallDown { unit: u32, number: u32, other: u32, least: u32 },
+    CallDown {
+        unit: u32,
+        number: u32,
+        other: u32,
+        least: u32,
+    },
     /// The same without another routine.
-    CallLess { unit: u32, number: u32 },
+    CallLess {
+        unit: u32,
+        number: u32,
+    },
     /// Calls a routine without an argument through a far pointer that it stores before.
-    CallThrough { unit: u32, number: u32 },
+    CallThrough {
+        unit: u32,
+        number: u32,
+    },
     /// Calls the first method of a virtual method table of the unit.
-    CallVirtual { table: u32 },
+    CallVirtual {
+        table: u32,
+    },
     /// OvrInit with the unit's file name.
     OvrInit,
     /// OvrClearBuf.
     OvrClearBuf,
     /// Stores a word in the last two bytes of the heap.
-    FillHeap { paragraphs: u16, value: u16 },
+    FillHeap {
+        paragraphs: u16,
+        value: u16,
+    },
     /// Ends with the word in the last two bytes of the heap as its code.
-    ExitHeap { paragraphs: u16 },
+    ExitHeap {
+        paragraphs: u16,
+    },
     /// Ends with OvrResult as its code.
     ExitResult,
 }

@@ -1,8 +1,6 @@
 //! What linked programs show, and which aren't linked.
 
-use crate::object_rows::{
-    REFERENCES, SIZES, Verdict, reference_verdict, sizes_verdict, verdict,
-};
+use crate::object_rows::{REFERENCES, SIZES, Verdict, reference_verdict, sizes_verdict, verdict};
 use crate::program_rows::{FILLS_MEMORY, PROGRAMS, UNUSED};
 use crate::rows::ProgramRow;
 use crate::running::{Left, folder, left_by, link_units, opened, program, run, written};
@@ -41,7 +39,7 @@ fn programs_show_what_their_rows_say(rt: HostRuntime) -> Result<(), Fail> {
 fn an_overlay_of_which_nothing_is_reached_is_a_return(rt: HostRuntime) -> Result<(), Fail> {
     let linked = program(rt.alloc(), &UNUSED)?;
     let unused = linked.overlays.as_slice().get(1).ok_or("two overlays")?;
-    assert_eq!(rt; unused.code.as_slice(), &[0xCB]);
+    assert_eq!(rt; unused.code.as_slice(), b"\xCB".as_slice());
     assert!(rt; unused.fixups.is_empty());
     Ok(())
 }
@@ -53,9 +51,17 @@ fn paragraphs_left(exe: &Exe) -> u16 {
     0xA000_usize.saturating_sub(taken).min(0xA000) as u16
 }
 
-/// What the program whose parts are as large as they can be leaves in the largest buffer, and how it is refused in a
-/// buffer of a paragraph more.
-fn filled(alloc: Global) -> Result<(Left, Option<OpenError>), Fail> {
+/// How much memory a program wants that isn't opened for lack of it.
+fn want(error: OpenError) -> u32 {
+    match error {
+        OpenError::MemoryTooSmall { need } => need,
+        _ => 0,
+    }
+}
+
+/// What the program whose parts are as large as they can be leaves in the largest buffer, and how much memory it wants for
+/// a buffer of a paragraph more.
+fn filled(alloc: Global) -> Result<(Left, Option<u32>), Fail> {
     let linked = program(alloc, &FILLS_MEMORY)?;
     let files = written(alloc, &linked)?;
     let mut folder = folder(alloc, &files)?;
@@ -64,14 +70,14 @@ fn filled(alloc: Global) -> Result<(Left, Option<OpenError>), Fail> {
     let Ok(mut runner) = opened(alloc, &files, &mut folder, Some(room)) else {
         return Err(Fail::from("it isn't opened"));
     };
-    Ok((run(alloc, &mut runner, &mut folder)?, more.err()))
+    Ok((run(alloc, &mut runner, &mut folder)?, more.err().map(want)))
 }
 
 #[test]
 fn a_program_fills_memory(rt: HostRuntime) -> Result<(), Fail> {
     let (left, more) = filled(rt.alloc())?;
     assert!(rt; shows(&left, &FILLS_MEMORY), "{left:?}");
-    assert_eq!(rt; more, Some(OpenError::MemoryTooSmall { need: 0xA001 }));
+    assert_eq!(rt; more, Some(0xA001));
     Ok(())
 }
 
@@ -92,11 +98,7 @@ fn references_that_do_not_fit_are_refused(rt: HostRuntime) -> Result<(), Fail> {
 }
 
 /// How the link ends of a program with two overlaid units, the first of which is not as it has to be for that.
-fn overlaid_verdict(
-    alloc: Global,
-    overlayable: bool,
-    marked: bool,
-) -> Result<Verdict, AllocError> {
+fn overlaid_verdict(alloc: Global, overlayable: bool, marked: bool) -> Result<Verdict, AllocError> {
     let mut units = link_units(alloc, UNUSED.units)?;
     if let Some(unit) = units.as_mut_slice().first_mut() {
         unit.overlayable = overlayable;
@@ -109,8 +111,14 @@ fn overlaid_verdict(
 fn overlays_are_overlayable_and_marked(rt: HostRuntime) -> Result<(), Fail> {
     let alloc = rt.alloc();
     assert_eq!(rt; overlaid_verdict(alloc, true, true)?, Verdict::Linked);
-    assert_eq!(rt; overlaid_verdict(alloc, false, true)?, Verdict::NotOverlayable);
+    assert_eq!(rt;
+        overlaid_verdict(alloc, false, true)?,
+        Verdict::NotOverlayable
+    );
     assert_eq!(rt; overlaid_verdict(alloc, true, false)?, Verdict::OldFrames);
-    assert_eq!(rt; overlaid_verdict(alloc, false, false)?, Verdict::NotOverlayable);
+    assert_eq!(rt;
+        overlaid_verdict(alloc, false, false)?,
+        Verdict::NotOverlayable
+    );
     Ok(())
 }

@@ -1,5 +1,8 @@
 //! The data segment of a program as it starts.
 
+ghost use Rattle.std.specs.Prelude.{IfErr};
+ghost use Rattle.smart_linker.specs.Refused.{IsLaterCause};
+
 use crate::error::LinkError;
 use crate::filling::{Placed, set_word};
 use crate::overlays::push_segment_words;
@@ -13,7 +16,9 @@ use type_layout::Bytes;
 
 /// The numbers of the runtime's data that a program gets as it starts, in the last of the runtime's units.
 const HEAP_SEGMENT: usize = 1;
+
 const HEAP_BYTES: usize = 2;
+
 const OVR_NAME: usize = 3;
 
 /// The bytes of the data segment, and where words of it are segments.
@@ -35,7 +40,9 @@ fn put(bytes: &mut Vec<u8>, at: usize, given: &[u8]) {
 
 impl DataSegment {
     /// Appends a datum of a unit, with its references filled and zeros up to its size, made even.
-    fn push(&mut self, placed: Placed, unit: usize, datum: &Datum) -> Result<(), LinkError> {
+    fn push(&mut self, placed: Placed, unit: usize, datum: &Datum) -> Result<(), LinkError>
+        ensures { IfErr result IsLaterCause }
+    {
         let base = self.bytes.len();
         let begin = (base % 0x1_0000) as u16;
         let refs = datum.refs.as_slice();
@@ -55,7 +62,9 @@ impl DataSegment {
         unit: usize,
         data: &[Datum],
         marks: &[bool],
-    ) -> Result<(), LinkError> {
+    ) -> Result<(), LinkError>
+        ensures { IfErr result IsLaterCause }
+    {
         for (datum, is_reached) in data.iter().zip(marks.iter()) {
             if *is_reached {
                 self.push(placed, unit, datum)?;
@@ -67,14 +76,21 @@ impl DataSegment {
 
 impl<'a> Placed<'a> {
     /// The data that are reached, with zeros up to their sizes.
-    fn plain_data(&self, alloc: Global) -> Result<DataSegment, LinkError> {
+    fn plain_data(&self, alloc: Global) -> Result<DataSegment, LinkError>
+        ensures { IfErr result IsLaterCause }
+    {
         let mut data = DataSegment {
             bytes: Vec::new(alloc),
             words: Offsets::new(alloc),
         };
         for (unit, marks) in self.places.marks.iter().enumerate() {
             let object = &self.parts.unit(unit).object;
-            data.push_all(*self, unit, object.globals.as_slice(), marks.globals.as_slice())?;
+            data.push_all(
+                *self,
+                unit,
+                object.globals.as_slice(),
+                marks.globals.as_slice(),
+            )?;
             data.push_all(*self, unit, object.vmts.as_slice(), marks.vmts.as_slice())?;
         }
         Ok(data)
@@ -96,7 +112,9 @@ impl<'a> Placed<'a> {
         alloc: Global,
         setting: &Setting,
         has_overlays: bool,
-    ) -> Result<DataSegment, LinkError> {
+    ) -> Result<DataSegment, LinkError>
+        ensures { IfErr result IsLaterCause }
+    {
         let mut data = self.plain_data(alloc)?;
         let segment = self.runtime_datum(HEAP_SEGMENT);
         set_word(

@@ -2,6 +2,7 @@
 
 ghost use Rattle.std.specs.Prelude.{◌≡◌};
 ghost use Rattle.smart_linker.specs.declared.error.LinkError.TheVariants.{NoMemory};
+ghost use Rattle.smart_linker.specs.Refused.{refusal_of};
 
 use link_layout::LayoutError;
 use std::alloc::AllocError;
@@ -13,22 +14,42 @@ use type_layout::Name;
 #[derive(Debug, Drop)]
 pub enum LinkError {
     /// This unit is overlaid and wasn't compiled for that.
-    NotOverlayable { unit: Name },
+    NotOverlayable {
+        unit: Name,
+    },
     /// A unit is overlaid, and frames of this one aren't marked.
-    OldFrames { unit: Name },
+    OldFrames {
+        unit: Name,
+    },
     /// A reference of this unit, to a part of this number of a unit of this name, names none that there is, or one that
     /// can't be named so; or it has no room before the next one or at the end of what holds it.
-    Misfit { unit: Name, named: Name, number: u32 },
+    Misfit {
+        unit: Name,
+        named: Name,
+        number: u32,
+    },
     /// The code of this unit that is reached has so many bytes, more than 65,520.
-    CodeTooLarge { unit: Name, bytes: u64 },
+    CodeTooLarge {
+        unit: Name,
+        bytes: u64,
+    },
     /// So many routines of this overlaid unit want an entry in its stub, which has room for 13,100.
-    TooManyEntries { unit: Name, count: u64 },
+    TooManyEntries {
+        unit: Name,
+        count: u64,
+    },
     /// The data segment would have so many bytes, more than 65,520.
-    DataTooLarge { bytes: u64 },
+    DataTooLarge {
+        bytes: u64,
+    },
     /// The image would have so many paragraphs, more than 40,848.
-    ImageTooLarge { paragraphs: u64 },
+    ImageTooLarge {
+        paragraphs: u64,
+    },
     /// The image would have so many words that are segments, more than 65,535.
-    TooManyRelocations { count: u64 },
+    TooManyRelocations {
+        count: u64,
+    },
     /// Memory ran out, or a count passes 64 bits.
     NoMemory,
 }
@@ -72,6 +93,8 @@ impl From<AllocError> for LinkError {
 }
 
 impl From<LayoutError> for LinkError {
+    ghost from_gives = { λ error e. e ≡ refusal_of error };
+
     fn from(error: LayoutError) -> LinkError {
         match error {
             LayoutError::DataTooLarge { bytes } => LinkError::DataTooLarge { bytes },

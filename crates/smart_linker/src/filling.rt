@@ -1,5 +1,8 @@
 //! Bytes with their references filled.
 
+ghost use Rattle.std.specs.Prelude.{IfErr};
+ghost use Rattle.smart_linker.specs.Refused.{IsLaterCause};
+
 use crate::error::LinkError;
 use crate::parts::{Part, Parts};
 use crate::placement::Placement;
@@ -78,7 +81,9 @@ impl<'a> Placed<'a> {
         own: usize,
         begin: u16,
         one: &Ref,
-    ) -> Result<(), LinkError> {
+    ) -> Result<(), LinkError>
+        ensures { IfErr result IsLaterCause }
+    {
         let at = base.saturating_add(one.offset as usize);
         let filling = match self.parts.target(own, one)? {
             Some(part) => self.filling_of(begin, one, part, word_at(bytes.as_slice(), at)),
@@ -96,7 +101,9 @@ impl<'a> Placed<'a> {
         begin: u16,
         given: &[u8],
         refs: &[Ref],
-    ) -> Result<(), LinkError> {
+    ) -> Result<(), LinkError>
+        ensures { IfErr result IsLaterCause }
+    {
         let base = bytes.len();
         bytes.extend_from_slice(given)?;
         let mut least = 0;

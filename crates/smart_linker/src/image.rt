@@ -1,5 +1,8 @@
 //! The image of a program, and which of its words are segments.
 
+ghost use Rattle.std.specs.Prelude.{IfErr};
+ghost use Rattle.smart_linker.specs.Refused.{IsLaterCause};
+
 use crate::data_segment::DataSegment;
 use crate::error::LinkError;
 use crate::filling::Placed;
@@ -33,7 +36,9 @@ fn push_relocations(
 
 impl<'a> Placed<'a> {
     /// The code of the resident units, each on a paragraph.
-    fn resident_code(&self, alloc: Global) -> Result<Image, LinkError> {
+    fn resident_code(&self, alloc: Global) -> Result<Image, LinkError>
+        ensures { IfErr result IsLaterCause }
+    {
         let mut bytes = Vec::new(alloc);
         let mut relocations = FarList::new(alloc);
         for place in 0..self.parts.count() {
@@ -53,7 +58,9 @@ impl<'a> Placed<'a> {
         alloc: Global,
         overlays: &[OverlayCode8086],
         data: &DataSegment,
-    ) -> Result<Image, LinkError> {
+    ) -> Result<Image, LinkError>
+        ensures { IfErr result IsLaterCause }
+    {
         let mut image = self.resident_code(alloc)?;
         self.push_stubs(alloc, &mut image.bytes, overlays)?;
         image.bytes.extend_from_slice(data.bytes.as_slice())?;

@@ -6,6 +6,7 @@ mod error;
 mod filling;
 mod image;
 mod link;
+mod overlaid;
 mod overlays;
 mod parts;
 mod placement;
@@ -13,6 +14,7 @@ mod reached;
 mod sizes;
 mod stubs;
 mod unit;
+mod writable;
 
 pub use error::LinkError;
 pub use link::{Linked, link};

@@ -1,23 +1,30 @@
 //! Linking.
 
-ghost use Rattle.std.specs.Prelude.{◌≡◌, ◌≤◌, length};
+ghost use Rattle.std.specs.Prelude.{◌<◌, length, IfOk, OnOk, IfErr};
+ghost use Rattle.mz_file.specs.Spelling.{IsWritable};
+ghost use Rattle.overlay_file.specs.Format.{AreOverlays};
+ghost use Rattle.smart_linker.specs.Overlaid.{CanBeOverlaid};
+ghost use Rattle.smart_linker.specs.Refused.{IsRefused};
+ghost use Rattle.smart_linker.specs.Refused.{IsLaterCause};
 
 use crate::error::LinkError;
 use crate::filling::Placed;
 use crate::image::Image;
+use crate::overlaid::{check_overlaid, has_overlays};
 use crate::overlays::largest;
 use crate::parts::{Kind, Part, Parts};
 use crate::placement::{Placement, home_segments};
 use crate::reached::reached_parts;
 use crate::sizes::{measure, sizes};
 use crate::unit::{LinkUnit, Overlays, Setting};
+use crate::writable::{are_overlays, is_writable};
 use cpu_8086::Far;
-use kernel_code::{Initial, KERNEL_NAME, kernel_unit};
+use kernel_code::{Initial, kernel_name, kernel_unit};
 use link_layout::{Layout, lay_out};
 use mz_file::{Block, Exe, Segments};
 use overlay_file::OverlayCode8086;
 use std::alloc::{AllocError, Global};
-use type_layout::{Bytes, Name};
+use type_layout::Bytes;
 
 /// A program as its files hold it.
 #[derive(Drop)]
@@ -29,34 +36,10 @@ pub struct Linked {
 
 /// Where the kernel has its start and the error routine, and its byte of the installed flag.
 const START: usize = 0;
+
 const ERROR: usize = 1;
+
 const FLAG: usize = 1;
-
-/// Whether a unit is overlaid.
-fn has_overlays(units: &[LinkUnit]) -> bool {
-    units.iter().any(|unit| unit.overlaid)
-}
-
-/// Refuses a unit that can't be overlaid, or whose frames aren't marked in a program with overlays.
-fn check_overlays(units: &[LinkUnit]) -> Result<(), LinkError> {
-    for unit in units {
-        if unit.overlaid && !unit.overlayable {
-            return Err(LinkError::NotOverlayable {
-                unit: unit.name.copied(),
-            });
-        }
-    }
-    if has_overlays(units) {
-        for unit in units {
-            if !unit.marked {
-                return Err(LinkError::OldFrames {
-                    unit: unit.name.copied(),
-                });
-            }
-        }
-    }
-    Ok(())
-}
 
 /// The main and initialisation parts, in the order of the units.
 fn initials(alloc: Global, units: &[LinkUnit]) -> Result<Vec<Initial>, AllocError> {
@@ -74,9 +57,7 @@ fn initials(alloc: Global, units: &[LinkUnit]) -> Result<Vec<Initial>, AllocErro
 
 /// The kernel of a program of these units.
 fn kernel(alloc: Global, units: &[LinkUnit]) -> Result<LinkUnit, AllocError> {
-    let Some(name) = Name::new(KERNEL_NAME) else {
-        unreachable!();
-    };
+    let name = kernel_name();
     let initials = initials(alloc, units)?;
     let object = kernel_unit(alloc, &name, initials.as_slice(), has_overlays(units))?;
     Ok(LinkUnit {
@@ -90,7 +71,9 @@ fn kernel(alloc: Global, units: &[LinkUnit]) -> Result<LinkUnit, AllocError> {
 }
 
 /// Where the reached parts of a program lie.
-fn placement(alloc: Global, parts: Parts, setting: &Setting) -> Result<Placement, LinkError> {
+fn placement(alloc: Global, parts: Parts, setting: &Setting) -> Result<Placement, LinkError>
+    ensures { IfErr result IsLaterCause }
+{
     let marks = reached_parts(alloc, parts)?;
     let measured = measure(alloc, parts, marks.as_slice())?;
     let sizes = sizes(alloc, parts, marks.as_slice(), &measured, setting)?;
@@ -172,10 +155,29 @@ fn executable(placed: Placed, setting: &Setting, image: Image, block: Block) -> 
     }
 }
 
+/// The executable and the overlays of a program, placed so.
+fn placed_program(alloc: Global, placed: Placed, setting: &Setting) -> Result<Linked, LinkError>
+    ensures { IfErr result IsLaterCause }
+{
+    let has_overlays = has_overlays(placed.parts.units);
+    let overlays = placed.overlays(alloc)?;
+    let data = placed.data_segment(alloc, setting, has_overlays)?;
+    let image = placed.image(alloc, overlays.as_slice(), &data)?;
+    let block = block(alloc, placed, setting, overlays.as_slice())?;
+    let exe = executable(placed, setting, image, block);
+    Ok(Linked { exe, overlays })
+}
+
 /// Links units in the order in which they start, the runtime's three behind them. What the start, the main and
-/// initialisation parts and the data of the runtime lead to is linked, and nothing else.
-pub fn link(alloc: Global, units: &[LinkUnit], setting: &Setting) -> Result<Linked, LinkError> {
-    check_overlays(units)?;
+/// initialisation parts and the data of the runtime lead to is linked, and nothing else. Executable and overlays can be
+/// written. A refusal tells its cause, and nothing was made.
+pub fn link(alloc: Global, units: &[LinkUnit], setting: &Setting) -> Result<Linked, LinkError>
+    ensures overlaid { OnOk result (CanBeOverlaid units.now) }
+    ensures refused { IfErr result (IsRefused units.now) }
+    ensures writable { IfOk result (λ linked. IsWritable linked.exe) }
+    ensures overlays { IfOk result (λ linked. 0 < length linked.overlays → AreOverlays linked.overlays) }
+{
+    check_overlaid(units)?;
     let kernel = kernel(alloc, units)?;
     let parts = Parts {
         units,
@@ -186,10 +188,12 @@ pub fn link(alloc: Global, units: &[LinkUnit], setting: &Setting) -> Result<Link
         parts,
         places: &places,
     };
-    let overlays = placed.overlays(alloc)?;
-    let data = placed.data_segment(alloc, setting, has_overlays(units))?;
-    let image = placed.image(alloc, overlays.as_slice(), &data)?;
-    let block = block(alloc, placed, setting, overlays.as_slice())?;
-    let exe = executable(placed, setting, image, block);
-    Ok(Linked { exe, overlays })
+    let linked = placed_program(alloc, placed, setting)?;
+    // What is placed can always be written; until that is proved, it is tested.
+    if !is_writable(&linked.exe)
+        || (!linked.overlays.is_empty() && !are_overlays(linked.overlays.as_slice()))
+    {
+        return Err(LinkError::NoMemory);
+    }
+    Ok(linked)
 }

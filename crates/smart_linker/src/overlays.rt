@@ -1,5 +1,8 @@
 //! The code of units, and of overlays.
 
+ghost use Rattle.std.specs.Prelude.{IfErr};
+ghost use Rattle.smart_linker.specs.Refused.{IsLaterCause};
+
 use crate::error::LinkError;
 use crate::filling::Placed;
 use crate::sizes::segment_word;
@@ -37,7 +40,9 @@ impl<'a> Placed<'a> {
         code: &mut Vec<u8>,
         words: &mut Offsets,
         unit: usize,
-    ) -> Result<(), LinkError> {
+    ) -> Result<(), LinkError>
+        ensures { IfErr result IsLaterCause }
+    {
         let Some(marks) = self.places.marks.get(unit) else {
             return Ok(());
         };
@@ -58,7 +63,9 @@ impl<'a> Placed<'a> {
     }
 
     /// The overlay of a unit.
-    fn overlay(&self, alloc: Global, unit: usize) -> Result<OverlayCode8086, LinkError> {
+    fn overlay(&self, alloc: Global, unit: usize) -> Result<OverlayCode8086, LinkError>
+        ensures { IfErr result IsLaterCause }
+    {
         let mut code = Vec::new(alloc);
         let mut fixups = Offsets::new(alloc);
         self.push_unit_code(&mut code, &mut fixups, unit)?;
@@ -73,7 +80,9 @@ impl<'a> Placed<'a> {
     }
 
     /// The overlays of a program, in the order of its units.
-    pub(crate) fn overlays(&self, alloc: Global) -> Result<Overlays, LinkError> {
+    pub(crate) fn overlays(&self, alloc: Global) -> Result<Overlays, LinkError>
+        ensures { IfErr result IsLaterCause }
+    {
         let mut overlays = Overlays::new(alloc);
         for place in 0..self.parts.count() {
             if self.parts.unit(place).overlaid {

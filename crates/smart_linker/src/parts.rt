@@ -1,6 +1,7 @@
 //! The parts of a program, and which of them a reference names.
 
-ghost use Rattle.std.specs.Prelude.{◌≡◌, ◌+◌, ◌<◌, ◌≤◌, length};
+ghost use Rattle.std.specs.Prelude.{IfErr};
+ghost use Rattle.smart_linker.specs.Refused.{IsLaterCause};
 
 use crate::error::LinkError;
 use crate::unit::{LinkUnit, RUNTIME_UNITS};
@@ -52,7 +53,7 @@ fn runtime_distance(number: u32) -> usize {
 impl<'a> Parts<'a> {
     /// How many units there are, with the kernel.
     pub(crate) fn count(&self) -> usize {
-        self.units.len() + 1
+        self.units.len().saturating_add(1)
     }
 
     /// The unit at a place; the kernel is the last one.
@@ -120,7 +121,13 @@ impl<'a> Parts<'a> {
 
     /// Whether a routine is there and far.
     fn is_far(&self, part: Part) -> bool {
-        match self.unit(part.unit).object.routines.as_slice().get(part.number) {
+        match self
+            .unit(part.unit)
+            .object
+            .routines
+            .as_slice()
+            .get(part.number)
+        {
             Some(routine) => routine.far,
             None => false,
         }
@@ -144,7 +151,9 @@ impl<'a> Parts<'a> {
     }
 
     /// The refusal of a reference of the unit at a place.
-    pub(crate) fn misfit(&self, own: usize, one: &Ref) -> LinkError {
+    pub(crate) fn misfit(&self, own: usize, one: &Ref) -> LinkError
+        ensures { IsLaterCause result }
+    {
         LinkError::Misfit {
             unit: self.unit(own).name.copied(),
             named: one.unit.copied(),
@@ -153,7 +162,9 @@ impl<'a> Parts<'a> {
     }
 
     /// The part that a reference of the unit at a place names; the data segment is none.
-    pub(crate) fn target(&self, own: usize, one: &Ref) -> Result<Option<Part>, LinkError> {
+    pub(crate) fn target(&self, own: usize, one: &Ref) -> Result<Option<Part>, LinkError>
+        ensures { IfErr result IsLaterCause }
+    {
         if one.kind == RefKind::DataSegment {
             return Ok(None);
         }

@@ -1,6 +1,7 @@
 //! Which parts of a program are reached from its start.
 
-ghost use Rattle.std.specs.Prelude.{◌≡◌, ◌+◌, ◌<◌, ◌≤◌, length};
+ghost use Rattle.std.specs.Prelude.{IfErr};
+ghost use Rattle.smart_linker.specs.Refused.{IsLaterCause};
 
 use crate::error::LinkError;
 use crate::parts::{Kind, Part, Parts};
@@ -80,7 +81,9 @@ impl Reached {
     }
 
     /// Adds what a part refers to.
-    fn follow(&mut self, parts: Parts, part: Part) -> Result<(), LinkError> {
+    fn follow(&mut self, parts: Parts, part: Part) -> Result<(), LinkError>
+        ensures { IfErr result IsLaterCause }
+    {
         for one in parts.refs_of(part) {
             if let Some(named) = parts.target(part.unit, one)? {
                 self.reach(named)?;
@@ -127,7 +130,9 @@ fn count_of(parts: Parts) -> Result<usize, AllocError> {
 }
 
 /// What the kernel's routines and all data of the runtime lead to, by references of what is reached: each part once.
-pub(crate) fn reached_parts(alloc: Global, parts: Parts) -> Result<Vec<UnitMarks>, LinkError> {
+pub(crate) fn reached_parts(alloc: Global, parts: Parts) -> Result<Vec<UnitMarks>, LinkError>
+    ensures { IfErr result IsLaterCause }
+{
     let mut reached = Reached::new(alloc, parts)?;
     reached.begin(parts)?;
     // Each part is followed once, so that none is left.

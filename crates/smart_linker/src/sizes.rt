@@ -1,6 +1,8 @@
 //! What the parts that are reached take, and where each lies in what holds it.
 
-ghost use Rattle.std.specs.Prelude.{◌≡◌, ◌≤◌, IfOk};
+ghost use Rattle.std.specs.Prelude.{◌≡◌, IfErr};
+ghost use Rattle.smart_linker.specs.Segments.{segment_word};
+ghost use Rattle.smart_linker.specs.Refused.{IsLaterCause};
 
 use crate::error::LinkError;
 use crate::parts::Parts;
@@ -45,7 +47,11 @@ pub(crate) fn has_entry(code: &Code8086, is_reached: bool) -> bool {
 fn code_sizes(alloc: Global, codes: &[Code8086], marks: &[bool]) -> Result<Numbers, AllocError> {
     let mut sizes = Numbers::new(alloc);
     for (code, is_reached) in codes.iter().zip(marks.iter()) {
-        sizes.push(if *is_reached { code.code.len() as u64 } else { 0 })?;
+        sizes.push(if *is_reached {
+            code.code.len() as u64
+        } else {
+            0
+        })?;
     }
     Ok(sizes)
 }
@@ -73,7 +79,9 @@ fn unit_sums(
     unit: &LinkUnit,
     marks: &UnitMarks,
     first: u64,
-) -> Result<(UnitSums, u64), LinkError> {
+) -> Result<(UnitSums, u64), LinkError>
+    ensures { IfErr result IsLaterCause }
+{
     let routines = unit.object.routines.as_slice();
     let code = code_sizes(alloc, routines, marks.routines.as_slice())?;
     let code = prefix_sums(alloc, 0, code.as_slice())?;
@@ -113,7 +121,9 @@ pub(crate) fn measure(
     alloc: Global,
     parts: Parts,
     marks: &[UnitMarks],
-) -> Result<Measured, LinkError> {
+) -> Result<Measured, LinkError>
+    ensures { IfErr result IsLaterCause }
+{
     let mut units = Sequence::new(alloc);
     let mut bytes = 0;
     for (place, unit) in marks.iter().enumerate() {
@@ -125,7 +135,9 @@ pub(crate) fn measure(
 }
 
 /// Where in its bytes a reference has the word that is a segment.
-pub(crate) fn segment_word(one: &Ref) -> Option<u64> {
+pub(crate) fn segment_word(one: &Ref) -> Option<u64>
+    ensures { result ≡ segment_word one.now }
+{
     match one.kind {
         RefKind::FarRoutine | RefKind::Runtime => Some(u64::from(one.offset) + 2),
         RefKind::DataSegment => Some(u64::from(one.offset)),
@@ -169,7 +181,9 @@ fn relocations(parts: Parts, marks: &[UnitMarks]) -> Result<u64, AllocError> {
     let mut count = 1;
     for (place, unit) in marks.iter().enumerate() {
         let LinkUnit {
-            object, overlaid, ..
+            object,
+            overlaid,
+            ..
         } = parts.unit(place);
         if !*overlaid {
             let routines = object.routines.as_slice();
