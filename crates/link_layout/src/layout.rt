@@ -94,7 +94,8 @@ fn segments_from(alloc: Global, first: u64, sizes: &[u64]) -> Result<Segments, A
 
 /// Whether sizes have room, the image being of so many paragraphs.
 fn within_limits(sizes: &Sizes, image: u64) -> Result<(), LayoutError>
-    requires { image ≡ image_size sizes.now }
+    requires image { image ≡ image_size sizes.now }
+    requires data { sizes.now.bytes ≤ 65520 }
     ensures room { OnOk result (HasRoom sizes.now) }
     ensures refused { IfErr result (IsRefused sizes.now) }
 {

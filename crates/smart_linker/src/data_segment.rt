@@ -6,7 +6,7 @@ ghost use Rattle.smart_linker.specs.Refused.{IsLaterCause};
 use crate::error::LinkError;
 use crate::filling::{Placed, set_word};
 use crate::overlays::push_segment_words;
-use crate::parts::{Kind, Part};
+use crate::part::{Kind, Part};
 use crate::unit::Setting;
 use link_layout::even;
 use object_file::object_unit::Datum;

@@ -4,7 +4,8 @@ ghost use Rattle.std.specs.Prelude.{IfErr};
 ghost use Rattle.smart_linker.specs.Refused.{IsLaterCause};
 
 use crate::error::LinkError;
-use crate::parts::{Part, Parts};
+use crate::part::Part;
+use crate::parts::Parts;
 use crate::placement::Placement;
 use cpu_8086::Far;
 use object_file::object_unit::{Ref, RefKind};

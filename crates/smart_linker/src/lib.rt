@@ -8,6 +8,7 @@ mod image;
 mod link;
 mod overlaid;
 mod overlays;
+mod part;
 mod parts;
 mod placement;
 mod reached;

@@ -1,28 +1,14 @@
-//! The parts of a program, and which of them a reference names.
+//! The units of a program, and which part of them a reference names.
 
-ghost use Rattle.std.specs.Prelude.{IfErr};
+ghost use Rattle.std.specs.Prelude.{◌≡◌, ◌+◌, IfOk, IfErr, None, length, slice_get};
+ghost use Rattle.smart_linker.specs.Naming.{unit_at, is_hidden, known_from, place_of, kernel_routine, runtime_distance, runtime_part, named_part, named_by, is_there, is_far, fits, named, datum_refs, refs_of};
 ghost use Rattle.smart_linker.specs.Refused.{IsLaterCause};
 
 use crate::error::LinkError;
+use crate::part::{Kind, Part};
 use crate::unit::{LinkUnit, RUNTIME_UNITS};
 use object_file::object_unit::{Datum, Ref, RefKind};
 use type_layout::Name;
-
-/// What stands by itself in a unit.
-#[derive(Clone, Copy, PartialEq, Eq, Debug)]
-pub(crate) enum Kind {
-    Routine,
-    Datum,
-    Vmt,
-}
-
-/// A routine, a datum or a virtual method table, by the place of its unit and its number there.
-#[derive(Clone, Copy, PartialEq, Eq, Debug)]
-pub(crate) struct Part {
-    pub(crate) kind: Kind,
-    pub(crate) unit: usize,
-    pub(crate) number: usize,
-}
 
 /// The units of a program, the runtime's three the last of them, and behind them the kernel.
 #[derive(Clone, Copy)]
@@ -32,7 +18,9 @@ pub(crate) struct Parts<'a> {
 }
 
 /// Where the kernel has the routine of such a number: the error routine, and those of two effects of the machine.
-fn kernel_routine(number: u32) -> Option<usize> {
+fn kernel_routine(number: u32) -> Option<usize>
+    ensures { result ≡ kernel_routine number }
+{
     match number {
         0 => Some(1),
         3 => Some(2),
@@ -42,11 +30,31 @@ fn kernel_routine(number: u32) -> Option<usize> {
 }
 
 /// How far from the last of the runtime's units the one is that has the routines of such a number.
-fn runtime_distance(number: u32) -> usize {
+fn runtime_distance(number: u32) -> usize
+    ensures { result ≡ runtime_distance number }
+{
     match number / 256 {
         1 => 2,
         2 => 1,
         _ => 0,
+    }
+}
+
+/// Whether the unit at a place is known by name to no other: the first two of the runtime's three, which are the last.
+fn is_hidden(count: usize, place: usize) -> bool
+    ensures { result ≡ is_hidden count place }
+{
+    let runtime = count.saturating_sub(RUNTIME_UNITS);
+    runtime <= place && place - runtime < RUNTIME_UNITS - 1
+}
+
+/// The references of the datum of a number.
+fn datum_refs(data: &[Datum], number: usize) -> &[Ref]
+    ensures { result.now ≡ datum_refs (slice_get data.now number) }
+{
+    match data.get(number) {
+        Some(datum) => datum.refs.as_slice(),
+        None => &[],
     }
 }
 
@@ -57,50 +65,65 @@ impl<'a> Parts<'a> {
     }
 
     /// The unit at a place; the kernel is the last one.
-    pub(crate) fn unit(&self, place: usize) -> &LinkUnit {
+    pub(crate) fn unit(&self, place: usize) -> &LinkUnit
+        ensures { result.now ≡ unit_at self.now.units.now self.now.kernel.now place }
+    {
         match self.units.get(place) {
             Some(unit) => unit,
             None => self.kernel,
         }
     }
 
-    /// The place of the unit that the one at a place knows by a name: of itself, or of the first unit that others know by it.
-    fn place_of(&self, own: usize, name: &Name) -> Option<usize> {
-        if self.unit(own).name == *name {
-            return Some(own);
-        }
-        let hidden = self.units.len().saturating_sub(RUNTIME_UNITS);
+    /// The first unit that others know by a name.
+    fn known(&self, name: &Name) -> Option<usize>
+        ensures { result ≡ known_from (length self.now.units.now) 0 self.now.units.now name.now }
+    {
         for (place, unit) in self.units.iter().enumerate() {
-            let is_hidden = place >= hidden && place - hidden < RUNTIME_UNITS - 1;
-            if !is_hidden && unit.name == *name {
+            if !is_hidden(self.units.len(), place) && unit.name == *name {
                 return Some(place);
             }
         }
         None
     }
 
+    /// The place of the unit that the one at a place knows by a name: of itself, or of the first unit that others know by it.
+    fn place_of(&self, own: usize, name: &Name) -> Option<usize>
+        ensures { result ≡ place_of self.now.units.now self.now.kernel.now own name.now }
+    {
+        if self.unit(own).name == *name {
+            return Some(own);
+        }
+        self.known(name)
+    }
+
     /// The routine of the runtime, or of the kernel, that a number names.
-    fn runtime_part(&self, number: u32) -> Option<Part> {
+    fn runtime_part(&self, number: u32) -> Option<Part>
+        ensures { result ≡ runtime_part self.now.units.now number }
+    {
+        let kind = Kind::Routine;
+        let count = self.units.len();
         if let Some(routine) = kernel_routine(number) {
             return Some(Part {
-                kind: Kind::Routine,
-                unit: self.units.len(),
+                kind,
+                unit: count,
                 number: routine,
             });
         }
         let distance = runtime_distance(number);
-        if self.units.len() <= distance {
+        if count <= distance {
             return None;
         }
         Some(Part {
-            kind: Kind::Routine,
-            unit: self.units.len() - 1 - distance,
+            kind,
+            unit: count - 1 - distance,
             number: number as usize % 256,
         })
     }
 
     /// A part of this kind of the unit that is known by a name.
-    fn named_part(&self, own: usize, one: &Ref, kind: Kind) -> Option<Part> {
+    fn named_part(&self, own: usize, one: &Ref, kind: Kind) -> Option<Part>
+        ensures { result ≡ named_part self.now.units.now self.now.kernel.now own one.now kind }
+    {
         let unit = self.place_of(own, &one.unit)?;
         Some(Part {
             kind,
@@ -109,8 +132,10 @@ impl<'a> Parts<'a> {
         })
     }
 
-    /// Whether a part is there, and is far, or of the unit itself where that is asked.
-    fn is_there(&self, part: Part) -> bool {
+    /// Whether a part is there.
+    fn is_there(&self, part: Part) -> bool
+        ensures { result ≡ is_there self.now.units.now self.now.kernel.now part }
+    {
         let object = &self.unit(part.unit).object;
         match part.kind {
             Kind::Routine => part.number < object.routines.len(),
@@ -120,34 +145,54 @@ impl<'a> Parts<'a> {
     }
 
     /// Whether a routine is there and far.
-    fn is_far(&self, part: Part) -> bool {
-        match self
-            .unit(part.unit)
-            .object
-            .routines
-            .as_slice()
-            .get(part.number)
-        {
+    fn is_far(&self, part: Part) -> bool
+        ensures { result ≡ is_far self.now.units.now self.now.kernel.now part }
+    {
+        let object = &self.unit(part.unit).object;
+        match object.routines.as_slice().get(part.number) {
             Some(routine) => routine.far,
             None => false,
         }
     }
 
-    /// The part that a reference of the unit at a place names, if it can be named so.
-    fn named(&self, own: usize, one: &Ref) -> Option<Part> {
-        let part = match one.kind {
-            RefKind::FarRoutine | RefKind::NearRoutine => self.named_part(own, one, Kind::Routine),
+    /// The part that a reference of this kind would name.
+    fn named_by(&self, own: usize, one: &Ref) -> Option<Part>
+        ensures { result ≡ named_by self.now.units.now self.now.kernel.now own one.now one.now.kind }
+    {
+        match one.kind {
+            RefKind::FarRoutine => self.named_part(own, one, Kind::Routine),
+            RefKind::NearRoutine => self.named_part(own, one, Kind::Routine),
             RefKind::DataOffset => self.named_part(own, one, Kind::Datum),
             RefKind::Vmt => self.named_part(own, one, Kind::Vmt),
             RefKind::Runtime => self.runtime_part(one.number),
             RefKind::DataSegment => None,
-        }?;
-        let fits = match one.kind {
-            RefKind::FarRoutine | RefKind::Runtime => self.is_far(part),
+        }
+    }
+
+    /// Whether a part can be named by a reference of this kind.
+    fn fits(&self, own: usize, kind: RefKind, part: Part) -> bool
+        ensures { result ≡ fits self.now.units.now self.now.kernel.now own kind part }
+    {
+        match kind {
+            RefKind::FarRoutine => self.is_far(part),
+            RefKind::Runtime => self.is_far(part),
             RefKind::NearRoutine => part.unit == own && self.is_there(part),
-            _ => self.is_there(part),
-        };
-        if fits { Some(part) } else { None }
+            RefKind::DataOffset => self.is_there(part),
+            RefKind::Vmt => self.is_there(part),
+            RefKind::DataSegment => self.is_there(part),
+        }
+    }
+
+    /// The part that a reference of the unit at a place names, if it can be named so.
+    fn named(&self, own: usize, one: &Ref) -> Option<Part>
+        ensures { result ≡ named self.now.units.now self.now.kernel.now own one.now }
+    {
+        let part = self.named_by(own, one)?;
+        if self.fits(own, one.kind, part) {
+            Some(part)
+        } else {
+            None
+        }
     }
 
     /// The refusal of a reference of the unit at a place.
@@ -163,7 +208,8 @@ impl<'a> Parts<'a> {
 
     /// The part that a reference of the unit at a place names; the data segment is none.
     pub(crate) fn target(&self, own: usize, one: &Ref) -> Result<Option<Part>, LinkError>
-        ensures { IfErr result IsLaterCause }
+        ensures part { IfOk result (λ part. part ≡ named self.now.units.now self.now.kernel.now own one.now) }
+        ensures cause { IfErr result IsLaterCause }
     {
         if one.kind == RefKind::DataSegment {
             return Ok(None);
@@ -175,7 +221,9 @@ impl<'a> Parts<'a> {
     }
 
     /// The references of a part.
-    pub(crate) fn refs_of(&self, part: Part) -> &[Ref] {
+    pub(crate) fn refs_of(&self, part: Part) -> &[Ref]
+        ensures { result.now ≡ refs_of self.now.units.now self.now.kernel.now part }
+    {
         let object = &self.unit(part.unit).object;
         match part.kind {
             Kind::Routine => match object.routines.as_slice().get(part.number) {
@@ -185,12 +233,5 @@ impl<'a> Parts<'a> {
             Kind::Datum => datum_refs(object.globals.as_slice(), part.number),
             Kind::Vmt => datum_refs(object.vmts.as_slice(), part.number),
         }
-    }
-}
-
-fn datum_refs(data: &[Datum], number: usize) -> &[Ref] {
-    match data.get(number) {
-        Some(datum) => datum.refs.as_slice(),
-        None => &[],
     }
 }

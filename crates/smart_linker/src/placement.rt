@@ -1,6 +1,7 @@
 //! Where the parts of a program lie.
 
-use crate::parts::{Kind, Part, Parts};
+use crate::part::{Kind, Part};
+use crate::parts::Parts;
 use crate::reached::UnitMarks;
 use crate::sizes::Measured;
 use cpu_8086::Far;

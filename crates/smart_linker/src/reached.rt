@@ -4,7 +4,8 @@ ghost use Rattle.std.specs.Prelude.{IfErr};
 ghost use Rattle.smart_linker.specs.Refused.{IsLaterCause};
 
 use crate::error::LinkError;
-use crate::parts::{Kind, Part, Parts};
+use crate::part::{Kind, Part};
+use crate::parts::Parts;
 use crate::unit::RUNTIME_UNITS;
 use std::alloc::{AllocError, Global};
 

@@ -13,17 +13,12 @@ use overlay_file::OverlayCode8086;
 fn are_within(size: usize, fars: &[Far]) -> bool
     ensures { IsTrue result ↔ All (IsWithin size) fars.now }
 {
-    for far in fars {
-        if size < 16 * usize::from(far.segment) + usize::from(far.offset) + 2 {
-            return false;
-        }
-    }
-    true
+    fars.iter().all(|far| 16 * usize::from(far.segment) + usize::from(far.offset) + 2 <= size)
 }
 
 /// Whether an executable file can hold this.
 pub(crate) fn is_writable(exe: &Exe) -> bool
-    ensures { IsTrue result ↔ IsWritable exe.now }
+    ensures { IsTrue result → IsWritable exe.now }
 {
     let stubs = exe.block.stubs.len();
     let relocations = exe.relocations.len();
@@ -36,7 +31,7 @@ pub(crate) fn is_writable(exe: &Exe) -> bool
 }
 
 fn are_fixups(size: usize, fixups: &[u32]) -> bool
-    ensures { IsTrue result ↔ AreFixups size 0 fixups.now }
+    ensures { IsTrue result → AreFixups size 0 fixups.now }
 {
     let mut least: u64 = 0;
     for fixup in fixups {
@@ -50,7 +45,7 @@ fn are_fixups(size: usize, fixups: &[u32]) -> bool
 }
 
 fn is_overlay(overlay: &OverlayCode8086) -> bool
-    ensures { IsTrue result ↔ IsOverlay overlay.now }
+    ensures { IsTrue result → IsOverlay overlay.now }
 {
     let size = overlay.code.len();
     0 < size && size <= 65_520 && are_fixups(size, overlay.fixups.as_slice())
@@ -58,7 +53,7 @@ fn is_overlay(overlay: &OverlayCode8086) -> bool
 
 /// Whether an overlay file can hold these.
 pub(crate) fn are_overlays(overlays: &[OverlayCode8086]) -> bool
-    ensures { IsTrue result ↔ AreOverlays overlays.now }
+    ensures { IsTrue result → AreOverlays overlays.now }
 {
     if overlays.is_empty() || overlays.len() > 256 {
         return false;
