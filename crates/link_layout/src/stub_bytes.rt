@@ -81,10 +81,10 @@ fn entry_of(at: u32, overlay: &OverlayCode8086) -> Result<(OvrEntry, u32), Alloc
         return Err(AllocError);
     }
     let name = overlay.name.as_bytes().len() as u32;
-    let place = at.checked_add(5 + name).ok_or(AllocError)?;
-    let end = place
-        .checked_add(size as u32 + 2 * fixups as u32)
-        .ok_or(AllocError)?;
+    let front = at.checked_add(5).ok_or(AllocError)?;
+    let place = front.checked_add(name).ok_or(AllocError)?;
+    let code_end = place.checked_add(size as u32).ok_or(AllocError)?;
+    let end = code_end.checked_add(2 * fixups as u32).ok_or(AllocError)?;
     let entry = OvrEntry {
         name: overlay.name.copied(),
         place,

@@ -1,3 +1,4 @@
+pub mod Given
 pub mod Naming
 pub mod Overlaid
 pub mod Refused

@@ -7,7 +7,7 @@ use Rattle.object_file.specs.declared.object_unit.object.Ref.{Ref}
 use Rattle.object_file.specs.declared.object_unit.object.RefKind.{RefKind}
 use Rattle.object_file.specs.declared.object_unit.object.RefKind.TheVariants.{FarRoutine, NearRoutine, DataOffset, DataSegment, Vmt, Runtime}
 use Rattle.smart_linker.specs.declared.part.Kind.{Kind}
-use Rattle.smart_linker.specs.declared.part.Kind.TheVariants as kind
+use Rattle.smart_linker.specs.declared.part.Kind.TheVariants as kinds
 use Rattle.smart_linker.specs.declared.part.Part.{Part}
 use Rattle.smart_linker.specs.declared.unit.LinkUnit.{LinkUnit}
 
@@ -46,7 +46,7 @@ abbrev pub runtime_distance : ℕ → ℕ
 runtime_distance number = if number / 256 == 1 then 2 else (if number / 256 == 2 then 1 else 0)
 
 abbrev pub routine_part : ℕ → ℕ → Part
-routine_part unit number = record { kind = kind.Routine; unit = unit; number = number }
+routine_part unit number = record { kind = kinds.Routine; unit = unit; number = number }
 
 abbrev pub kernel_or_unit : ℕ → ℕ → Option ℕ → Option Part
 kernel_or_unit count number (Some routine) = Some (routine_part count routine)
@@ -66,17 +66,17 @@ abbrev pub named_part : List LinkUnit → LinkUnit → ℕ → Ref → Kind → 
 named_part units kernel own one kind = part_in kind one.number (place_of units kernel own one.unit)
 
 abbrev pub named_by : List LinkUnit → LinkUnit → ℕ → Ref → RefKind → Option Part
-named_by units kernel own one FarRoutine = named_part units kernel own one kind.Routine
-named_by units kernel own one NearRoutine = named_part units kernel own one kind.Routine
-named_by units kernel own one DataOffset = named_part units kernel own one kind.Datum
-named_by units kernel own one Vmt = named_part units kernel own one kind.Vmt
+named_by units kernel own one FarRoutine = named_part units kernel own one kinds.Routine
+named_by units kernel own one NearRoutine = named_part units kernel own one kinds.Routine
+named_by units kernel own one DataOffset = named_part units kernel own one kinds.Datum
+named_by units kernel own one Vmt = named_part units kernel own one kinds.Vmt
 named_by units kernel own one Runtime = runtime_part units one.number
 named_by units kernel own one DataSegment = None
 
 abbrev pub is_in : LinkUnit → Kind → ℕ → Bool
-is_in unit kind.Routine number = nat_lt number (length unit.object.routines)
-is_in unit kind.Datum number = nat_lt number (length unit.object.globals)
-is_in unit kind.Vmt number = nat_lt number (length unit.object.vmts)
+is_in unit kinds.Routine number = nat_lt number (length unit.object.routines)
+is_in unit kinds.Datum number = nat_lt number (length unit.object.globals)
+is_in unit kinds.Vmt number = nat_lt number (length unit.object.vmts)
 
 abbrev pub is_there : List LinkUnit → LinkUnit → Part → Bool
 is_there units kernel part = is_in (unit_at units kernel part.unit) part.kind part.number
@@ -116,9 +116,9 @@ datum_refs None = []
 datum_refs (Some datum) = datum.refs
 
 abbrev pub refs_in : LinkUnit → Kind → ℕ → List Ref
-refs_in unit kind.Routine number = code_refs (slice_get unit.object.routines number)
-refs_in unit kind.Datum number = datum_refs (slice_get unit.object.globals number)
-refs_in unit kind.Vmt number = datum_refs (slice_get unit.object.vmts number)
+refs_in unit kinds.Routine number = code_refs (slice_get unit.object.routines number)
+refs_in unit kinds.Datum number = datum_refs (slice_get unit.object.globals number)
+refs_in unit kinds.Vmt number = datum_refs (slice_get unit.object.vmts number)
 
 -- the references of a part
 abbrev pub refs_of : List LinkUnit → LinkUnit → Part → List Ref

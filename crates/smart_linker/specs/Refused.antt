@@ -1,18 +1,9 @@
 -- Why units aren't linked.
 use Rattle.std.specs.Prelude.{◌≡◌, ◌<◌, List, Some, None, IsTrue}
-use Rattle.link_layout.specs.declared.error.LayoutError.{LayoutError}
-use Rattle.link_layout.specs.declared.error.LayoutError.TheVariants as layout
 use Rattle.smart_linker.specs.declared.error.LinkError.{LinkError}
 use Rattle.smart_linker.specs.declared.error.LinkError.TheVariants.{NotOverlayable, OldFrames, Misfit, CodeTooLarge, TooManyEntries, DataTooLarge, ImageTooLarge, TooManyRelocations, NoMemory}
 use Rattle.smart_linker.specs.declared.unit.LinkUnit.{LinkUnit}
 use Rattle.smart_linker.specs.Overlaid.{has_overlays, is_unfit, is_unmarked, first_where, CanBeOverlaid}
-
--- what is told of parts that have no places
-abbrev pub refusal_of : LayoutError → LinkError
-refusal_of (layout.DataTooLarge bytes) = DataTooLarge bytes
-refusal_of (layout.ImageTooLarge paragraphs) = ImageTooLarge paragraphs
-refusal_of (layout.TooManyRelocations count) = TooManyRelocations count
-refusal_of layout.NoMemory = NoMemory
 
 -- a cause that shows as parts are reached and placed; each number that is told passes its limit
 abbrev pub IsLaterCause : LinkError → Type 0

@@ -2,9 +2,7 @@
 
 ghost use Rattle.std.specs.Prelude.{◌≡◌};
 ghost use Rattle.smart_linker.specs.declared.error.LinkError.TheVariants.{NoMemory};
-ghost use Rattle.smart_linker.specs.Refused.{refusal_of};
 
-use link_layout::LayoutError;
 use std::alloc::AllocError;
 use std::error::Error;
 use std::fmt;
@@ -89,18 +87,5 @@ impl From<AllocError> for LinkError {
 
     fn from(_error: AllocError) -> LinkError {
         LinkError::NoMemory
-    }
-}
-
-impl From<LayoutError> for LinkError {
-    ghost from_gives = { λ error e. e ≡ refusal_of error };
-
-    fn from(error: LayoutError) -> LinkError {
-        match error {
-            LayoutError::DataTooLarge { bytes } => LinkError::DataTooLarge { bytes },
-            LayoutError::ImageTooLarge { paragraphs } => LinkError::ImageTooLarge { paragraphs },
-            LayoutError::TooManyRelocations { count } => LinkError::TooManyRelocations { count },
-            LayoutError::NoMemory => LinkError::NoMemory,
-        }
     }
 }

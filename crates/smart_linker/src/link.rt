@@ -1,11 +1,11 @@
 //! Linking.
 
-ghost use Rattle.std.specs.Prelude.{◌<◌, length, IfOk, OnOk, IfErr};
+ghost use Rattle.std.specs.Prelude.{◌≡◌, ◌+◌, ◌%◌, ◌<◌, true, length, IfOk, OnOk, IfErr};
 ghost use Rattle.mz_file.specs.Spelling.{IsWritable};
 ghost use Rattle.overlay_file.specs.Format.{AreOverlays};
+ghost use Rattle.smart_linker.specs.Given.{IsGiven};
 ghost use Rattle.smart_linker.specs.Overlaid.{CanBeOverlaid};
-ghost use Rattle.smart_linker.specs.Refused.{IsRefused};
-ghost use Rattle.smart_linker.specs.Refused.{IsLaterCause};
+ghost use Rattle.smart_linker.specs.Refused.{IsLaterCause, IsRefused};
 
 use crate::error::LinkError;
 use crate::filling::Placed;
@@ -21,7 +21,7 @@ use crate::unit::{LinkUnit, Overlays, Setting};
 use crate::writable::{are_overlays, is_writable};
 use cpu_8086::Far;
 use kernel_code::{Initial, kernel_name, kernel_unit};
-use link_layout::{Layout, lay_out};
+use link_layout::{Layout, LayoutError, Sizes, lay_out};
 use mz_file::{Block, Exe, Segments};
 use overlay_file::OverlayCode8086;
 use std::alloc::{AllocError, Global};
@@ -71,6 +71,23 @@ fn kernel(alloc: Global, units: &[LinkUnit]) -> Result<LinkUnit, AllocError> {
     })
 }
 
+/// Where parts of these sizes lie, or the limit that they pass.
+fn layout_of(alloc: Global, sizes: &Sizes) -> Result<Layout, LinkError>
+    ensures { IfErr result IsLaterCause }
+{
+    match lay_out(alloc, sizes) {
+        Ok(layout) => Ok(layout),
+        Err(LayoutError::DataTooLarge { bytes }) => Err(LinkError::DataTooLarge { bytes }),
+        Err(LayoutError::ImageTooLarge { paragraphs }) => {
+            Err(LinkError::ImageTooLarge { paragraphs })
+        }
+        Err(LayoutError::TooManyRelocations { count }) => {
+            Err(LinkError::TooManyRelocations { count })
+        }
+        Err(LayoutError::NoMemory) => Err(LinkError::NoMemory),
+    }
+}
+
 /// Where the reached parts of a program lie.
 fn placement(alloc: Global, parts: Parts, setting: &Setting) -> Result<Placement, LinkError>
     ensures { IfErr result IsLaterCause }
@@ -78,7 +95,7 @@ fn placement(alloc: Global, parts: Parts, setting: &Setting) -> Result<Placement
     let marks = reached_parts(alloc, parts)?;
     let measured = measure(alloc, parts, marks.as_slice())?;
     let sizes = sizes(alloc, parts, marks.as_slice(), &measured, setting)?;
-    let layout = lay_out(alloc, &sizes)?;
+    let layout = layout_of(alloc, &sizes)?;
     let segments = home_segments(alloc, parts, &layout)?;
     Ok(Placement {
         marks,
@@ -102,7 +119,12 @@ fn block(
     placed: Placed,
     setting: &Setting,
     overlays: &[OverlayCode8086],
-) -> Result<Block, AllocError> {
+) -> Result<Block, AllocError>
+    ensures marked { IfOk result (λ block. block.marked ≡ true) }
+    ensures stack { IfOk result (λ block. block.stack ≡ setting.now.stack) }
+    ensures heap { IfOk result (λ block. block.heap ≡ setting.now.heap) }
+    ensures flag { IfOk result (λ block. block.installed.segment ≡ block.data_segment) }
+{
     let layout = &placed.places.layout;
     let kernel = placed.parts.units.len();
     let error = Part {
@@ -132,7 +154,9 @@ fn block(
 }
 
 /// SS and SP as the program starts: an odd size of the stack is counted one up.
-fn stack(layout: &Layout, setting: &Setting) -> Far {
+fn stack(layout: &Layout, setting: &Setting) -> Far
+    ensures { setting.now.stack < 65535 → result.offset ≡ setting.now.stack + setting.now.stack % 2 }
+{
     Far {
         offset: setting.stack.saturating_add(setting.stack % 2),
         segment: layout.stack_segment,
@@ -140,7 +164,10 @@ fn stack(layout: &Layout, setting: &Setting) -> Far {
 }
 
 /// The executable with this image.
-fn executable(placed: Placed, setting: &Setting, image: Image, block: Block) -> Exe {
+fn executable(placed: Placed, setting: &Setting, image: Image, block: Block) -> Exe
+    ensures block { result.block ≡ block }
+    ensures stack { setting.now.stack < 65535 → result.stack.offset ≡ setting.now.stack + setting.now.stack % 2 }
+{
     let start = Part {
         kind: Kind::Routine,
         unit: placed.parts.units.len(),
@@ -158,7 +185,8 @@ fn executable(placed: Placed, setting: &Setting, image: Image, block: Block) -> 
 
 /// The executable and the overlays of a program, placed so.
 fn placed_program(alloc: Global, placed: Placed, setting: &Setting) -> Result<Linked, LinkError>
-    ensures { IfErr result IsLaterCause }
+    ensures given { IfOk result (λ linked. IsGiven setting.now linked.exe) }
+    ensures cause { IfErr result IsLaterCause }
 {
     let has_overlays = has_overlays(placed.parts.units);
     let overlays = placed.overlays(alloc)?;
@@ -175,6 +203,7 @@ fn placed_program(alloc: Global, placed: Placed, setting: &Setting) -> Result<Li
 pub fn link(alloc: Global, units: &[LinkUnit], setting: &Setting) -> Result<Linked, LinkError>
     ensures overlaid { OnOk result (CanBeOverlaid units.now) }
     ensures refused { IfErr result (IsRefused units.now) }
+    ensures given { IfOk result (λ linked. IsGiven setting.now linked.exe) }
     ensures writable { IfOk result (λ linked. IsWritable linked.exe) }
     ensures overlays { IfOk result (λ linked. 0 < length linked.overlays → AreOverlays linked.overlays) }
 {

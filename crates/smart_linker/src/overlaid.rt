@@ -20,24 +20,32 @@ pub(crate) fn has_overlays(units: &[LinkUnit]) -> bool
 fn first_unfit(units: &[LinkUnit]) -> Option<Name>
     ensures { MatchOption result (first_where is_unfit units.now ≡ None) (λ name. first_where is_unfit units.now ≡ Some name) }
 {
-    for unit in units {
-        if unit.overlaid && !unit.overlayable {
-            return Some(unit.name.copied());
+    match units {
+        [] => None,
+        [unit, rest @ ..] => {
+            if unit.overlaid && !unit.overlayable {
+                Some(unit.name.copied())
+            } else {
+                first_unfit(rest)
+            }
         }
     }
-    None
 }
 
 /// The first unit whose frames aren't marked.
 fn first_unmarked(units: &[LinkUnit]) -> Option<Name>
     ensures { MatchOption result (first_where is_unmarked units.now ≡ None) (λ name. first_where is_unmarked units.now ≡ Some name) }
 {
-    for unit in units {
-        if !unit.marked {
-            return Some(unit.name.copied());
+    match units {
+        [] => None,
+        [unit, rest @ ..] => {
+            if unit.marked {
+                first_unmarked(rest)
+            } else {
+                Some(unit.name.copied())
+            }
         }
     }
-    None
 }
 
 /// Refuses a unit that can't be overlaid, or whose frames aren't marked in a program with overlays.

@@ -48,6 +48,23 @@ fn is_hidden(count: usize, place: usize) -> bool
     runtime <= place && place - runtime < RUNTIME_UNITS - 1
 }
 
+/// The first unit from a place on, among so many, that others know by a name.
+fn known_from(count: usize, place: usize, units: &[LinkUnit], name: &Name) -> Option<usize>
+    requires { place + length units.now ≡ count }
+    ensures { result ≡ known_from count place units.now name.now }
+{
+    match units {
+        [] => None,
+        [unit, rest @ ..] => {
+            if !is_hidden(count, place) && unit.name == *name {
+                Some(place)
+            } else {
+                known_from(count, place + 1, rest, name)
+            }
+        }
+    }
+}
+
 /// The references of the datum of a number.
 fn datum_refs(data: &[Datum], number: usize) -> &[Ref]
     ensures { result.now ≡ datum_refs (slice_get data.now number) }
@@ -65,25 +82,13 @@ impl<'a> Parts<'a> {
     }
 
     /// The unit at a place; the kernel is the last one.
-    pub(crate) fn unit(&self, place: usize) -> &LinkUnit
+    pub(crate) fn unit(&self, place: usize) -> &'a LinkUnit
         ensures { result.now ≡ unit_at self.now.units.now self.now.kernel.now place }
     {
         match self.units.get(place) {
             Some(unit) => unit,
             None => self.kernel,
         }
-    }
-
-    /// The first unit that others know by a name.
-    fn known(&self, name: &Name) -> Option<usize>
-        ensures { result ≡ known_from (length self.now.units.now) 0 self.now.units.now name.now }
-    {
-        for (place, unit) in self.units.iter().enumerate() {
-            if !is_hidden(self.units.len(), place) && unit.name == *name {
-                return Some(place);
-            }
-        }
-        None
     }
 
     /// The place of the unit that the one at a place knows by a name: of itself, or of the first unit that others know by it.
@@ -93,7 +98,7 @@ impl<'a> Parts<'a> {
         if self.unit(own).name == *name {
             return Some(own);
         }
-        self.known(name)
+        known_from(self.units.len(), 0, self.units, name)
     }
 
     /// The routine of the runtime, or of the kernel, that a number names.
@@ -221,7 +226,7 @@ impl<'a> Parts<'a> {
     }
 
     /// The references of a part.
-    pub(crate) fn refs_of(&self, part: Part) -> &[Ref]
+    pub(crate) fn refs_of(&self, part: Part) -> &'a [Ref]
         ensures { result.now ≡ refs_of self.now.units.now self.now.kernel.now part }
     {
         let object = &self.unit(part.unit).object;

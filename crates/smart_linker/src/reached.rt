@@ -50,13 +50,12 @@ fn set_mark(marks: &mut Vec<bool>, number: usize) -> bool {
     }
 }
 
-impl UnitMarks {
-    fn set(&mut self, kind: Kind, number: usize) -> bool {
-        match kind {
-            Kind::Routine => set_mark(&mut self.routines, number),
-            Kind::Datum => set_mark(&mut self.globals, number),
-            Kind::Vmt => set_mark(&mut self.vmts, number),
-        }
+/// Marks a part of a unit, and tells whether it wasn't marked.
+fn set_part(marks: &mut UnitMarks, kind: Kind, number: usize) -> bool {
+    match kind {
+        Kind::Routine => set_mark(&mut marks.routines, number),
+        Kind::Datum => set_mark(&mut marks.globals, number),
+        Kind::Vmt => set_mark(&mut marks.vmts, number),
     }
 }
 
@@ -75,7 +74,11 @@ impl Reached {
 
     /// Adds a part, which is followed later.
     fn reach(&mut self, part: Part) -> Result<(), AllocError> {
-        if part.unit < self.units.len() && self.units[part.unit].set(part.kind, part.number) {
+        if part.unit >= self.units.len() {
+            return Ok(());
+        }
+        let is_new = set_part(&mut self.units[part.unit], part.kind, part.number);
+        if is_new {
             self.pending.push(part)?;
         }
         Ok(())

@@ -51,17 +51,18 @@ fn is_overlay(overlay: &OverlayCode8086) -> bool
     0 < size && size <= 65_520 && are_fixups(size, overlay.fixups.as_slice())
 }
 
+fn all_overlays(overlays: &[OverlayCode8086]) -> bool
+    ensures { IsTrue result → AllByRecursion IsOverlay overlays.now }
+{
+    match overlays {
+        [] => true,
+        [overlay, rest @ ..] => is_overlay(overlay) && all_overlays(rest),
+    }
+}
+
 /// Whether an overlay file can hold these.
 pub(crate) fn are_overlays(overlays: &[OverlayCode8086]) -> bool
     ensures { IsTrue result → AreOverlays overlays.now }
 {
-    if overlays.is_empty() || overlays.len() > 256 {
-        return false;
-    }
-    for overlay in overlays {
-        if !is_overlay(overlay) {
-            return false;
-        }
-    }
-    true
+    !overlays.is_empty() && overlays.len() <= 256 && all_overlays(overlays)
 }

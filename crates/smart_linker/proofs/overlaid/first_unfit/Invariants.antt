@@ -1,7 +1,0 @@
-use Rattle.std.proofs.Common.{◌≡◌, drop}
-use Rattle.smart_linker.specs.Overlaid.{is_unfit, first_where}
-use Rattle.smart_linker.proofs.overlaid.first_unfit.Given as goal
-
--- the first one isn't among those before
-abbrev pub invariant-loop-unit : goal.invariant-loop-unit
-invariant-loop-unit l = first_where is_unfit (drop l.unit-index l.units) ≡ first_where is_unfit l.units
