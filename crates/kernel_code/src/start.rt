@@ -40,7 +40,7 @@ fn finish_code(alloc: Global) -> Result<Bytes, AllocError>
 fn push_calls(alloc: Global, code: &mut Bytes, initials: &[Initial]) -> Result<(), AllocError>
     ensures { OnOk result (code.new ≡ code.old ++ call_codes initials.now) }
 {
-    for _initial in initials {
+    for _part in initials {
         let call = encoded(alloc, &[Instr::CallFar(0, 0)])?;
         code.extend_from_slice(call.as_slice())?;
     }
@@ -52,9 +52,9 @@ fn push_call_refs(refs: &mut Refs, initials: &[Initial]) -> Result<(), AllocErro
     ensures { OnOk result (refs.new ≡ refs.old ++ call_refs 10 initials.now) }
 {
     let mut offset: u32 = 10;
-    for initial in initials {
-        let unit = &initial.unit;
-        refs.push(reference(offset, RefKind::FarRoutine, unit, initial.number))?;
+    for part in initials {
+        let unit = &part.unit;
+        refs.push(reference(offset, RefKind::FarRoutine, unit, part.number))?;
         offset = offset.checked_add(5).ok_or(AllocError)?;
     }
     Ok(())

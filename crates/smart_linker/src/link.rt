@@ -200,6 +200,7 @@ fn placed_program(alloc: Global, placed: Placed, setting: &Setting) -> Result<Li
 /// Links units in the order in which they start, the runtime's three behind them. What the start, the main and
 /// initialisation parts and the data of the runtime lead to is linked, and nothing else. Executable and overlays can be
 /// written. A refusal tells its cause, and nothing was made.
+#[tactic(auto, using(crate::proofs::Refusals::as_refused))]
 pub fn link(alloc: Global, units: &[LinkUnit], setting: &Setting) -> Result<Linked, LinkError>
     ensures overlaid { OnOk result (CanBeOverlaid units.now) }
     ensures refused { IfErr result (IsRefused units.now) }
