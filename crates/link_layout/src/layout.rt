@@ -110,8 +110,10 @@ fn within_limits(sizes: &Sizes, image: u64) -> Result<(), LayoutError>
     Ok(())
 }
 
-/// Where the parts of a program come to lie, or the first limit that they pass, with the number that passes it.
+/// Where the parts of a program come to lie, whose heap has at most 196,608 bytes, or the first limit that they pass, with the
+/// number that passes it.
 pub fn lay_out(alloc: Global, sizes: &Sizes) -> Result<Layout, LayoutError>
+    requires { sizes.now.heap ≤ 196608 }
     ensures layout { IfOk result (λ layout. layout ≡ layout_of sizes.now) }
     ensures room { OnOk result (HasRoom sizes.now) }
     ensures refused { IfErr result (IsRefused sizes.now) }

@@ -88,6 +88,9 @@ pub fn linked(
     stack: u16,
     heap: u32,
 ) -> Result<Linked, LinkError> {
+    if heap > 196_608 {
+        return Err(LinkError::NoMemory);
+    }
     let setting = Setting {
         stack,
         heap,

@@ -1,6 +1,6 @@
 //! Linking.
 
-ghost use Rattle.std.specs.Prelude.{◌≡◌, ◌+◌, ◌%◌, ◌<◌, true, length, IfOk, OnOk, IfErr};
+ghost use Rattle.std.specs.Prelude.{◌≡◌, ◌+◌, ◌%◌, ◌<◌, ◌≤◌, true, length, IfOk, OnOk, IfErr};
 ghost use Rattle.mz_file.specs.Spelling.{IsWritable};
 ghost use Rattle.overlay_file.specs.Format.{AreOverlays};
 ghost use Rattle.smart_linker.specs.Given.{IsGiven};
@@ -73,6 +73,7 @@ fn kernel(alloc: Global, units: &[LinkUnit]) -> Result<LinkUnit, AllocError> {
 
 /// Where parts of these sizes lie, or the limit that they pass.
 fn layout_of(alloc: Global, sizes: &Sizes) -> Result<Layout, LinkError>
+    requires { sizes.now.heap ≤ 196608 }
     ensures { IfErr result IsLaterCause }
 {
     match lay_out(alloc, sizes) {
@@ -90,6 +91,7 @@ fn layout_of(alloc: Global, sizes: &Sizes) -> Result<Layout, LinkError>
 
 /// Where the reached parts of a program lie.
 fn placement(alloc: Global, parts: Parts, setting: &Setting) -> Result<Placement, LinkError>
+    requires { setting.now.heap ≤ 196608 }
     ensures { IfErr result IsLaterCause }
 {
     let marks = reached_parts(alloc, parts)?;
@@ -198,10 +200,11 @@ fn placed_program(alloc: Global, placed: Placed, setting: &Setting) -> Result<Li
 }
 
 /// Links units in the order in which they start, the runtime's three behind them. What the start, the main and
-/// initialisation parts and the data of the runtime lead to is linked, and nothing else. Executable and overlays can be
-/// written. A refusal tells its cause, and nothing was made.
+/// initialisation parts and the data of the runtime lead to is linked, and nothing else. The heap has at most 196,608 bytes.
+/// Executable and overlays can be written. A refusal tells its cause, and nothing was made.
 #[tactic(auto, using(crate::proofs::Refusals::as_refused))]
 pub fn link(alloc: Global, units: &[LinkUnit], setting: &Setting) -> Result<Linked, LinkError>
+    requires { setting.now.heap ≤ 196608 }
     ensures overlaid { OnOk result (CanBeOverlaid units.now) }
     ensures refused { IfErr result (IsRefused units.now) }
     ensures given { IfOk result (λ linked. IsGiven setting.now linked.exe) }

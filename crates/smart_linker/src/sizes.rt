@@ -1,6 +1,6 @@
 //! What the parts that are reached take, and where each lies in what holds it.
 
-ghost use Rattle.std.specs.Prelude.{◌≡◌, IfErr};
+ghost use Rattle.std.specs.Prelude.{◌≡◌, IfOk, IfErr};
 ghost use Rattle.smart_linker.specs.Segments.{segment_word};
 ghost use Rattle.smart_linker.specs.Refused.{IsLaterCause};
 
@@ -202,7 +202,9 @@ pub(crate) fn sizes(
     marks: &[UnitMarks],
     measured: &Measured,
     setting: &Setting,
-) -> Result<Sizes, AllocError> {
+) -> Result<Sizes, AllocError>
+    ensures { IfOk result (λ sizes. sizes.heap ≡ setting.now.heap) }
+{
     let mut resident = Numbers::new(alloc);
     let mut entries = Numbers::new(alloc);
     for (place, unit) in measured.units.as_slice().iter().enumerate() {

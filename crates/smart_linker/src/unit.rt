@@ -28,7 +28,7 @@ pub struct LinkUnit {
 pub struct Setting {
     /// The bytes of the stack.
     pub stack: u16,
-    /// The bytes of the heap.
+    /// The bytes of the heap, at most 196,608.
     pub heap: u32,
     /// The name of the overlay file.
     pub file: FileName,

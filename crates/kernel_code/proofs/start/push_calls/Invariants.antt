@@ -4,4 +4,4 @@ use Rattle.kernel_code.proofs.start.push_calls.Given as goal
 
 -- the calls so far and those that are left are all
 abbrev pub invariant-loop-part : goal.invariant-loop-part
-invariant-loop-part l = l.code ++ call_codes (drop l.part-index l.initials) ≡ l.initial.code ++ call_codes l.initials
+invariant-loop-part l = l.code ++ call_codes (drop l._part-index l.initials) ≡ l.initial.code ++ call_codes l.initials

@@ -1,4 +1,4 @@
-use Rattle.std.proofs.Common.{◌≡◌, ◌+◌, ◌×◌, ◌++◌, drop}
+use Rattle.std.proofs.Common.{◌≡◌, ◌+◌, ◌++◌, drop}
 use Rattle.link_layout.specs.Sums.{total, sums_from}
 use Rattle.link_layout.proofs.sums.prefix_sums.Given as goal
 
