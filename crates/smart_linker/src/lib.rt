@@ -5,7 +5,7 @@ mod data_segment;
 mod error;
 mod filling;
 mod image;
-mod link;
+mod linking;
 mod overlaid;
 mod overlays;
 mod part;
@@ -18,5 +18,5 @@ mod unit;
 mod writable;
 
 pub use error::LinkError;
-pub use link::{Linked, link};
+pub use linking::{Linked, link};
 pub use unit::{LinkUnit, Overlays, RUNTIME_UNITS, Setting};
