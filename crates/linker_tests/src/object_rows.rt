@@ -363,14 +363,14 @@ fn verdict_on(given: &Result<Linked, LinkError>) -> Verdict {
 }
 
 /// How the link of these units ends.
-pub fn verdict(alloc: Global, units: &[LinkUnit]) -> Verdict {
+pub fn link_verdict(alloc: Global, units: &[LinkUnit]) -> Verdict {
     verdict_on(&linked(alloc, units, 1024, 0))
 }
 
 /// How the link of a row ends.
 pub fn sizes_verdict(alloc: Global, row: &SizesRow) -> Result<Verdict, AllocError> {
     let units = sized_units(alloc, row)?;
-    Ok(verdict(alloc, units.as_slice()))
+    Ok(link_verdict(alloc, units.as_slice()))
 }
 
 /// How the link ends where unit A has this reference too.
@@ -384,5 +384,5 @@ pub fn reference_verdict(alloc: Global, row: &RefRow) -> Result<Verdict, AllocEr
     units.push(unit_of(alloc, &name, 16, refs, 2)?)?;
     units.push(sized_unit(alloc, b'B', 8, 0, 2)?)?;
     push_runtime(alloc, &mut units)?;
-    Ok(verdict(alloc, units.as_slice()))
+    Ok(link_verdict(alloc, units.as_slice()))
 }

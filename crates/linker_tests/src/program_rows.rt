@@ -365,7 +365,7 @@ const THREE_OVERLAYS: ProgramRow = ProgramRow {
     },
 };
 
-/// A call of an overlaid routine before OvrInit is error 208.
+/// A call of an overlaid routine before OvrInit traps once, and is error 208.
 const NOT_INSTALLED: ProgramRow = ProgramRow {
     units: &[
         UnitRow {
@@ -407,7 +407,7 @@ const NOT_INSTALLED: ProgramRow = ProgramRow {
         errors: b"Runtime error 208\r\n",
         code: 208,
         loads: 0,
-        traps: 0,
+        traps: 1,
         patched: 0,
     },
 };
@@ -451,7 +451,7 @@ const STARTS_OVERLAID: ProgramRow = ProgramRow {
         errors: b"Runtime error 208\r\n",
         code: 208,
         loads: 0,
-        traps: 0,
+        traps: 1,
         patched: 0,
     },
 };

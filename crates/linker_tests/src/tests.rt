@@ -1,6 +1,8 @@
 //! What linked programs show, and which aren't linked.
 
-use crate::object_rows::{REFERENCES, SIZES, Verdict, reference_verdict, sizes_verdict, verdict};
+use crate::object_rows::{
+    REFERENCES, SIZES, Verdict, link_verdict, reference_verdict, sizes_verdict, verdict,
+};
 use crate::program_rows::{FILLS_MEMORY, PROGRAMS, UNUSED};
 use crate::rows::ProgramRow;
 use crate::running::{Left, folder, left_by, link_units, opened, program, run, written};
@@ -104,7 +106,7 @@ fn overlaid_verdict(alloc: Global, overlayable: bool, marked: bool) -> Result<Ve
         unit.overlayable = overlayable;
         unit.marked = marked;
     }
-    Ok(verdict(alloc, units.as_slice()))
+    Ok(link_verdict(alloc, units.as_slice()))
 }
 
 #[test]
