@@ -6,7 +6,11 @@ mod flat_units;
 #[cfg(test)]
 mod object_rows;
 #[cfg(test)]
-mod program_rows;
+mod overlay_rows;
+#[cfg(test)]
+mod part_rows;
+#[cfg(test)]
+mod plain_rows;
 #[cfg(test)]
 mod rows;
 #[cfg(test)]

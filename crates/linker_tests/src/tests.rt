@@ -1,9 +1,11 @@
 //! What linked programs show, and which aren't linked.
 
 use crate::object_rows::{
-    REFERENCES, SIZES, Verdict, link_verdict, reference_verdict, sizes_verdict, verdict,
+    REFERENCES, SIZES, Verdict, link_verdict, reference_verdict, sizes_verdict,
 };
-use crate::program_rows::{FILLS_MEMORY, PROGRAMS, UNUSED};
+use crate::overlay_rows::OVERLAY_PROGRAMS;
+use crate::part_rows::{FILLS_MEMORY, PART_PROGRAMS, UNUSED};
+use crate::plain_rows::PLAIN_PROGRAMS;
 use crate::rows::ProgramRow;
 use crate::running::{Left, folder, left_by, link_units, opened, program, run, written};
 use dos_runner::overlay_runner::{OpenError, RunEnd};
@@ -30,9 +32,12 @@ fn shows(left: &Left, row: &ProgramRow) -> bool {
 
 #[test]
 fn programs_show_what_their_rows_say(rt: HostRuntime) -> Result<(), Fail> {
-    for (name, row) in &PROGRAMS {
-        let left = left(rt.alloc(), row)?;
-        assert!(rt; shows(&left, row), "{name} {left:?}");
+    let all: [&[(&str, ProgramRow)]; 3] = [&PLAIN_PROGRAMS, &OVERLAY_PROGRAMS, &PART_PROGRAMS];
+    for rows in all {
+        for (name, row) in rows {
+            let left = left(rt.alloc(), row)?;
+            assert!(rt; shows(&left, row), "{name} {left:?}");
+        }
     }
     Ok(())
 }

@@ -23,7 +23,7 @@ pub(crate) fn push_segment_words(
 ) -> Result<(), AllocError> {
     for one in refs {
         if let Some(word) = segment_word(one) {
-            let at = u64::from(begin) + word;
+            let at = u64::from(begin).checked_add(word).ok_or(AllocError)?;
             if at > 0xFFFF_FFFF {
                 return Err(AllocError);
             }

@@ -66,10 +66,10 @@ fn known_from(count: usize, place: usize, units: &[LinkUnit], name: &Name) -> Op
 }
 
 /// The references of the datum of a number.
-fn datum_refs(data: &[Datum], number: usize) -> &[Ref]
-    ensures { result.now ≡ datum_refs (slice_get data.now number) }
+fn datum_refs(list: &[Datum], number: usize) -> &[Ref]
+    ensures { result.now ≡ datum_refs (slice_get list.now number) }
 {
-    match data.get(number) {
+    match list.get(number) {
         Some(datum) => datum.refs.as_slice(),
         None => &[],
     }
