@@ -1,2 +1,1 @@
-pub mod Fixups
 pub mod Refusals

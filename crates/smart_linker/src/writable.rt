@@ -48,7 +48,11 @@ fn is_overlay(overlay: &OverlayCode8086) -> bool
     ensures { IsTrue result → IsOverlay overlay.now }
 {
     let size = overlay.code.len();
-    0 < size && size <= 65_520 && are_fixups(size, overlay.fixups.as_slice())
+    let name = overlay.name.as_bytes();
+    if name.is_empty() || size == 0 || size > 65_520 {
+        return false;
+    }
+    are_fixups(size, overlay.fixups.as_slice())
 }
 
 fn all_overlays(overlays: &[OverlayCode8086]) -> bool
