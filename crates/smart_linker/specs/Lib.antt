@@ -1,4 +1,6 @@
 pub mod Given
+pub mod Measures
+pub mod Names
 pub mod Naming
 pub mod Overlaid
 pub mod Refused

@@ -4,6 +4,7 @@ ghost use Rattle.std.specs.Prelude.{◌≡◌, ◌+◌, ◌%◌, ◌<◌, ◌≤
 ghost use Rattle.mz_file.specs.Spelling.{IsWritable};
 ghost use Rattle.overlay_file.specs.Format.{AreOverlays};
 ghost use Rattle.smart_linker.specs.Given.{IsGiven};
+ghost use Rattle.smart_linker.specs.Names.{overlaid_names, names_of};
 ghost use Rattle.smart_linker.specs.Overlaid.{CanBeOverlaid};
 ghost use Rattle.smart_linker.specs.Refused.{IsLaterCause, IsRefused};
 
@@ -188,6 +189,7 @@ fn executable(placed: Placed, setting: &Setting, image: Image, block: Block) -> 
 /// The executable and the overlays of a program, placed so.
 fn placed_program(alloc: Global, placed: Placed, setting: &Setting) -> Result<Linked, LinkError>
     ensures given { IfOk result (λ linked. IsGiven setting.now linked.exe) }
+    ensures names { IfOk result (λ linked. names_of linked.overlays ≡ overlaid_names placed.entry.parts.units.now) }
     ensures cause { IfErr result IsLaterCause }
 {
     let has_overlays = has_overlays(placed.parts.units);
@@ -208,6 +210,7 @@ pub fn link(alloc: Global, units: &[LinkUnit], setting: &Setting) -> Result<Link
     ensures overlaid { OnOk result (CanBeOverlaid units.now) }
     ensures refused { IfErr result (IsRefused units.now) }
     ensures given { IfOk result (λ linked. IsGiven setting.now linked.exe) }
+    ensures names { IfOk result (λ linked. names_of linked.overlays ≡ overlaid_names units.now) }
     ensures writable { IfOk result (λ linked. IsWritable linked.exe) }
     ensures overlays { IfOk result (λ linked. 0 < length linked.overlays → AreOverlays linked.overlays) }
 {

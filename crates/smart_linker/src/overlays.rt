@@ -1,6 +1,7 @@
 //! The code of units, and of overlays.
 
-ghost use Rattle.std.specs.Prelude.{IfErr};
+ghost use Rattle.std.specs.Prelude.{◌≡◌, ◌<◌, length, IfOk, IfErr};
+ghost use Rattle.smart_linker.specs.Names.{overlaid_names, names_of};
 ghost use Rattle.smart_linker.specs.Refused.{IsLaterCause};
 
 use crate::error::LinkError;
@@ -10,7 +11,7 @@ use crate::unit::Overlays;
 use object_file::object_unit::Ref;
 use overlay_file::{Offsets, OverlayCode8086};
 use std::alloc::{AllocError, Global};
-use type_layout::Bytes;
+use type_layout::{Bytes, Name};
 
 /// RETF, the code of an overlay of which nothing is reached.
 const RETURN_FAR: u8 = 0xCB;
@@ -62,9 +63,11 @@ impl<'a> Placed<'a> {
         Ok(())
     }
 
-    /// The overlay of a unit.
-    fn overlay(&self, alloc: Global, unit: usize) -> Result<OverlayCode8086, LinkError>
-        ensures { IfErr result IsLaterCause }
+    /// The overlay of the unit at a place, which has this name.
+    fn overlay(&self, alloc: Global, unit: usize, name: &Name) -> Result<OverlayCode8086, LinkError>
+        ensures name { IfOk result (λ overlay. overlay.name ≡ name.now) }
+        ensures some { IfOk result (λ overlay. 0 < length overlay.code) }
+        ensures cause { IfErr result IsLaterCause }
     {
         let mut code = Vec::new(alloc);
         let mut fixups = Offsets::new(alloc);
@@ -73,20 +76,22 @@ impl<'a> Placed<'a> {
             code.extend_from_slice(&[RETURN_FAR])?;
         }
         Ok(OverlayCode8086 {
-            name: self.parts.unit(unit).name.copied(),
+            name: name.copied(),
             code: Bytes::from_vec(code),
             fixups,
         })
     }
 
-    /// The overlays of a program, in the order of its units.
+    /// The overlays of a program, one for each overlaid unit, in the order of its units.
+    #[tactic(auto, using(crate::proofs::Names::names_behind))]
     pub(crate) fn overlays(&self, alloc: Global) -> Result<Overlays, LinkError>
-        ensures { IfErr result IsLaterCause }
+        ensures names { IfOk result (λ overlays. names_of overlays ≡ overlaid_names self.now.parts.units.now) }
+        ensures cause { IfErr result IsLaterCause }
     {
         let mut overlays = Overlays::new(alloc);
-        for place in 0..self.parts.count() {
-            if self.parts.unit(place).overlaid {
-                overlays.push(self.overlay(alloc, place)?)?;
+        for (place, unit) in self.parts.units.iter().enumerate() {
+            if unit.overlaid {
+                overlays.push(self.overlay(alloc, place, &unit.name)?)?;
             }
         }
         Ok(overlays)

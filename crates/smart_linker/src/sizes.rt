@@ -1,6 +1,8 @@
 //! What the parts that are reached take, and where each lies in what holds it.
 
-ghost use Rattle.std.specs.Prelude.{◌≡◌, IfOk, IfErr};
+ghost use Rattle.std.specs.Prelude.{◌≡◌, ◌+◌, IfOk, IfErr};
+ghost use Rattle.link_layout.specs.Sums.{total, sums_from};
+ghost use Rattle.smart_linker.specs.Measures.{is_marked, size_if, code_sizes, entry_counts, data_sizes, globals_of, vmts_of, unit_sums, unit_end};
 ghost use Rattle.smart_linker.specs.Segments.{segment_word};
 ghost use Rattle.smart_linker.specs.Refused.{IsLaterCause};
 
@@ -39,38 +41,93 @@ pub(crate) struct Measured {
     pub(crate) bytes: u64,
 }
 
-/// Whether a routine has an entry in the stub of its unit: it is reached and far.
-pub(crate) fn has_entry(code: &Code8086, is_reached: bool) -> bool {
-    is_reached && code.far
+/// Whether the part of a number is reached.
+pub(crate) fn is_marked(marks: &[bool], number: usize) -> bool
+    ensures { result ≡ is_marked marks.now number }
+{
+    match marks.get(number) {
+        Some(is_reached) => *is_reached,
+        None => false,
+    }
 }
 
-fn code_sizes(alloc: Global, codes: &[Code8086], marks: &[bool]) -> Result<Numbers, AllocError> {
+/// A size, or 0 of what isn't reached.
+fn size_if(is_reached: bool, size: u64) -> u64
+    ensures { result ≡ size_if is_reached size }
+{
+    if is_reached { size } else { 0 }
+}
+
+fn code_sizes(alloc: Global, codes: &[Code8086], marks: &[bool]) -> Result<Numbers, AllocError>
+    ensures { IfOk result (λ sizes. sizes ≡ code_sizes marks.now 0 codes.now) }
+{
     let mut sizes = Numbers::new(alloc);
-    for (code, is_reached) in codes.iter().zip(marks.iter()) {
-        sizes.push(if *is_reached {
-            code.code.len() as u64
-        } else {
-            0
-        })?;
+    for (number, code) in codes.iter().enumerate() {
+        let size = code.code.len() as u64;
+        sizes.push(size_if(is_marked(marks, number), size))?;
     }
     Ok(sizes)
 }
 
-fn entry_counts(alloc: Global, codes: &[Code8086], marks: &[bool]) -> Result<Numbers, AllocError> {
+fn entry_counts(alloc: Global, codes: &[Code8086], marks: &[bool]) -> Result<Numbers, AllocError>
+    ensures { IfOk result (λ counts. counts ≡ entry_counts marks.now 0 codes.now) }
+{
     let mut counts = Numbers::new(alloc);
-    for (code, is_reached) in codes.iter().zip(marks.iter()) {
-        counts.push(if has_entry(code, *is_reached) { 1 } else { 0 })?;
+    for (number, code) in codes.iter().enumerate() {
+        let has_entry = is_marked(marks, number) && code.far;
+        counts.push(size_if(has_entry, 1))?;
     }
     Ok(counts)
 }
 
 /// The size of each datum, rounded up to even.
-fn data_sizes(alloc: Global, data: &[Datum], marks: &[bool]) -> Result<Numbers, AllocError> {
+fn data_sizes(alloc: Global, list: &[Datum], marks: &[bool]) -> Result<Numbers, AllocError>
+    ensures { IfOk result (λ sizes. sizes ≡ data_sizes marks.now 0 list.now) }
+{
     let mut sizes = Numbers::new(alloc);
-    for (datum, is_reached) in data.iter().zip(marks.iter()) {
-        sizes.push(if *is_reached { even(datum.size) } else { 0 })?;
+    for (number, datum) in list.iter().enumerate() {
+        let size = even(datum.size);
+        sizes.push(size_if(is_marked(marks, number), size))?;
     }
     Ok(sizes)
+}
+
+/// Where the data and tables of a unit lie, the first of them at an offset, and the offset behind the last.
+fn data_sums(
+    alloc: Global,
+    unit: &LinkUnit,
+    marks: &UnitMarks,
+    first: u64,
+) -> Result<(Sums, Sums), AllocError>
+    ensures globals { IfOk result (λ sums. sums.0.places ≡ sums_from first (globals_of unit.now marks.now)) }
+    ensures vmts { IfOk result (λ sums. sums.1.places ≡ sums_from (first + total (globals_of unit.now marks.now)) (vmts_of unit.now marks.now)) }
+    ensures end { IfOk result (λ sums. sums.1.end ≡ unit_end unit.now marks.now first) }
+{
+    let object = &unit.object;
+    let globals = data_sizes(alloc, object.globals.as_slice(), marks.globals.as_slice())?;
+    let globals = prefix_sums(alloc, first, globals.as_slice())?;
+    let vmts = data_sizes(alloc, object.vmts.as_slice(), marks.vmts.as_slice())?;
+    let vmts = prefix_sums(alloc, globals.end, vmts.as_slice())?;
+    Ok((globals, vmts))
+}
+
+/// Refuses code of a unit that has too many bytes, and a stub with too many entries.
+fn check_unit(unit: &LinkUnit, code: u64, entries: u64) -> Result<(), LinkError>
+    ensures { IfErr result IsLaterCause }
+{
+    if code > MOST_CODE {
+        return Err(LinkError::CodeTooLarge {
+            unit: unit.name.copied(),
+            bytes: code,
+        });
+    }
+    if unit.overlaid && entries > MOST_ENTRIES {
+        return Err(LinkError::TooManyEntries {
+            unit: unit.name.copied(),
+            count: entries,
+        });
+    }
+    Ok(())
 }
 
 /// Where the parts of a unit lie, whose first datum has this offset, and the offset behind its last one.
@@ -80,40 +137,25 @@ fn unit_sums(
     marks: &UnitMarks,
     first: u64,
 ) -> Result<(UnitSums, u64), LinkError>
-    ensures { IfErr result IsLaterCause }
+    ensures sums { IfOk result (λ given. given.0 ≡ unit_sums unit.now marks.now first) }
+    ensures end { IfOk result (λ given. given.1 ≡ unit_end unit.now marks.now first) }
+    ensures cause { IfErr result IsLaterCause }
 {
     let routines = unit.object.routines.as_slice();
     let code = code_sizes(alloc, routines, marks.routines.as_slice())?;
     let code = prefix_sums(alloc, 0, code.as_slice())?;
-    if code.end > MOST_CODE {
-        return Err(LinkError::CodeTooLarge {
-            unit: unit.name.copied(),
-            bytes: code.end,
-        });
-    }
     let entries = entry_counts(alloc, routines, marks.routines.as_slice())?;
     let entries = prefix_sums(alloc, 0, entries.as_slice())?;
-    if unit.overlaid && entries.end > MOST_ENTRIES {
-        return Err(LinkError::TooManyEntries {
-            unit: unit.name.copied(),
-            count: entries.end,
-        });
-    }
-    let globals = data_sizes(
-        alloc,
-        unit.object.globals.as_slice(),
-        marks.globals.as_slice(),
-    )?;
-    let globals = prefix_sums(alloc, first, globals.as_slice())?;
-    let vmts = data_sizes(alloc, unit.object.vmts.as_slice(), marks.vmts.as_slice())?;
-    let vmts = prefix_sums(alloc, globals.end, vmts.as_slice())?;
+    check_unit(unit, code.end, entries.end)?;
+    let (globals, vmts) = data_sums(alloc, unit, marks, first)?;
+    let end = vmts.end;
     let sums = UnitSums {
         code,
         entries,
         globals: globals.places,
         vmts: vmts.places,
     };
-    Ok((sums, vmts.end))
+    Ok((sums, end))
 }
 
 /// Where the parts of each unit lie: data of one unit behind those of the other.

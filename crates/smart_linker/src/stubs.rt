@@ -1,7 +1,6 @@
 //! The stubs of a program.
 
 use crate::filling::Placed;
-use crate::sizes::has_entry;
 use link_layout::{index_of, push_stub};
 use overlay_file::OverlayCode8086;
 use std::alloc::{AllocError, Global};
@@ -33,7 +32,7 @@ impl<'a> Placed<'a> {
         let routines = self.parts.unit(unit).object.routines.as_slice().iter();
         let places = sums.code.places.as_slice().iter();
         for ((routine, is_reached), place) in routines.zip(marks.routines.iter()).zip(places) {
-            if has_entry(routine, *is_reached) {
+            if *is_reached && routine.far {
                 offsets.push((*place % 0x1_0000) as u16)?;
             }
         }
