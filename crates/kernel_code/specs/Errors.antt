@@ -1,5 +1,5 @@
 -- The error routine, before any address is known: the text's offset is 0.
-use Rattle.std.specs.Prelude.{ℕ, List, [], ◌∷◌, ◌++◌, Some, None, map, codes}
+use Rattle.std.specs.Prelude.{ℕ, List, [], ◌∷◌, ◌++◌, None, map, codes}
 use Rattle.object_file.specs.declared.object_unit.object.Code8086.{Code8086}
 use Rattle.object_file.specs.declared.object_unit.object.RefKind.TheVariants as kind
 use Rattle.x86_table.specs.declared.instr.AluOp.{AluOp}

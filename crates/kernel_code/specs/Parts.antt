@@ -1,5 +1,5 @@
 -- Code of the kernel: instructions as bytes, and references.
-use Rattle.std.specs.Prelude.{ℕ, true, List, [], ◌∷◌}
+use Rattle.std.specs.Prelude.{ℕ, true, List}
 use Rattle.std.specs.List.{flat_map}
 use Rattle.object_file.specs.declared.object_unit.object.Code8086.{Code8086}
 use Rattle.object_file.specs.declared.object_unit.object.Ref.{Ref}

@@ -1,6 +1,6 @@
 //! The error routine, and its text.
 
-ghost use Rattle.std.specs.Prelude.{◌≡◌, ◌++◌, [], IfOk, OnOk};
+ghost use Rattle.std.specs.Prelude.{◌≡◌, ◌++◌, IfOk, OnOk};
 ghost use Rattle.kernel_code.specs.Errors.{move_word, apply, to_digits, next_digit, say_start, say_digits, end_with, ones, error_lines, error_bytes, error_of};
 
 use crate::lines::{assembled, known_name, reference, routine};

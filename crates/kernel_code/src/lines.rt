@@ -1,6 +1,6 @@
 //! Code of the kernel, from instructions and lines.
 
-ghost use Rattle.std.specs.Prelude.{◌≡◌, ◌++◌, IfOk};
+ghost use Rattle.std.specs.Prelude.{◌≡◌, IfOk};
 ghost use Rattle.type_layout.specs.Words.{IsName};
 ghost use Rattle.x86_table.specs.Lines.{assembled};
 ghost use Rattle.kernel_code.specs.Parts.{encoded, reference, routine};

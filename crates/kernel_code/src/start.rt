@@ -1,6 +1,6 @@
 //! The start of a program.
 
-ghost use Rattle.std.specs.Prelude.{◌≡◌, ◌++◌, ◌∷◌, [], IfOk, OnOk};
+ghost use Rattle.std.specs.Prelude.{◌≡◌, ◌++◌, IfOk, OnOk};
 ghost use Rattle.kernel_code.specs.Parts.{encoded};
 ghost use Rattle.kernel_code.specs.Start.{start_code, finish_code, call_codes, call_refs, start_of};
 

@@ -1,5 +1,5 @@
 -- Where code, stubs, data, stack and heap of a program lie, counted in paragraphs from the image's start.
-use Rattle.std.specs.Prelude.{◌≡◌, ℕ, ◌+◌, ◌*◌, ◌≤◌, ◌<◌, List, length, map}
+use Rattle.std.specs.Prelude.{◌≡◌, ℕ, ◌+◌, ◌*◌, ◌≤◌, ◌<◌, List, map}
 use Rattle.link_layout.specs.declared.error.LayoutError.{LayoutError}
 use Rattle.link_layout.specs.declared.error.LayoutError.TheVariants.{DataTooLarge, ImageTooLarge, TooManyRelocations, NoMemory}
 use Rattle.link_layout.specs.declared.layout.Layout.{Layout}

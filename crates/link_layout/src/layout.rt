@@ -1,8 +1,8 @@
 //! Where code, stubs, data, stack and heap lie.
 
-ghost use Rattle.std.specs.Prelude.{◌≡◌, ◌+◌, ◌≤◌, ◌++◌, map, IfOk, IfErr, OnOk};
-ghost use Rattle.link_layout.specs.Sums.{paragraphs, total, sums_from};
-ghost use Rattle.link_layout.specs.Layouts.{stub_size, code_paragraphs, stub_paragraphs, image_size, layout_of, HasRoom, IsRefused};
+ghost use Rattle.std.specs.Prelude.{◌≡◌, ◌+◌, ◌≤◌, map, IfOk, IfErr, OnOk};
+ghost use Rattle.link_layout.specs.Sums.{paragraphs, sums_from};
+ghost use Rattle.link_layout.specs.Layouts.{stub_size, image_size, layout_of, HasRoom, IsRefused};
 
 use crate::error::LayoutError;
 use crate::sums::{Numbers, paragraphs, sum};

@@ -1,9 +1,8 @@
 //! The bytes of stubs, and where their overlays stand in the file.
 
-ghost use Rattle.std.specs.Prelude.{◌≡◌, ◌+◌, ◌*◌, ◌<◌, ◌≤◌, ◌++◌, ◌∷◌, [], IfOk, OnOk, length};
-ghost use Rattle.std.specs.List.{flat_map};
+ghost use Rattle.std.specs.Prelude.{◌≡◌, ◌+◌, ◌*◌, ◌<◌, ◌++◌, ◌∷◌, [], IfOk, OnOk, length};
 ghost use Rattle.mz_file.specs.Words.{bytes_of_words};
-ghost use Rattle.overlay_file.specs.Index.{entry_of, entry_end, index_of, index_from};
+ghost use Rattle.overlay_file.specs.Index.{entry_of, entry_end, index_of};
 ghost use Rattle.link_layout.specs.StubBytes.{entry_bytes, field_bytes, stub_bytes};
 
 use byteorder::{ByteOrder, LittleEndian};

@@ -1,5 +1,5 @@
 -- What an executable says of what its program is given.
-use Rattle.std.specs.Prelude.{◌≡◌, ℕ, ◌+◌, ◌%◌, ◌<◌, true}
+use Rattle.std.specs.Prelude.{◌≡◌, ◌+◌, ◌%◌, ◌<◌, true}
 use Rattle.mz_file.specs.declared.executable.Exe.{Exe}
 use Rattle.smart_linker.specs.declared.unit.Setting.{Setting}
 

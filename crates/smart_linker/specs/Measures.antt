@@ -1,12 +1,15 @@
 -- What the parts that are reached take, and where each lies in what holds it. A part that isn't reached takes no room.
-use Rattle.std.specs.Prelude.{ℕ, ◌+◌, ◌&&◌, Bool, false, if◌then◌else◌, List, [], ◌∷◌, length, slice_index_or}
+use Rattle.std.specs.Prelude.{ℕ, ◌+◌, ◌&&◌, Bool, false, if◌then◌else◌, List, [], ◌∷◌, length, Option, Some, None, slice_index_or}
 use Rattle.object_file.specs.declared.object_unit.object.Code8086.{Code8086}
 use Rattle.object_file.specs.declared.object_unit.object.Datum.{Datum}
+use Rattle.object_file.specs.declared.object_unit.object.Ref.{Ref}
 use Rattle.link_layout.specs.Sums.{even, total, sums_from}
 use Rattle.link_layout.specs.declared.sums.Sums.{Sums}
 use Rattle.smart_linker.specs.declared.reached.UnitMarks.{UnitMarks}
 use Rattle.smart_linker.specs.declared.sizes.UnitSums.{UnitSums}
 use Rattle.smart_linker.specs.declared.unit.LinkUnit.{LinkUnit}
+use Rattle.smart_linker.specs.Naming.{unit_at}
+use Rattle.smart_linker.specs.Segments.{segment_word}
 
 abbrev pub is_marked : List Bool → ℕ → Bool
 is_marked marks number = slice_index_or marks number false
@@ -50,3 +53,55 @@ unit_sums unit marks first = record {
 -- the offset behind its last datum
 abbrev pub unit_end : LinkUnit → UnitMarks → ℕ → ℕ
 unit_end unit marks first = first + total (globals_of unit marks) + total (vmts_of unit marks)
+
+-- ## All units
+
+-- where the parts of each unit lie, from the one at a place on, whose first datum has this offset, and the offset behind all data
+abbrev pub measured_from : List LinkUnit → LinkUnit → ℕ → ℕ → List UnitMarks → List UnitSums
+measured_from units kernel place first [] = []
+measured_from units kernel place first (marks ∷ rest) =
+    unit_sums (unit_at units kernel place) marks first ∷ measured_from units kernel (place + 1) (unit_end (unit_at units kernel place) marks first) rest
+
+abbrev pub data_end : List LinkUnit → LinkUnit → ℕ → ℕ → List UnitMarks → ℕ
+data_end units kernel place first [] = first
+data_end units kernel place first (marks ∷ rest) = data_end units kernel (place + 1) (unit_end (unit_at units kernel place) marks first) rest
+
+-- the bytes of the code of each unit that is resident, and the number of entries in the stub of each other one
+abbrev pub resident_from : List LinkUnit → LinkUnit → ℕ → List UnitSums → List ℕ
+resident_from units kernel place [] = []
+resident_from units kernel place (sums ∷ rest) =
+    if (unit_at units kernel place).overlaid then resident_from units kernel (place + 1) rest else sums.code.end ∷ resident_from units kernel (place + 1) rest
+
+abbrev pub entries_from : List LinkUnit → LinkUnit → ℕ → List UnitSums → List ℕ
+entries_from units kernel place [] = []
+entries_from units kernel place (sums ∷ rest) =
+    if (unit_at units kernel place).overlaid then sums.entries.end ∷ entries_from units kernel (place + 1) rest else entries_from units kernel (place + 1) rest
+
+-- ## Words that are segments
+
+abbrev pub one_if : Option ℕ → ℕ
+one_if None = 0
+one_if (Some place) = 1
+
+abbrev pub words_in : List Ref → ℕ
+words_in [] = 0
+words_in (one ∷ refs) = one_if (segment_word one) + words_in refs
+
+-- those of routines and of data, from the part of a number on
+abbrev pub code_words : List Bool → ℕ → List Code8086 → ℕ
+code_words marks number [] = 0
+code_words marks number (code ∷ codes) = size_if (is_marked marks number) (words_in code.refs) + code_words marks (number + 1) codes
+
+abbrev pub data_words : List Bool → ℕ → List Datum → ℕ
+data_words marks number [] = 0
+data_words marks number (datum ∷ rest) = size_if (is_marked marks number) (words_in datum.refs) + data_words marks (number + 1) rest
+
+-- those of a unit in the image: an overlaid one's code has its own list of them
+abbrev pub unit_words : LinkUnit → UnitMarks → ℕ
+unit_words unit marks =
+    (if unit.overlaid then 0 else code_words marks.routines.items 0 unit.object.routines)
+    + (data_words marks.globals.items 0 unit.object.globals + data_words marks.vmts.items 0 unit.object.vmts)
+
+abbrev pub words_from : List LinkUnit → LinkUnit → ℕ → List UnitMarks → ℕ
+words_from units kernel place [] = 0
+words_from units kernel place (marks ∷ rest) = unit_words (unit_at units kernel place) marks + words_from units kernel (place + 1) rest

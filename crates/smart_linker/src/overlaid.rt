@@ -1,7 +1,6 @@
 //! Which units can be overlaid.
 
-ghost use Rattle.std.specs.Prelude.{◌≡◌, None, Some, MatchOption, MatchResult, OnOk, IfErr};
-ghost use Rattle.std.specs.List.{list_any};
+ghost use Rattle.std.specs.Prelude.{◌≡◌, None, Some, MatchOption, OnOk, IfErr};
 ghost use Rattle.smart_linker.specs.Overlaid.{has_overlays, is_unfit, is_unmarked, first_where, CanBeOverlaid};
 ghost use Rattle.smart_linker.specs.Refused.{IsRefused};
 

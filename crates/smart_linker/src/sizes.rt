@@ -2,7 +2,7 @@
 
 ghost use Rattle.std.specs.Prelude.{◌≡◌, ◌+◌, IfOk, IfErr};
 ghost use Rattle.link_layout.specs.Sums.{total, sums_from};
-ghost use Rattle.smart_linker.specs.Measures.{is_marked, size_if, code_sizes, entry_counts, data_sizes, globals_of, vmts_of, unit_sums, unit_end};
+ghost use Rattle.smart_linker.specs.Measures.{is_marked, size_if, code_sizes, entry_counts, data_sizes, globals_of, vmts_of, unit_sums, unit_end, measured_from, data_end, resident_from, entries_from, words_in, code_words, data_words, unit_words, words_from};
 ghost use Rattle.smart_linker.specs.Segments.{segment_word};
 ghost use Rattle.smart_linker.specs.Refused.{IsLaterCause};
 
@@ -164,7 +164,9 @@ pub(crate) fn measure(
     parts: Parts,
     marks: &[UnitMarks],
 ) -> Result<Measured, LinkError>
-    ensures { IfErr result IsLaterCause }
+    ensures units { IfOk result (λ measured. measured.units ≡ measured_from parts.entry.units.now parts.entry.kernel.now 0 0 marks.now) }
+    ensures bytes { IfOk result (λ measured. measured.bytes ≡ data_end parts.entry.units.now parts.entry.kernel.now 0 0 marks.now) }
+    ensures cause { IfErr result IsLaterCause }
 {
     let mut units = Sequence::new(alloc);
     let mut bytes = 0;
@@ -187,52 +189,69 @@ pub(crate) fn segment_word(one: &Ref) -> Option<u64>
     }
 }
 
-/// How many words are segments, with those counted before.
-fn words_with(before: u64, refs: &[Ref]) -> Result<u64, AllocError> {
-    let mut count = before;
+/// How many words of references are segments, where 64 bits count them.
+fn words_in(refs: &[Ref]) -> Result<u64, AllocError>
+    ensures { IfOk result (λ count. count ≡ words_in refs.now) }
+{
+    let mut count: u64 = 0;
     for one in refs {
-        if segment_word(one).is_some() {
-            count = count.checked_add(1).ok_or(AllocError)?;
-        }
+        let more = match segment_word(one) {
+            Some(_) => 1,
+            None => 0,
+        };
+        count = count.checked_add(more).ok_or(AllocError)?;
     }
     Ok(count)
 }
 
-fn words_of_data(before: u64, data: &[Datum], marks: &[bool]) -> Result<u64, AllocError> {
-    let mut count = before;
-    for (datum, is_reached) in data.iter().zip(marks.iter()) {
-        if *is_reached {
-            count = words_with(count, datum.refs.as_slice())?;
-        }
+fn code_words(codes: &[Code8086], marks: &[bool]) -> Result<u64, AllocError>
+    ensures { IfOk result (λ count. count ≡ code_words marks.now 0 codes.now) }
+{
+    let mut count: u64 = 0;
+    for (number, code) in codes.iter().enumerate() {
+        let words = words_in(code.refs.as_slice())?;
+        let more = size_if(is_marked(marks, number), words);
+        count = count.checked_add(more).ok_or(AllocError)?;
     }
     Ok(count)
 }
 
-fn words_of_code(before: u64, codes: &[Code8086], marks: &[bool]) -> Result<u64, AllocError> {
-    let mut count = before;
-    for (code, is_reached) in codes.iter().zip(marks.iter()) {
-        if *is_reached {
-            count = words_with(count, code.refs.as_slice())?;
-        }
+fn data_words(list: &[Datum], marks: &[bool]) -> Result<u64, AllocError>
+    ensures { IfOk result (λ count. count ≡ data_words marks.now 0 list.now) }
+{
+    let mut count: u64 = 0;
+    for (number, datum) in list.iter().enumerate() {
+        let words = words_in(datum.refs.as_slice())?;
+        let more = size_if(is_marked(marks, number), words);
+        count = count.checked_add(more).ok_or(AllocError)?;
     }
     Ok(count)
 }
 
-/// How many words of the image are segments: those of resident code, of data, and the heap's.
-fn relocations(parts: Parts, marks: &[UnitMarks]) -> Result<u64, AllocError> {
-    let mut count = 1;
+/// How many words of a unit in the image are segments.
+fn unit_words(unit: &LinkUnit, marks: &UnitMarks) -> Result<u64, AllocError>
+    ensures { IfOk result (λ count. count ≡ unit_words unit.now marks.now) }
+{
+    let object = &unit.object;
+    let code = if unit.overlaid {
+        0
+    } else {
+        code_words(object.routines.as_slice(), marks.routines.as_slice())?
+    };
+    let globals = data_words(object.globals.as_slice(), marks.globals.as_slice())?;
+    let vmts = data_words(object.vmts.as_slice(), marks.vmts.as_slice())?;
+    let data_count = globals.checked_add(vmts).ok_or(AllocError)?;
+    code.checked_add(data_count).ok_or(AllocError)
+}
+
+/// How many words of the image are segments: those of all units, and the heap's.
+fn relocations(parts: Parts, marks: &[UnitMarks]) -> Result<u64, AllocError>
+    ensures { IfOk result (λ count. count ≡ 1 + words_from parts.entry.units.now parts.entry.kernel.now 0 marks.now) }
+{
+    let mut count: u64 = 1;
     for (place, unit) in marks.iter().enumerate() {
-        let LinkUnit {
-            object,
-            overlaid,
-            ..
-        } = parts.unit(place);
-        if !*overlaid {
-            let routines = object.routines.as_slice();
-            count = words_of_code(count, routines, unit.routines.as_slice())?;
-        }
-        count = words_of_data(count, object.globals.as_slice(), unit.globals.as_slice())?;
-        count = words_of_data(count, object.vmts.as_slice(), unit.vmts.as_slice())?;
+        let more = unit_words(parts.unit(place), unit)?;
+        count = count.checked_add(more).ok_or(AllocError)?;
     }
     Ok(count)
 }
@@ -245,7 +264,12 @@ pub(crate) fn sizes(
     measured: &Measured,
     setting: &Setting,
 ) -> Result<Sizes, AllocError>
-    ensures { IfOk result (λ sizes. sizes.heap ≡ setting.now.heap) }
+    ensures resident { IfOk result (λ sizes. sizes.resident ≡ resident_from parts.entry.units.now parts.entry.kernel.now 0 measured.now.units) }
+    ensures entries { IfOk result (λ sizes. sizes.entries ≡ entries_from parts.entry.units.now parts.entry.kernel.now 0 measured.now.units) }
+    ensures bytes { IfOk result (λ sizes. sizes.bytes ≡ measured.now.bytes) }
+    ensures stack { IfOk result (λ sizes. sizes.stack ≡ setting.now.stack) }
+    ensures heap { IfOk result (λ sizes. sizes.heap ≡ setting.now.heap) }
+    ensures relocations { IfOk result (λ sizes. sizes.relocations ≡ 1 + words_from parts.entry.units.now parts.entry.kernel.now 0 marks.now) }
 {
     let mut resident = Numbers::new(alloc);
     let mut entries = Numbers::new(alloc);

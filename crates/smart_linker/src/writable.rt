@@ -1,9 +1,9 @@
 //! Whether what was linked can be written.
 
-ghost use Rattle.std.specs.Prelude.{◌≡◌, ◌↔◌, ◌+◌, ◌*◌, ◌≤◌, ◌<◌, IsTrue, length, All};
+ghost use Rattle.std.specs.Prelude.{◌↔◌, ◌+◌, ◌*◌, ◌<◌, IsTrue, All};
 ghost use Rattle.std.specs.List.{AllByRecursion};
 ghost use Rattle.mz_file.specs.Format.{IsWithin};
-ghost use Rattle.mz_file.specs.Spelling.{IsWritable, file_size};
+ghost use Rattle.mz_file.specs.Spelling.{IsWritable};
 ghost use Rattle.overlay_file.specs.Format.{AreFixups, IsOverlay, AreOverlays};
 
 use cpu_8086::Far;
