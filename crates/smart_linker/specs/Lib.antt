@@ -1,3 +1,4 @@
+pub mod Addresses
 pub mod Given
 pub mod Measures
 pub mod Names

@@ -4,10 +4,13 @@ use Rattle.object_file.specs.declared.object_unit.object.Code8086.{Code8086}
 use Rattle.object_file.specs.declared.object_unit.object.Datum.{Datum}
 use Rattle.object_file.specs.declared.object_unit.object.Ref.{Ref}
 use Rattle.link_layout.specs.Sums.{even, total, sums_from}
+use Rattle.link_layout.specs.declared.layout.Sizes.{Sizes}
 use Rattle.link_layout.specs.declared.sums.Sums.{Sums}
 use Rattle.smart_linker.specs.declared.reached.UnitMarks.{UnitMarks}
+use Rattle.smart_linker.specs.declared.sizes.Measured.{Measured}
 use Rattle.smart_linker.specs.declared.sizes.UnitSums.{UnitSums}
 use Rattle.smart_linker.specs.declared.unit.LinkUnit.{LinkUnit}
+use Rattle.smart_linker.specs.declared.unit.Setting.{Setting}
 use Rattle.smart_linker.specs.Naming.{unit_at}
 use Rattle.smart_linker.specs.Segments.{segment_word}
 
@@ -105,3 +108,20 @@ unit_words unit marks =
 abbrev pub words_from : List LinkUnit → LinkUnit → ℕ → List UnitMarks → ℕ
 words_from units kernel place [] = 0
 words_from units kernel place (marks ∷ rest) = unit_words (unit_at units kernel place) marks + words_from units kernel (place + 1) rest
+
+-- ## The whole
+
+-- where all parts lie in what holds them, and the size of the data segment
+abbrev pub measured_of : List LinkUnit → LinkUnit → List UnitMarks → Measured
+measured_of units kernel marks = record { units = measured_from units kernel 0 0 marks; bytes = data_end units kernel 0 0 marks }
+
+-- what they take; the heap's segment is one word more
+abbrev pub sizes_of : List LinkUnit → LinkUnit → Setting → List UnitMarks → Sizes
+sizes_of units kernel setting marks = record {
+  resident = resident_from units kernel 0 (measured_from units kernel 0 0 marks);
+  entries = entries_from units kernel 0 (measured_from units kernel 0 0 marks);
+  bytes = data_end units kernel 0 0 marks;
+  stack = setting.stack;
+  heap = setting.heap;
+  relocations = 1 + words_from units kernel 0 marks;
+}

@@ -4,6 +4,7 @@
 mod data_segment;
 mod error;
 mod filling;
+mod homes;
 mod image;
 mod linking;
 mod overlaid;

@@ -4,18 +4,21 @@ ghost use Rattle.std.specs.Prelude.{◌≡◌, ◌+◌, ◌%◌, ◌<◌, ◌≤
 ghost use Rattle.mz_file.specs.Spelling.{IsWritable};
 ghost use Rattle.overlay_file.specs.Format.{AreOverlays};
 ghost use Rattle.smart_linker.specs.Given.{IsGiven};
+ghost use Rattle.link_layout.specs.Layouts.{layout_of};
+ghost use Rattle.smart_linker.specs.Measures.{measured_of, sizes_of};
 ghost use Rattle.smart_linker.specs.Names.{overlaid_names, names_of};
 ghost use Rattle.smart_linker.specs.Overlaid.{CanBeOverlaid};
 ghost use Rattle.smart_linker.specs.Refused.{IsLaterCause, IsRefused};
 
 use crate::error::LinkError;
 use crate::filling::Placed;
+use crate::homes::home_segments;
 use crate::image::Image;
 use crate::overlaid::{check_overlaid, has_overlays};
 use crate::overlays::largest;
 use crate::part::{Kind, Part};
 use crate::parts::Parts;
-use crate::placement::{Placement, home_segments};
+use crate::placement::Placement;
 use crate::reached::reached_parts;
 use crate::sizes::{measure, sizes};
 use crate::unit::{LinkUnit, Overlays, Setting};
@@ -75,7 +78,8 @@ fn kernel(alloc: Global, units: &[LinkUnit]) -> Result<LinkUnit, AllocError> {
 /// Where parts of these sizes lie, or the limit that they pass.
 fn layout_of(alloc: Global, sizes: &Sizes) -> Result<Layout, LinkError>
     requires { sizes.now.heap ≤ 196608 }
-    ensures { IfErr result IsLaterCause }
+    ensures layout { IfOk result (λ layout. layout ≡ layout_of sizes.now) }
+    ensures cause { IfErr result IsLaterCause }
 {
     match lay_out(alloc, sizes) {
         Ok(layout) => Ok(layout),
@@ -93,7 +97,9 @@ fn layout_of(alloc: Global, sizes: &Sizes) -> Result<Layout, LinkError>
 /// Where the reached parts of a program lie.
 fn placement(alloc: Global, parts: Parts, setting: &Setting) -> Result<Placement, LinkError>
     requires { setting.now.heap ≤ 196608 }
-    ensures { IfErr result IsLaterCause }
+    ensures measured { IfOk result (λ places. places.measured ≡ measured_of parts.entry.units.now parts.entry.kernel.now places.marks.items) }
+    ensures layout { IfOk result (λ places. places.layout ≡ layout_of (sizes_of parts.entry.units.now parts.entry.kernel.now setting.now places.marks.items)) }
+    ensures cause { IfErr result IsLaterCause }
 {
     let marks = reached_parts(alloc, parts)?;
     let measured = measure(alloc, parts, marks.as_slice())?;
