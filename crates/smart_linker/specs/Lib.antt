@@ -1,4 +1,5 @@
 pub mod Addresses
+pub mod Filled
 pub mod Given
 pub mod Measures
 pub mod Names

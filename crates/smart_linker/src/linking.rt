@@ -228,6 +228,7 @@ pub fn link(alloc: Global, units: &[LinkUnit], setting: &Setting) -> Result<Link
     };
     let places = placement(alloc, parts, setting)?;
     let placed = Placed {
+        alloc,
         parts,
         places: &places,
     };
