@@ -1,0 +1,4 @@
+pub mod Errors
+pub mod Kernel
+pub mod Parts
+pub mod Start

@@ -1,0 +1,3 @@
+pub mod Starts
+pub mod Errors
+pub mod Kernels
