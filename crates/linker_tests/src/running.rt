@@ -1,5 +1,9 @@
 //! Programs of rows, linked, written, opened and run.
 
+ghost use Rattle.std.specs.Prelude.{◌<◌, length, IfOk};
+ghost use Rattle.mz_file.specs.Spelling.{IsWritable};
+ghost use Rattle.overlay_file.specs.Format.{AreOverlays};
+
 use crate::flat_units::flat_unit;
 use crate::rows::{ProgramRow, UnitRow};
 use codegen_8086::{generate, has_short_arguments};
@@ -82,12 +86,10 @@ pub fn link_units(alloc: Global, rows: &[UnitRow]) -> Result<Vec<LinkUnit>, Allo
 }
 
 /// Links units with this stack and heap.
-pub fn linked(
-    alloc: Global,
-    units: &[LinkUnit],
-    stack: u16,
-    heap: u32,
-) -> Result<Linked, LinkError> {
+pub fn linked(alloc: Global, units: &[LinkUnit], stack: u16, heap: u32) -> Result<Linked, LinkError>
+    ensures writable { IfOk result (λ linked. IsWritable linked.exe) }
+    ensures overlays { IfOk result (λ linked. 0 < length linked.overlays → AreOverlays linked.overlays) }
+{
     if heap > 196_608 {
         return Err(LinkError::NoMemory);
     }
@@ -100,7 +102,9 @@ pub fn linked(
 }
 
 /// The bytes of the files.
-pub fn written(alloc: Global, linked: &Linked) -> Result<Files, AllocError> {
+pub fn written(alloc: Global, linked: &Linked) -> Result<Files, AllocError>
+    requires { IsWritable linked.now.exe × (0 < length linked.now.overlays → AreOverlays linked.now.overlays) }
+{
     let ovr = if linked.overlays.is_empty() {
         Vec::new(alloc)
     } else {
@@ -151,13 +155,18 @@ pub fn run(
 }
 
 /// The program of a row.
-pub fn program(alloc: Global, row: &ProgramRow) -> Result<Linked, LinkError> {
+pub fn program(alloc: Global, row: &ProgramRow) -> Result<Linked, LinkError>
+    ensures writable { IfOk result (λ linked. IsWritable linked.exe) }
+    ensures overlays { IfOk result (λ linked. 0 < length linked.overlays → AreOverlays linked.overlays) }
+{
     let units = link_units(alloc, row.units)?;
     linked(alloc, units.as_slice(), row.stack, row.heap)
 }
 
 /// What the program of a row leaves, in a buffer of its largest overlay's size.
-pub fn left_by(alloc: Global, linked: &Linked) -> Result<Option<Left>, AllocError> {
+pub fn left_by(alloc: Global, linked: &Linked) -> Result<Option<Left>, AllocError>
+    requires { IsWritable linked.now.exe × (0 < length linked.now.overlays → AreOverlays linked.now.overlays) }
+{
     let files = written(alloc, linked)?;
     let mut folder = folder(alloc, &files)?;
     match opened(alloc, &files, &mut folder, None) {

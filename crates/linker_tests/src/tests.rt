@@ -68,7 +68,7 @@ fn an_overlay_of_which_nothing_is_reached_is_a_return(rt: HostRuntime) -> Result
 
 /// How many paragraphs are left for a buffer.
 fn paragraphs_left(exe: &Exe) -> u16 {
-    let image = (exe.image.len() + 15) / 16;
+    let image = exe.image.len().saturating_add(15) / 16;
     let taken = (0x70 + image).saturating_add(usize::from(exe.extra));
     0xA000_usize.saturating_sub(taken).min(0xA000) as u16
 }
