@@ -1,0 +1,55 @@
+//! What a program is given as it starts.
+
+ghost use Rattle.std.specs.Prelude.{◌≡◌, ◌++◌, codes, IfOk};
+ghost use Rattle.back_end.specs.Given.{setting_of};
+
+use arrayvec::ArrayVec;
+use smart_linker::Setting;
+use std::alloc::AllocError;
+use std::str;
+use type_layout::{FILE_NAME_LEN, FileName, Name};
+use typed_tree::Unit;
+
+/// The most bytes of a heap.
+const HEAP_LIMIT: u32 = 196_608;
+
+fn overlay_file_bytes(name: &Name) -> ArrayVec<u8, FILE_NAME_LEN>
+    ensures { result.items ≡ name.now ++ codes ".OVR" }
+{
+    let mut bytes = ArrayVec::new();
+    for byte in name.as_bytes() {
+        bytes.push(*byte);
+    }
+    match bytes.try_extend_from_slice(b".OVR") {
+        Ok(()) => bytes,
+        Err(_) => unreachable!(),
+    }
+}
+
+/// The name of the overlay file of a program of this name, in upper case.
+fn overlay_file(name: &Name) -> FileName
+    ensures { result ≡ name.now ++ codes ".OVR" }
+{
+    let bytes = overlay_file_bytes(name);
+    match str::from_utf8(bytes.as_slice()) {
+        Ok(text) => match FileName::new(text) {
+            Some(name) => name,
+            None => unreachable!(),
+        },
+        Err(_) => unreachable!(),
+    }
+}
+
+/// What a program is given: the stack that it asks for, a heap of at most 196,608 bytes, and the name of its overlay file.
+pub(crate) fn setting_of(main: &Unit) -> Result<Setting, AllocError>
+    ensures { IfOk result (λ setting. setting ≡ setting_of main.now) }
+{
+    let Ok(stack) = u16::try_from(main.stack) else {
+        return Err(AllocError);
+    };
+    Ok(Setting {
+        stack,
+        heap: main.heap.min(HEAP_LIMIT),
+        file: overlay_file(&main.name),
+    })
+}

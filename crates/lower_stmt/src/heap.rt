@@ -1,0 +1,96 @@
+//! New and Dispose.
+
+use crate::procedures::through;
+use crate::words::compute;
+use flat_code::flat_builders::{op, then, when};
+use flat_code::{FlatExpr, FlatList, FlatOp, FlatStmt};
+use lower_expr::{
+    call_destructor, clear_at, high_in, low_in, lower_args, lower_expr, runtime, single,
+};
+use lower_places::{Scene, Sort, Spot, literals_of_expr};
+use runtime_units::numbers::RuntimeRoutine;
+use std::alloc::AllocError;
+use typed_tree::{Arg, Destructor, Expr};
+
+/// A new block of so many bytes for the pointer variable to which the far pointer in a slot leads. With `cleared` it begins as
+/// zeros, so that an instance in it has no class.
+fn made(scene: &Scene, size: u16, cleared: bool, slot: u32) -> Result<FlatList, AllocError> {
+    let alloc = scene.alloc;
+    let to = through(scene, slot, 0)?;
+    let args = vec![in alloc; FlatExpr::Number(size)]?;
+    let made = single(alloc, compute(RuntimeRoutine::New, args, to, 4))?;
+    if !cleared {
+        return Ok(made);
+    }
+    let segment = FlatExpr::Word(through(scene, slot, 2)?);
+    let zeros = clear_at(alloc, segment, FlatExpr::Word(to), size)?;
+    then(made, single(alloc, zeros)?)
+}
+
+/// New for a pointer variable, to which the far pointer in a slot leads.
+pub fn block_made(scene: &Scene, target: &Sort, slot: u32) -> Result<FlatList, AllocError> {
+    let size = (target.size() % 0x1_0000) as u16;
+    made(scene, size, target.holds_class(), slot)
+}
+
+/// The block of so many bytes is freed to which the pointer in a slot leads.
+fn freed(scene: &Scene, size: FlatExpr, slot: u32) -> Result<FlatStmt, AllocError> {
+    let args = vec![in scene.alloc; high_in(scene, slot)?, low_in(scene, slot)?, size]?;
+    Ok(runtime(RuntimeRoutine::Dispose, args))
+}
+
+/// Dispose of the block to which the pointer in a slot leads, by the size of the type that it points to.
+pub fn block_freed(scene: &Scene, target: &Sort, slot: u32) -> Result<FlatList, AllocError> {
+    let size = FlatExpr::Number((target.size() % 0x1_0000) as u16);
+    single(scene.alloc, freed(scene, size, slot)?)
+}
+
+/// Error 204 where the pointer in a slot is nil.
+fn nil_refused(scene: &Scene, slot: u32) -> Result<FlatList, AllocError> {
+    let alloc = scene.alloc;
+    let test = op(
+        alloc,
+        FlatOp::Or,
+        low_in(scene, slot)?,
+        high_in(scene, slot)?,
+    )?;
+    let error = single(alloc, FlatStmt::Error(204))?;
+    single(alloc, when(test, Vec::new(alloc), error))
+}
+
+/// The block to which the pointer in a slot leads is freed by the size of the class that its instance says so many bytes
+/// on.
+fn instance_freed(scene: &Scene, class: u16, slot: u32) -> Result<FlatList, AllocError> {
+    let alloc = scene.alloc;
+    let scratch = scene.scratch(0)?;
+    let args = vec![in alloc;
+        high_in(scene, slot)?,
+        low_in(scene, slot)?,
+        FlatExpr::Number(class),
+        FlatExpr::SegmentOf(scratch),
+    ]?;
+    let size = single(alloc, compute(RuntimeRoutine::ClassSize, args, scratch, 2))?;
+    let freed = freed(scene, FlatExpr::Word(scratch), slot)?;
+    then(size, single(alloc, freed)?)
+}
+
+/// Dispose with a destructor. The pointer stays in the slot of the spot.
+pub fn lower_unmake(
+    scene: &Scene,
+    pointer: &Expr,
+    destructor: Destructor,
+    args: &[Arg],
+    spot: Spot,
+) -> Result<FlatList, AllocError> {
+    let target = scene.target_of(pointer)?;
+    let class = target.class_offset().ok_or(AllocError)?;
+    let code = lower_expr(scene, pointer, spot)?;
+    let code = then(code, nil_refused(scene, spot.slot)?)?;
+    let behind = spot.above(4).after(literals_of_expr(pointer));
+    let code = then(code, lower_args(scene, args, behind)?)?;
+    let called = call_destructor(scene, destructor, &target, args, spot.slot)?;
+    then(
+        code,
+        then(called, instance_freed(scene, class, spot.slot)?)?,
+    )
+}
