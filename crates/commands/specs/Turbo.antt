@@ -238,7 +238,7 @@ pub record Refuses (words : List (List ℕ)) (old new : World) (result : Outcome
   pub usage : NamesNone words → Misuses old new result
   pub missing : (name : List ℕ) (options : RunOptions) → IsGo words name options → Lacks old.folder (file_of name Source) →
       (result ≡ outcome.Refused (refusal.MissingFile (file_of name Source))) ⊎ IsFaultOrNoMemory result old new
-  pub none : (name : List ℕ) (options : RunOptions) → IsGo words name options → HoldsNone old.folder name →
+  pub unfound : (name : List ℕ) (options : RunOptions) → IsGo words name options → HoldsNone old.folder name →
       ((r : Refusal) × (result ≡ outcome.Refused r) × IsNone old.folder name r) ⊎ IsFaultOrNoMemory result old new
   pub absent : (name : List ℕ) (options : RunOptions) → IsRun words name options → Lacks old.folder (file_of name Executable) →
       (result ≡ outcome.Refused (refusal.MissingFile (file_of name Executable))) ⊎ IsFaultOrNoMemory result old new

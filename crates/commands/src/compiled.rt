@@ -1,6 +1,7 @@
 //! Programs of any form but that of literals: their files, opened before they are written.
 
 ghost use Rattle.std.specs.Prelude.{◌≡◌, ◌≤◌, ⊥, None, Some, Err, IfOk, IfErr, IfSome, OnOk, OnErr};
+ghost use Rattle.std.specs.Option.{option_or};
 ghost use Rattle.tp_outside.specs.Faults.{HasRisen};
 ghost use Rattle.tp_outside.specs.declared.faults.WriteError.{WriteError};
 ghost use Rattle.dos_runner.specs.declared.opened_program.error.OpenError.{OpenError};
@@ -17,7 +18,7 @@ use dos_runner::overlay_runner::{OpenError, Runner};
 use front_end::outcomes::{Outcome, Refusal, What};
 use std::alloc::Global;
 use tp_outside::{Files, MemoryFiles, WriteError};
-use type_layout::{FileName, Name};
+use type_layout::{Bytes, FileName, Name};
 use typed_tree::Program;
 
 fn too_large(what: What, number: u64) -> Outcome
@@ -74,6 +75,30 @@ fn open_in_memory(
     }
 }
 
+/// The program of an executable file with these bytes, opened with an overlay file that has these; without them, with the one that is there.
+fn open_files<F: Files>(
+    alloc: Global,
+    executable: &[u8],
+    name: &FileName,
+    overlays: &Option<Bytes>,
+    buffer: Option<u16>,
+    files: &mut F,
+) -> Result<Runner, OpenError>
+    ensures begins { IfSome (F.folder files.old) (λ held.
+        IfOk result (Begins executable.now name.now (option_or overlays.now (held name.now)) buffer)) }
+    ensures idle { IfOk result (λ runner. runner.end ≡ None) }
+    ensures refused { IfSome (F.folder files.old) (λ held.
+        IfErr result (IsRefused executable.now name.now (option_or overlays.now (held name.now)) buffer)) }
+    ensures unchanged { F.folder files.new ≡ F.folder files.old }
+    ensures counted { F.faults files.old ≤ F.faults files.new }
+    ensures failed { result ≡ Err OpenError.FilesFault → HasRisen (F.faults files.old) (F.faults files.new) }
+{
+    match overlays {
+        Some(bytes) => open_in_memory(alloc, executable, name, bytes.as_slice(), buffer),
+        None => Runner::open(alloc, executable, name, files, buffer),
+    }
+}
+
 /// A runner that begins with these files of a program, before they are written.
 pub(crate) fn open_compiled<F: Files>(
     alloc: Global,
@@ -92,11 +117,7 @@ pub(crate) fn open_compiled<F: Files>(
 {
     let executable = compiled.executable.as_slice();
     let file = file_name(name, FileKind::Overlays);
-    let opened = match &compiled.overlays {
-        Some(overlays) => open_in_memory(alloc, executable, &file, overlays.as_slice(), buffer),
-        None => Runner::open(alloc, executable, &file, files, buffer),
-    };
-    match opened {
+    match open_files(alloc, executable, &file, &compiled.overlays, buffer, files) {
         Ok(runner) => Ok(runner),
         Err(error) => Err(refused_as(error)),
     }

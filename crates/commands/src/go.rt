@@ -164,10 +164,12 @@ pub fn go<F: Files, S: Source, K: Sink, E: Sink>(
                 Err(error) => not_written(error),
             }
         }
-        Ok(Prepared::Compiled {
-            files: compiled,
-            mut runner,
-        }) => match write_files(name, &compiled, files) {
+        Ok(
+            Prepared::Compiled {
+                files: compiled,
+                mut runner,
+            },
+        ) => match write_files(name, &compiled, files) {
             Ok(()) => {
                 runner.set_retry(options.retry.unwrap_or(0));
                 outcome_of(runner.run(files, input, output, errors, limit))
