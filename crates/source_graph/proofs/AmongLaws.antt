@@ -8,7 +8,7 @@ use Rattle.type_layout.specs.Words.{same_bytes}
 use Rattle.tp_lexer.specs.declared.token.Text.{Text}
 use Rattle.source_graph.specs.declared.error.GatherError.{GatherError}
 use Rattle.source_graph.specs.Texts.{number_of, with_file}
-use Rattle.source_graph.proofs.TextLaws.{with_text_is}
+use Rattle.source_graph.proofs.TextLaws.{with_text_is, with_file_is}
 
 abbrev pub is_among : List Text → List ℕ → Bool
 is_among texts name = list_any (λ text. same_bytes text.name name) texts
@@ -70,5 +70,6 @@ module _ (texts more : List Text) (name : List ℕ) where
       )
 
   pub file_added : (error : GatherError) (found : Option (List ℕ)) → with_file error texts name found ≡ Ok more → IsAdded
-  file_added error None is = absurd cc
-  file_added error (Some bytes) is = text_added bytes (with_text_is texts name bytes more is).0
+  file_added error found is =
+      let file = with_file_is error texts more name found is in
+      text_added file.bytes (with_text_is texts name file.bytes more file.put).0

@@ -17,7 +17,7 @@ use Rattle.source_graph.specs.declared.error.GatherError.{GatherError}
 use Rattle.source_graph.specs.declared.error.GatherError.TheVariants.{MissingFile}
 use Rattle.source_graph.specs.declared.sources.Source.{Source}
 use Rattle.source_graph.specs.declared.wanted.Wanted.{Wanted}
-use Rattle.source_graph.specs.Texts.{defined, number_of, with_text, with_file}
+use Rattle.source_graph.specs.Texts.{defined, number_of, leads_out, with_text, with_file}
 use Rattle.source_graph.specs.Files.{source_file, absent, numbered, opened_by, opened, Includes, ComesTo, IsMended}
 use Rattle.source_graph.specs.Sources.{IsRead}
 use Rattle.source_graph.specs.Walk.{start, wanted_at, wanted_by, names_of, due, Walks, IsMet, Gathers, Unless}
@@ -187,10 +187,10 @@ some_met name texts after sources more wanted others now next on is met =
     } in
     (one, met_by one name texts after sources more wanted others now next walk is step)
 
-pub some_text : (error : GatherError) (texts more : List Text) (name bytes : List ℕ) (result : Result (Unit {0}) GatherError)
+pub some_text : (error : GatherError) (texts more : List Text) (name bytes : List ℕ) (result : Result (Unit {0}) GatherError) → leads_out name ≡ false
     → MatchResult result (λ done. with_text texts name bytes ≡ Ok more) (λ e. Unless e (with_text texts name bytes ≡ Err e)) → OnOk result (InSome (λ held. with_file error texts name (held name) ≡ Ok more))
-some_text error texts more name bytes (Ok done) is = (λ file. Some bytes, is)
-some_text error texts more name bytes (Err e) is = tt
+some_text error texts more name bytes (Ok done) inside is = (λ file. Some bytes, ap (λ (out : Bool). cond out (Err error) (with_text texts name bytes)) inside ∙ is)
+some_text error texts more name bytes (Err e) inside is = tt
 
 pub none_included : (main : ℕ) (texts : List Text) → InSome (λ held. HasIncluded held main texts texts)
 none_included main texts = (λ file. None, ([], refl))

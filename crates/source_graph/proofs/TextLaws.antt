@@ -1,11 +1,11 @@
 -- Texts with one more.
-use Rattle.std.proofs.Common.{◌≡◌, ℕ, ◌+◌, ◌≤◌, Bool, true, false, cond, nat_lt, List, [], ◌∷◌, ◌++◌, length, Result, Ok, Err, refl, sym, ap, ◌∙◌, arith}
+use Rattle.std.proofs.Common.{◌≡◌, ℕ, ◌+◌, ◌≤◌, Bool, true, false, cond, nat_lt, List, [], ◌∷◌, ◌++◌, length, Option, Some, None, Result, Ok, Err, refl, sym, ap, ◌∙◌, arith}
 use Rattle.std.proofs.lemmas.List.Sums.{sum-map, sum_by_push}
 use Rattle.std.proofs.lemmas.Bool.Decides.{nat_tests}
 use Rattle.tp_lexer.specs.declared.token.Text.{Text}
 use Rattle.source_graph.specs.declared.error.GatherError.{GatherError}
 use Rattle.source_graph.specs.declared.error.GatherError.TheVariants.{TooLarge}
-use Rattle.source_graph.specs.Texts.{bytes_in, with_text}
+use Rattle.source_graph.specs.Texts.{bytes_in, leads_out, with_text, with_file}
 
 pub bytes_in-push : (texts : List Text) (text : Text) → bytes_in (texts ++ text ∷ []) ≡ bytes_in texts + length text.bytes
 bytes_in-push texts text =
@@ -27,3 +27,23 @@ module _ (texts : List Text) (name bytes : List ℕ) where
       by false true is room = absurd cc
       by false false is room =
           let same : texts ++ record { name = name; bytes = bytes } ∷ [] ≡ more = cc in (sym same, room refl)
+
+-- What came of a file is a text more: the file is there, and its name leads nowhere else.
+pub record IsPut (texts more : List Text) (name : List ℕ) (found : Option (List ℕ)) : Type 0 where
+  pub bytes : List ℕ
+  pub found_is : found ≡ Some bytes
+  pub inside : leads_out name ≡ false
+  pub put : with_text texts name bytes ≡ Ok more
+
+pub with_file_is : (error : GatherError) (texts more : List Text) (name : List ℕ) (found : Option (List ℕ)) → with_file error texts name found ≡ Ok more → IsPut texts more name found
+with_file_is error texts more name None is = absurd cc
+with_file_is error texts more name (Some bytes) is = by (leads_out name) refl is
+  where
+    by : (out : Bool) → leads_out name ≡ out → cond out (Err error) (with_text texts name bytes) ≡ Ok more → IsPut texts more name (Some bytes)
+    by true is_out none = absurd cc
+    by false is_in put = record { bytes = bytes; found_is = refl; inside = is_in; put = put }
+
+-- a name that leads out of the folder is that of no file, whatever is there
+pub out_is : (error : GatherError) (texts : List Text) (name : List ℕ) (found : Option (List ℕ)) → leads_out name ≡ true → with_file error texts name found ≡ Err error
+out_is error texts name None out = refl
+out_is error texts name (Some bytes) out = ap (λ (b : Bool). cond b (Err error) (with_text texts name bytes)) out

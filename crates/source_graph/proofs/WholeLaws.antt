@@ -10,30 +10,31 @@ use Rattle.tp_lexer.specs.declared.token.Text.{Text}
 use Rattle.source_graph.specs.declared.error.GatherError.{GatherError}
 use Rattle.source_graph.specs.declared.sources.Source.{Source}
 use Rattle.source_graph.specs.declared.wanted.Wanted.{Wanted}
-use Rattle.source_graph.specs.Texts.{bytes_in, number_of, with_text, with_file}
+use Rattle.source_graph.specs.Texts.{bytes_in, number_of, leads_out, with_text, with_file}
 use Rattle.source_graph.specs.Files.{source_file, absent, numbered, opened_by, Includes}
 use Rattle.source_graph.specs.Sources.{IsRead}
 use Rattle.source_graph.specs.Walk.{start, wanted_by, names_of, is_predeclared, is_passed, due, Walks}
-use Rattle.source_graph.specs.Whole.{IsFile, AreWanted, AreNew, IsWholeLaw}
-use Rattle.source_graph.proofs.TextLaws.{bytes_in-push, with_text_is}
+use Rattle.source_graph.specs.Whole.{IsFile, IsInside, AreWanted, AreNew, IsWholeLaw}
+use Rattle.source_graph.proofs.TextLaws.{bytes_in-push, with_text_is, with_file_is}
 
 -- ---- texts
 
 module _ (held : Folder) where
   abbrev Kept : List Text → Type 0
-  Kept texts = All (IsFile held) texts × (bytes_in texts ≤ 16777216)
+  Kept texts = All (IsFile held) texts × All IsInside texts × (bytes_in texts ≤ 16777216)
 
-  text_kept : (texts more : List Text) (name bytes : List ℕ) → held name ≡ Some bytes → Kept texts → with_text texts name bytes ≡ Ok more → Kept more
-  text_kept texts more name bytes file kept is =
+  text_kept : (texts more : List Text) (name bytes : List ℕ) → held name ≡ Some bytes → leads_out name ≡ false → Kept texts → with_text texts name bytes ≡ Ok more → Kept more
+  text_kept texts more name bytes file inside kept is =
       let made = with_text_is texts name bytes more is in
       let text : Text = record { name = name; bytes = bytes } in
       let sum_is = bytes_in-push texts text in
-      let all : Kept (texts ++ text ∷ []) = (All-push (IsFile held) texts text kept.0 file, omega arith) in
+      let all : Kept (texts ++ text ∷ []) = (All-push (IsFile held) texts text kept.0 file, All-push IsInside texts text kept.1 inside, omega arith) in
       subst Kept (sym made.0) all
 
   file_kept : (error : GatherError) (texts more : List Text) (name : List ℕ) (found : Option (List ℕ)) → held name ≡ found → Kept texts → with_file error texts name found ≡ Ok more → Kept more
-  file_kept error texts more name None file kept is = absurd cc
-  file_kept error texts more name (Some bytes) file kept is = text_kept texts more name bytes file kept is
+  file_kept error texts more name found file kept is =
+      let put = with_file_is error texts more name found is in
+      text_kept texts more name put.bytes (file ∙ put.found_is) put.inside kept put.put
 
   includes_kept : (main : ℕ) (first : List Text) (names : List (List ℕ)) (after : List Text) → Includes held main first names after → Kept first → Kept after
   includes_kept main first [] after same kept = subst Kept same kept
@@ -182,11 +183,12 @@ module _ (held : Folder) where
 
 pub is_whole : IsWholeLaw
 is_whole held name texts sources walk =
-    let kept = walks_kept held [] [] (start name ∷ []) sources texts [] walk (All-nil (IsFile held), omega arith) in
+    let kept = walks_kept held [] [] (start name ∷ []) sources texts [] walk (All-nil (IsFile held), All-nil IsInside, omega arith) in
     let there = walks_there held [] [] (names_of sources) (start name ∷ []) sources texts walk refl in
     record {
       files = kept.0;
-      small = kept.1;
+      inside = kept.1;
+      small = kept.2;
       program = there.0;
       used = there.1;
       wanted = walks_wanted held [] [] (start name ∷ []) (start name ∷ []) sources texts [] walk (All-contains_itself (start name ∷ []));

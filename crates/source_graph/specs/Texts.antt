@@ -1,5 +1,6 @@
 -- The texts of sources, in the order in which their files are read, and places in them.
-use Rattle.std.specs.Prelude.{ℕ, ◌+◌, nat_lt, nat_eq, if◌then◌else◌, List, [], ◌∷◌, ◌++◌, length, map, sum, position, slice_get, codes, Option, Some, None, Result, Ok, Err}
+use Rattle.std.specs.Prelude.{ℕ, ◌+◌, nat_lt, nat_eq, ◌==◌, ◌||◌, Bool, false, if◌then◌else◌, List, [], ◌∷◌, ◌++◌, length, map, sum, position, slice_get, codes, Option, Some, None, Result, Ok, Err}
+use Rattle.std.specs.List.{list_any}
 use Rattle.type_layout.specs.declared.texts.Place.{Place}
 use Rattle.type_layout.specs.Words.{same_bytes}
 use Rattle.tp_outside.specs.declared.faults.ReadError.{ReadError}
@@ -29,10 +30,23 @@ with_text texts name bytes =
     else if nat_lt 16777216 (bytes_in texts + length bytes) then Err (TooLarge (bytes_in texts + length bytes))
     else Ok (texts ++ record { name = name; bytes = bytes } ∷ [])
 
--- the texts with that of a file which holds these bytes, and the refusal where there is no such file
+-- `/`, `\` and `:` lead into other folders, and no file's name has a byte 0
+abbrev pub is_outer : ℕ → Bool
+is_outer c = c == 47 || c == 92 || c == 58 || c == 0
+
+abbrev pub begins_with_dot : List ℕ → Bool
+begins_with_dot [] = false
+begins_with_dot (c ∷ name) = c == 46
+
+-- it is the name of no file that lies in the folder itself
+abbrev pub leads_out : List ℕ → Bool
+leads_out name = begins_with_dot name || list_any is_outer name
+
+-- The texts with that of a file which holds these bytes, and the refusal where the folder has no such file. A name that leads out of it
+-- is the name of none.
 abbrev pub with_file : GatherError → List Text → List ℕ → Option (List ℕ) → Result (List Text) GatherError
 with_file absent texts name None = Err absent
-with_file absent texts name (Some bytes) = with_text texts name bytes
+with_file absent texts name (Some bytes) = if leads_out name then Err absent else with_text texts name bytes
 
 -- the name of the file of a text, and none where there is no text
 abbrev pub name_or_none : Option Text → List ℕ

@@ -6,12 +6,16 @@ use Rattle.tp_outside.specs.Folder.{Folder}
 use Rattle.tp_lexer.specs.declared.token.Text.{Text}
 use Rattle.source_graph.specs.declared.sources.Source.{Source}
 use Rattle.source_graph.specs.declared.wanted.Wanted.{Wanted}
-use Rattle.source_graph.specs.Texts.{bytes_in}
+use Rattle.source_graph.specs.Texts.{bytes_in, leads_out}
 use Rattle.source_graph.specs.Walk.{start, wanted_by, names_of, is_passed, Gathers}
 
 -- the text is what its file holds
 abbrev pub IsFile : Folder → Text → Type 0
 IsFile held text = held text.name ≡ Some text.bytes
+
+-- its file lies in the folder itself
+abbrev pub IsInside : Text → Type 0
+IsInside text = leads_out text.name ≡ false
 
 -- each source is wanted, at first by what is wanted, and then by a source before it
 abbrev pub AreWanted : List Wanted → List Source → Type 0
@@ -30,6 +34,7 @@ AreThere sources wanted = All (λ unit. is_passed (names_of sources) unit ≡ tr
 
 pub record IsWhole (held : Folder) (name : List ℕ) (texts : List Text) (sources : List Source) : Type 0 where
   pub files : All (IsFile held) texts
+  pub inside : All IsInside texts
   pub small : bytes_in texts ≤ 16777216
   -- the program is there, and all that one of the sources uses
   pub program : AreThere sources (start name ∷ [])

@@ -1,10 +1,11 @@
 //! The texts of sources.
 
 ghost use Rattle.std.specs.Prelude.{◌≡◌, ◌≢◌, ◌≤◌, ◌<◌, ◌^◌, [], ◌+◌, ◌++◌, ◌∷◌, List, length, slice_get, IfOk, IfErr, IfSome, OnOk, MatchResult, Err, Ok, vec_len};
+ghost use Rattle.std.specs.List.{list_any};
 ghost use Rattle.tp_outside.specs.Faults.{HasRisen};
 ghost use Rattle.tp_outside.specs.Folder.{Folder};
 ghost use Rattle.source_graph.specs.declared.error.GatherError.{GatherError};
-ghost use Rattle.source_graph.specs.Texts.{number_of, with_text, with_file, at, place_in};
+ghost use Rattle.source_graph.specs.Texts.{number_of, is_outer, begins_with_dot, leads_out, with_text, with_file, at, place_in};
 ghost use Rattle.source_graph.specs.Walk.{Unless};
 
 use crate::error::{At, GatherError};
@@ -51,6 +52,35 @@ fn no_name() -> FileName
         Some(name) => name,
         None => unreachable!(),
     }
+}
+
+// Whether a byte leads into other folders, or is none of a file's name.
+fn is_outer(byte: u8) -> bool
+    ensures { result ≡ is_outer byte }
+{
+    byte == b'/' || byte == b'\\' || byte == b':' || byte == 0
+}
+
+fn begins_with_dot(name: &[u8]) -> bool
+    ensures { result ≡ begins_with_dot name.now }
+{
+    match name {
+        [] => false,
+        [first, ..] => *first == b'.',
+    }
+}
+
+fn has_outer(name: &[u8]) -> bool
+    ensures { result ≡ list_any is_outer name.now }
+{
+    name.iter().any(|byte| is_outer(*byte))
+}
+
+// Whether it is the name of no file that lies in the folder itself.
+fn leads_out(name: &[u8]) -> bool
+    ensures { result ≡ leads_out name.now }
+{
+    begins_with_dot(name) || has_outer(name)
 }
 
 /// Where a fault stands in the tokens of text `main`. Where there is no token it stands in that text.
@@ -169,7 +199,8 @@ impl Texts {
         Ok(())
     }
 
-    /// Reads a file, and puts its text behind the others. Where there is no such file, the error is the one that is handed in.
+    /// Reads a file, and puts its text behind the others. Where the folder has no such file, as where the name leads out of it, the
+    /// error is the one that is handed in.
     pub fn load<F: Files>(
         &mut self,
         alloc: Global,
@@ -187,6 +218,9 @@ impl Texts {
         ensures counted { F.faults files.old ≤ F.faults files.new }
         ensures failed { result ≡ Err GatherError.FilesFault → HasRisen (F.faults files.old) (F.faults files.new) }
     {
+        if leads_out(file.as_bytes()) {
+            return Err(absent);
+        }
         let Some(size) = files.size(file.as_str())? else {
             return Err(absent);
         };

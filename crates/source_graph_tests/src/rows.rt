@@ -8,7 +8,7 @@ const B: &str = "unit B; interface implementation end.";
 pub type Held = &'static [(&'static str, &'static str)];
 
 /// A folder, and what gathering program P gives: the sources in order, each with its file, or the refusal.
-pub const ROWS: [(Held, &str); 20] = [
+pub const ROWS: [(Held, &str); 28] = [
     // Depth first, in order of the clauses.
     (
         &[
@@ -63,6 +63,53 @@ pub const ROWS: [(Held, &str); 20] = [
     (
         &[("p.pas", "{$I a.inc} begin end."), ("a.inc", "{$I B.Inc}")],
         "MissingFile b.inc",
+    ),
+    // Files that lie elsewhere, whatever is there.
+    (
+        &[
+            ("p.pas", "program P; {$I ../Secret.pas} begin end."),
+            ("../secret.pas", ""),
+        ],
+        "MissingFile ../secret.pas",
+    ),
+    (
+        &[
+            ("p.pas", "program P; {$I /other/x.inc} begin end."),
+            ("/other/x.inc", ""),
+        ],
+        "MissingFile /other/x.inc",
+    ),
+    (
+        &[
+            ("p.pas", "program P; {$I SUB\\PART} begin end."),
+            ("sub\\part.pas", ""),
+        ],
+        "MissingFile sub\\part.pas",
+    ),
+    (
+        &[("p.pas", "{$I c:x} begin end."), ("c:x.pas", "")],
+        "MissingFile c:x.pas",
+    ),
+    (
+        &[("p.pas", "{$I .} begin end."), (".", "")],
+        "MissingFile .",
+    ),
+    (
+        &[("p.pas", "{$I .hidden} begin end."), (".hidden", "")],
+        "MissingFile .hidden",
+    ),
+    (
+        &[("p.pas", "{$I a\0.b} begin end."), ("a\0.b", "")],
+        "MissingFile a\0.b",
+    ),
+    // A dot inside a name, or at its end, leads nowhere.
+    (
+        &[
+            ("p.pas", "{$I a..b} {$I c.} program P; begin end."),
+            ("a..b", ""),
+            ("c.", ""),
+        ],
+        "P=p.pas ",
     ),
     // Units that are left out, unless they have a file.
     (

@@ -17,7 +17,7 @@ use Rattle.source_graph.specs.Texts.{defined, number_of, with_text, with_file}
 use Rattle.source_graph.specs.Files.{source_file, absent, numbered, opened_by, Includes}
 use Rattle.source_graph.specs.Sources.{IsRead}
 use Rattle.source_graph.specs.Walk.{start, wanted_by, Walks}
-use Rattle.source_graph.proofs.TextLaws.{with_text_is}
+use Rattle.source_graph.proofs.TextLaws.{with_text_is, with_file_is}
 use Rattle.token_provenance.specs.leaves.Written.{IsSpelled, AreTexts, IsOfBytes, IsWrittenLeaf}
 use Rattle.token_provenance.specs.leaves.Laws.{SpelledLaw}
 use Rattle.token_provenance.proofs.leaves.Halves.{All-left}
@@ -33,8 +33,9 @@ text_behind texts more name bytes is all =
     All-left IsOfBytes texts (record { name = name; bytes = bytes } ∷ []) (subst AreTexts made.0 all)
 
 file_behind : (error : GatherError) (texts more : List Text) (name : List ℕ) (found : Option (List ℕ)) → with_file error texts name found ≡ Ok more → AreTexts more → AreTexts texts
-file_behind error texts more name None is all = absurd cc
-file_behind error texts more name (Some bytes) is all = text_behind texts more name bytes is all
+file_behind error texts more name found is all =
+    let file = with_file_is error texts more name found is in
+    text_behind texts more name file.bytes file.put all
 
 numbered_behind : (texts first : List Text) (number main : ℕ) (more : Result (List Text) GatherError) → ((now : List Text) → more ≡ Ok now → AreTexts now → AreTexts texts) → numbered number more ≡ Ok (first, main) → AreTexts first → AreTexts texts
 numbered_behind texts first number main (Ok now) before is all =
