@@ -6,6 +6,7 @@ use Rattle.tp_outside.specs.Faults.{HasRisen}
 use Rattle.tp_outside.specs.Folder.{Folder}
 use Rattle.front_end.specs.declared.program.TypedSources.{TypedSources}
 use Rattle.front_end.specs.Found.{IsFoundIn}
+use Rattle.front_end.specs.Typed.{IsProgramIn}
 use Rattle.front_end.specs.Untyped.{IsDeclining, IsNoProgram}
 use Rattle.checked_front_end.specs.Formed.{AreFormed}
 use Rattle.checked_front_end.proofs.interfaces_consistent_proofs.determinism.Programs.{one_folder, found_none}
@@ -79,10 +80,11 @@ built_from (Some held) name bytes found is formed does = built_by held name byte
 
 -- ---- the files of any other program
 
-holds_other : (held : Folder) (name : List ℕ) (found : TypedSources) → IsFoundIn held name found → AreFormed found.program → (IsLiteral found.program → ⊥) → HoldsOther held name
-holds_other held name found is formed not =
-    let here = found_in held name found is in
-    record { program = found.program; is = here; formed = formed; other = λ one there literal. not (literal_too one found.program (one_folder held name one found.program there here) literal) }
+other_so : (held : Folder) (name : List ℕ) (found : TypedSources) → IsFoundIn held name found → (IsLiteral found.program → ⊥) → (one : Program) → IsProgramIn held name one → IsLiteral one → ⊥
+other_so held name found is not one there literal = not (literal_too one found.program (one_folder held name one found.program there (found_in held name found is)) literal)
+
+abbrev holds_other : (held : Folder) (name : List ℕ) (found : TypedSources) → IsFoundIn held name found → AreFormed found.program → (IsLiteral found.program → ⊥) → HoldsOther held name
+holds_other held name found is formed not = record { program = found.program; is = found_in held name found is; formed = formed; other = other_so held name found is not }
 
 pub compiled_from : (known : Option Folder) (name : List ℕ) (files : ProgramFiles) (found : TypedSources) → IfSome known (λ held. IsFoundIn held name found) → AreFormed found.program → (IsLiteral found.program → ⊥)
     → AreFilesOf found.program files → IfSome known (λ held. IsCompiledFrom held name files)

@@ -1,5 +1,5 @@
 -- The folder with the files of a program that was compiled.
-use Rattle.std.proofs.Common.{◌≡◌, ℕ, List, Option, None, Some, Bool, true, false, cond, map, refl, sym, ap, ◌∙◌, bytes_eq}
+use Rattle.std.proofs.Common.{◌≡◌, ℕ, List, [], ◌∷◌, arith, Option, None, Some, Bool, true, false, cond, map, refl, sym, ap, ◌∙◌, bytes_eq}
 use Rattle.std.specs.Char.{to_ascii_lowercase}
 use Rattle.std.specs.Option.{option_or}
 use Rattle.std.proofs.lemmas.List.{append_cancel_left}
@@ -20,10 +20,17 @@ other_file folder name bytes other differ = by (bytes_eq name other) refl
     by true is = absurd (differ ((bytes_eq-Decides name other).0 is))
     by false is = refl
 
+-- the letter behind the dot of an extension
+abbrev letter : List ℕ → ℕ
+letter [] = 0
+letter (dot ∷ []) = 0
+letter (dot ∷ (first ∷ rest)) = first
+
 no_overlays : (name : List ℕ) → file_of name Executable ≡ file_of name Overlays → ⊥
 no_overlays name same =
     let ends : extension Executable ≡ extension Overlays = append_cancel_left (map to_ascii_lowercase name) (extension Executable) (extension Overlays) same in
-    absurd cc
+    let letters : 101 ≡ 111 = ap letter ends in
+    omega (arith, letters)
 
 -- the executable is the one that was written
 executable_behind : (folder : Folder) (name bytes : List ℕ) (overlays : Option (List ℕ)) → with_overlays (with_file folder (file_of name Executable) bytes) name overlays (file_of name Executable) ≡ Some bytes

@@ -5,7 +5,8 @@ use Rattle.std.specs.Option.{option_or}
 use Rattle.tp_outside.specs.declared.faults.WriteError.{WriteError}
 use Rattle.tp_outside.specs.declared.faults.WriteError.TheVariants as write
 use Rattle.tp_outside.specs.Faults.{HasRisen}
-use Rattle.tp_outside.specs.Folder.{Folder, bytes_of}
+use Rattle.tp_outside.specs.Folder.{Folder, with_file, bytes_of}
+use Rattle.tp_outside.proofs.FolderLaws.{with_file-same}
 use Rattle.front_end.specs.Untyped.{IsRefusing}
 use Rattle.back_end.specs.declared.files.ProgramFiles.{ProgramFiles}
 use Rattle.dos_runner.specs.declared.runner.RunEnd.{RunEnd}
@@ -22,7 +23,7 @@ use Rattle.front_end.specs.declared.outcomes.outcome.Outcome.{Outcome}
 use Rattle.front_end.specs.declared.outcomes.outcome.Outcome.TheVariants as outcome
 use Rattle.command_line.specs.declared.command.RunOptions.{RunOptions}
 use Rattle.commands.specs.declared.names.FileKind.TheVariants.{Overlays}
-use Rattle.commands.specs.Compiled.{IsCompiledFrom, with_files, with_known_files, IsFront, not_written, IsNotOpened, RanCompiled, IsWriteFailure}
+use Rattle.commands.specs.Compiled.{IsCompiledFrom, with_files, with_known_files, IsFront, without_fault, not_written, IsNotOpened, RanCompiled, IsWriteFailure}
 use Rattle.commands.specs.Files.{file_of}
 use Rattle.commands.specs.Go.{IsNotBuilt, IsNotGone, GoDid}
 use Rattle.commands.specs.Prepared.{IsReady}
@@ -30,6 +31,25 @@ use Rattle.commands.specs.Run.{refused_as, IsOfRun, OpensNot, BeginsNamed, limit
 use Rattle.commands.specs.World.{World}
 use Rattle.commands.proofs.FolderLaws.{executable_there, overlays_there}
 use Rattle.commands.proofs.RanLaws.{ran_from}
+
+-- ---- opening in memory
+
+pub put_there : (old new : Folder) (name given bytes : List ℕ) → new ≡ with_file old given bytes → given ≡ name → new name ≡ Some bytes
+put_there old new name given bytes is names = ap (λ (f : Folder). f name) is ∙ ap (λ (g : List ℕ). with_file old g bytes name) names ∙ with_file-same old name bytes
+
+pub refused_too : (bytes name : List ℕ) (held : Option (List ℕ)) (buffer : Option ℕ) (error : OpenError) → IsRefused bytes name held buffer error → IsRefused bytes name held buffer (without_fault error)
+refused_too bytes name held buffer errors.FilesFault refused = tt
+refused_too bytes name held buffer other refused = refused
+
+pub no_fault : (error : OpenError) → without_fault error ≡ errors.FilesFault → ⊥
+no_fault errors.FilesFault is = absurd cc
+no_fault errors.NoMemory is = absurd cc
+no_fault (errors.NotExecutable cause) is = absurd cc
+no_fault (errors.MissingFile file) is = absurd cc
+no_fault (errors.OverlayFileDamaged at) is = absurd cc
+no_fault (errors.OverlayMismatch overlay) is = absurd cc
+no_fault (errors.BufferTooSmall need have) is = absurd cc
+no_fault (errors.MemoryTooSmall need) is = absurd cc
 
 -- ---- opening
 

@@ -16,6 +16,8 @@ use Rattle.back_end.specs.Files.{AreFilesOf}
 use Rattle.back_end.specs.Refused.{IsRefused}
 use Rattle.dos_runner.specs.declared.runner.RunEnd.{RunEnd}
 use Rattle.dos_runner.specs.Outside.{Outside}
+use Rattle.dos_runner.specs.declared.opened_program.error.OpenError.{OpenError}
+use Rattle.dos_runner.specs.declared.opened_program.error.OpenError.TheVariants as errors
 use Rattle.dos_runner.specs.overlay_runner.Event.{Rises}
 use Rattle.command_line.specs.declared.command.RunOptions.{RunOptions}
 use Rattle.front_end.specs.declared.outcomes.refusal.Refusal.{Refusal}
@@ -78,6 +80,11 @@ not_compiled error.NoMemory = outcome.NoMemory
 abbrev pub not_written : WriteError → Outcome
 not_written write.Failed = outcome.FilesFault
 not_written write.NoMemory = outcome.NoMemory
+
+-- An error of files of which no call fails: in place of a fault there is no memory.
+abbrev pub without_fault : OpenError → OpenError
+without_fault errors.FilesFault = errors.NoMemory
+without_fault other = other
 
 -- ---- refusals
 

@@ -1,6 +1,6 @@
 //! Programs of any form but that of literals: their files, opened before they are written.
 
-ghost use Rattle.std.specs.Prelude.{◌≡◌, ◌≤◌, ⊥, None, Some, Err, IfOk, IfErr, IfSome, OnOk, OnErr};
+ghost use Rattle.std.specs.Prelude.{◌≡◌, ◌≤◌, None, Some, Err, IfOk, IfErr, IfSome, OnOk, OnErr};
 ghost use Rattle.std.specs.Option.{option_or};
 ghost use Rattle.tp_outside.specs.Faults.{HasRisen};
 ghost use Rattle.tp_outside.specs.declared.faults.WriteError.{WriteError};
@@ -8,7 +8,7 @@ ghost use Rattle.dos_runner.specs.declared.opened_program.error.OpenError.{OpenE
 ghost use Rattle.dos_runner.specs.opened_program.Opening.{IsRefused};
 ghost use Rattle.dos_runner.specs.overlay_runner.Runner.{Begins};
 ghost use Rattle.back_end.specs.Files.{AreFilesOf};
-ghost use Rattle.commands.specs.Compiled.{not_compiled, not_written, with_files, with_known_files, IsNotCompiled, IsNotOpened, IsFront};
+ghost use Rattle.commands.specs.Compiled.{not_compiled, without_fault, not_written, with_files, with_known_files, IsNotCompiled, IsNotOpened, IsFront};
 ghost use Rattle.commands.specs.Run.{BeginsNamed};
 
 use crate::names::{FileKind, file_name};
@@ -52,6 +52,16 @@ pub(crate) fn compiled_files(alloc: Global, program: &Program) -> Result<Program
     }
 }
 
+/// An error of files in memory, of which no call fails.
+fn without_fault(error: OpenError) -> OpenError
+    ensures { result ≡ without_fault error }
+{
+    match error {
+        OpenError::FilesFault => OpenError::NoMemory,
+        error => error,
+    }
+}
+
 /// The program of an executable file with these bytes, opened with an overlay file that has these.
 fn open_in_memory(
     alloc: Global,
@@ -69,9 +79,7 @@ fn open_in_memory(
     files.put(name.as_str(), overlays)?;
     match Runner::open(alloc, executable, name, &mut files, buffer) {
         Ok(runner) => Ok(runner),
-        // (no call of these files fails)
-        Err(OpenError::FilesFault) => Err(OpenError::NoMemory),
-        Err(error) => Err(error),
+        Err(error) => Err(without_fault(error)),
     }
 }
 

@@ -1,6 +1,6 @@
 //! The command `go`, before its last line.
 
-ghost use Rattle.std.specs.Prelude.{◌≡◌, ◌≤◌, ⊥, ℕ, Option, IfOk, IfErr, IfSome, MatchOption};
+ghost use Rattle.std.specs.Prelude.{◌≡◌, ◌≤◌, ℕ, Option, IfOk, IfErr, IfSome, MatchOption};
 ghost use Rattle.mz_file.specs.Format.{Denotes};
 ghost use Rattle.mz_file.specs.Spelling.{IsWritable, spelling};
 ghost use Rattle.literal_programs.specs.Literals.{IsLiteral};
