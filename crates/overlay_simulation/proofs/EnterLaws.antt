@@ -31,7 +31,7 @@ use Rattle.overlay_simulation.specs.Matching.{size_of, StubStands, HoldsOverlays
 use Rattle.overlay_simulation.specs.Plain.{IsOwn, GoesAlone}
 use Rattle.overlay_simulation.specs.Shown.{at_pair, number_by, IsIn, items_of, shown_state}
 use Rattle.overlay_simulation.specs.Trapping.{at_entry, AtEntry}
-use Rattle.overlay_simulation.proofs.BeginLaws.{begun, begins, begins_alone, overlays_begun, flag_begun, stands_whole}
+use Rattle.overlay_simulation.proofs.BeginLaws.{begun, begins, begins_so, begins_alone, overlays_begun, flag_begun, stands_whole}
 use Rattle.overlay_simulation.proofs.EffectLaws.{is_uninstalled, effect_parts, effect_whole}
 use Rattle.overlay_simulation.proofs.EntryLaws.{jumps}
 use Rattle.overlay_simulation.proofs.KeepLaws.{Stay, overlays_stay}
@@ -83,7 +83,7 @@ enters p r t q told m g framed =
     let here = subst (λ (n : ℕ). StandsFor (bare p none) (at_pair (record { offset = n; segment = e.code.stub }) (shown_state table none_met l.through)) u) e.place
     (subst (λ (n : ℕ). StandsFor (bare p none) (at_pair (record { offset = l.entry; segment = n }) (shown_state table none_met l.through)) u) (sym e.stub) at) in (
       u,
-      begins_alone p r t AtCall q told m g flags (λ own. own),
+      begins_alone p r t AtCall q told m g flags (begins_so p r t AtCall q told m g flags),
       record {
         through = l.through;
         overlay = l.overlay;
@@ -204,7 +204,7 @@ module _ (p : Program) (t : ResidentState) (q : Managed) (u : Process) (told : T
   )
 
 -- where CS names the overlay the call was not refused
-not_refused : (p : Program) (t through : ResidentState) (v : ℕ) (b : Bool) → t.cs ≡ Overlay v → t ≡ blurred (if b then refused p through else through) → t ≡ blurred through
+pub not_refused : (p : Program) (t through : ResidentState) (v : ℕ) (b : Bool) → t.cs ≡ Overlay v → t ≡ blurred (if b then refused p through else through) → t ≡ blurred through
 not_refused p t through v true cs left = let e : Image p.error_routine.segment ≡ Overlay v = sym (ap (λ (z : ResidentState). z.cs) left) ∙ cs in absurd (cc)
 not_refused p t through v false cs left = left
 
