@@ -3,8 +3,8 @@
 use crate::words::compute;
 use flat_code::flat_builders::{op, then, when};
 use flat_code::{FlatExpr, FlatList, FlatOp};
-use lower_expr::{Form, high_in, high_number, low_in, not, number, single, word_in};
 use lower_places::{Scene, literals_of_stmt};
+use lower_values::{Form, high_in, high_number, low_in, not, number, single, word_in};
 use runtime_units::numbers::RuntimeRoutine;
 use std::alloc::AllocError;
 use type_layout::Host;

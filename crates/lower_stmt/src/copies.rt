@@ -2,8 +2,9 @@
 
 use flat_code::flat_builders::then;
 use flat_code::{Address, FlatList, FlatStmt};
-use lower_expr::{lower_place, point, single};
+use lower_expr::lower_place;
 use lower_places::{Reach, Scene, Shape, Spot, further, literals_of_place};
+use lower_values::{point, single};
 use std::alloc::{AllocError, Global};
 use typed_tree::PlaceExpr;
 

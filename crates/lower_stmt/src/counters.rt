@@ -3,10 +3,10 @@
 use crate::words::compute;
 use flat_code::flat_builders::{op, then, when};
 use flat_code::{Address, FlatExpr, FlatList, FlatOp, FlatStmt};
-use lower_expr::{
+use lower_places::{Reach, Scene, Shape, further};
+use lower_values::{
     Form, high_in, high_number, low_in, number, runtime, single, slot_place, word_in,
 };
-use lower_places::{Reach, Scene, Shape, further};
 use runtime_units::numbers::RuntimeRoutine;
 use std::alloc::AllocError;
 use type_layout::{Host, TypeId};

@@ -4,10 +4,9 @@ use crate::procedures::through;
 use crate::words::compute;
 use flat_code::flat_builders::{op, then, when};
 use flat_code::{FlatExpr, FlatList, FlatOp, FlatStmt};
-use lower_expr::{
-    call_destructor, clear_at, high_in, low_in, lower_args, lower_expr, runtime, single,
-};
+use lower_expr::{call_destructor, lower_args, lower_expr};
 use lower_places::{Scene, Sort, Spot, literals_of_expr};
+use lower_values::{clear_at, high_in, low_in, runtime, single};
 use runtime_units::numbers::RuntimeRoutine;
 use std::alloc::AllocError;
 use typed_tree::{Arg, Destructor, Expr};

@@ -4,11 +4,12 @@ use crate::copies::found;
 use crate::words::compute;
 use flat_code::flat_builders::then;
 use flat_code::{Address, FlatExpr, FlatExprs, FlatList, FlatStmt};
-use lower_expr::{
-    Form, form_of, high_number, long_words, low_word, lower_expr, number, pair, runtime, single,
-    text_words, word_in,
-};
+use lower_expr::lower_expr;
 use lower_places::{Scene, Shape, Spot, literals_of_expr, literals_of_place};
+use lower_values::{
+    Form, form_of, high_number, long_words, low_word, number, pair, runtime, single, text_words,
+    word_in,
+};
 use runtime_units::numbers::RuntimeRoutine;
 use std::alloc::AllocError;
 use type_layout::Host;

@@ -3,8 +3,8 @@
 use crate::counters::{Counter, bounds_tested, is_last, less, stepped};
 use flat_code::flat_builders::{repeat, then, when};
 use flat_code::{FlatList, FlatStmt};
-use lower_expr::{pair, single, slot_place, store, word_in};
 use lower_places::{Reach, Scene};
+use lower_values::{pair, single, slot_place, store, word_in};
 use std::alloc::{AllocError, Global};
 
 fn leave(alloc: Global) -> Result<FlatList, AllocError> {

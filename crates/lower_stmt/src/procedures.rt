@@ -5,11 +5,11 @@ use crate::items::keep_scratch;
 use crate::words::compute;
 use flat_code::flat_builders::{op, then};
 use flat_code::{Address, FlatExpr, FlatList, FlatOp, FlatStmt};
-use lower_expr::{
-    Form, form_of, high_in, long_words, low_in, low_word, lower_args, number, pair, runtime,
-    single, text_words,
-};
+use lower_expr::lower_args;
 use lower_places::{Scene, Shape, Spot};
+use lower_values::{
+    Form, form_of, high_in, long_words, low_in, low_word, number, pair, runtime, single, text_words,
+};
 use runtime_units::numbers::RuntimeRoutine;
 use std::alloc::AllocError;
 use type_layout::Host;

@@ -3,11 +3,11 @@
 use crate::copies::copied;
 use flat_code::flat_builders::{then, when};
 use flat_code::{Address, FlatExpr, FlatList, FlatStmt};
-use lower_expr::{number, pair, runtime, single};
 use lower_places::{
     Home, Scene, Shape, class_word_at, copy_at, further, home_of, instance_at, is_copied,
     parameter_at,
 };
+use lower_values::{number, pair, runtime, single};
 use runtime_units::numbers::RuntimeRoutine;
 use std::alloc::{AllocError, Global};
 use type_layout::{Kind, Param, TypeId};

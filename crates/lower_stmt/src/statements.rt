@@ -9,10 +9,9 @@ use crate::loops::{Counting, counted, repeated, while_held};
 use crate::procedures::lower_procedure;
 use flat_code::flat_builders::{then, when};
 use flat_code::{FlatList, FlatStmt};
-use lower_expr::{
-    Form, form_of, low_word, lower_address, lower_expr, lower_place, single, store, word_in,
-};
+use lower_expr::{lower_address, lower_expr, lower_place};
 use lower_places::{Held, Scene, Spot, literals_of_expr, literals_of_place, literals_of_stmt};
+use lower_values::{Form, form_of, low_word, single, store, word_in};
 use std::alloc::AllocError;
 use typed_tree::{Arm, Expr, PlaceExpr, Stmt, is_var};
 
