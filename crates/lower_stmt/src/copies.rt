@@ -1,5 +1,9 @@
 //! Copies of records, arrays and objects.
 
+ghost use Rattle.std.specs.Prelude.{◌≡◌, IfOk};
+ghost use Rattle.flat_code.specs.View.{view_list};
+ghost use Rattle.lower_stmt.specs.Copies.{part_copied, copied};
+
 use flat_code::flat_builders::then;
 use flat_code::{Address, FlatList, FlatStmt};
 use lower_expr::lower_place;
@@ -33,7 +37,9 @@ fn part_copied(
     from: Address,
     start: u16,
     end: u16,
-) -> Result<FlatList, AllocError> {
+) -> Result<FlatList, AllocError>
+    ensures { IfOk result (λ list. view_list list.items ≡ part_copied to from start end) }
+{
     let bytes = end.saturating_sub(start);
     if bytes == 0 {
         return Ok(Vec::new(alloc));
@@ -50,7 +56,9 @@ pub fn copied(
     from: Address,
     size: u16,
     class: Option<u16>,
-) -> Result<FlatList, AllocError> {
+) -> Result<FlatList, AllocError>
+    ensures { IfOk result (λ list. view_list list.items ≡ copied to from size class) }
+{
     match class {
         None => part_copied(alloc, to, from, 0, size),
         Some(class) => {

@@ -1,7 +1,7 @@
 //! The literals of trees, in their order: strings with their lengths, and sets of 32 bytes. They are put behind the data of a unit
 //! that are there.
 
-ghost use Rattle.std.specs.Prelude.{◌≡◌, ◌++◌, OnOk, IfOk, map};
+ghost use Rattle.std.specs.Prelude.{◌≡◌, ◌++◌, [], ◌∷◌, OnOk, IfOk, map};
 ghost use Rattle.std.specs.Option.{option_map};
 ghost use Rattle.typed_tree.specs.Expressions.{view_expr, view_place, view_elements, view_args, view_receiver, view_boxed};
 ghost use Rattle.typed_tree.specs.Statements.{view_stmt, view_stmts, view_arms, view_written, view_taken};
@@ -39,17 +39,24 @@ fn set_datum(alloc: Global, elements: &[u8]) -> Result<FlatDatum, AllocError>
     Ok(FlatDatum { size: 32, first })
 }
 
+fn add_datum(made: &mut FlatData, datum: FlatDatum) -> Result<(), AllocError>
+    ensures { OnOk result (map view_datum made.new ≡ map view_datum made.old ++ view_datum datum ∷ []) }
+{
+    made.push(datum)
+}
+
 fn add_value(alloc: Global, made: &mut FlatData, value: &Value) -> Result<(), AllocError>
     ensures { OnOk result (map view_datum made.new ≡ map view_datum made.old ++ literals_of_value value.now) }
 {
     match value {
         Value::Number(_) | Value::Nil => Ok(()),
-        Value::Chars(text) => made.push(string_datum(alloc, text.as_slice())?),
-        Value::Elements(elements) => made.push(set_datum(alloc, elements.as_slice())?),
+        Value::Chars(text) => add_datum(made, string_datum(alloc, text.as_slice())?),
+        Value::Elements(elements) => add_datum(made, set_datum(alloc, elements.as_slice())?),
     }
 }
 
 #[cycle(literals)]
+#[tactic(auto, using(typed_tree::proofs::Views::view_set, typed_tree::proofs::Views::view_call, typed_tree::proofs::Views::view_call_virtual, typed_tree::proofs::Views::view_call_through, typed_tree::proofs::Views::view_std, typed_tree::proofs::Views::view_make))]
 fn add_expr(alloc: Global, made: &mut FlatData, expr: &Expr) -> Result<(), AllocError>
     ensures { OnOk result (map view_datum made.new ≡ map view_datum made.old ++ literals_of (view_expr expr.now)) }
 {
@@ -177,6 +184,7 @@ fn add_taken(alloc: Global, made: &mut FlatData, items: &[ReadItem]) -> Result<(
 
 /// Adds the literals of a statement.
 #[cycle(statement_literals)]
+#[tactic(auto, using(typed_tree::proofs::StatementViews::view_block, typed_tree::proofs::StatementViews::view_case))]
 pub fn add_stmt(alloc: Global, made: &mut FlatData, stmt: &Stmt) -> Result<(), AllocError>
     ensures { OnOk result (map view_datum made.new ≡ map view_datum made.old ++ literals_in (view_stmt stmt.now)) }
 {

@@ -1,5 +1,9 @@
 //! What a routine does before its body.
 
+ghost use Rattle.std.specs.Prelude.{◌≡◌, IfOk};
+ghost use Rattle.flat_code.specs.View.{view_list};
+ghost use Rattle.lower_stmt.specs.Prologues.{text_copied, whole_copied, zeros};
+
 use crate::copies::copied;
 use flat_code::flat_builders::{then, when};
 use flat_code::{Address, FlatExpr, FlatList, FlatStmt};
@@ -13,7 +17,9 @@ use std::alloc::{AllocError, Global};
 use type_layout::{Kind, Param, TypeId};
 
 /// Copies a string, which is cut to the size of the copy.
-fn text_copied(alloc: Global, max: u8, to: Address, from: Address) -> Result<FlatList, AllocError> {
+fn text_copied(alloc: Global, max: u8, to: Address, from: Address) -> Result<FlatList, AllocError>
+    ensures { IfOk result (λ list. view_list list.items ≡ text_copied max to from) }
+{
     let args = vec![in alloc;
         FlatExpr::SegmentOf(to),
         FlatExpr::AddressOf(to),
@@ -31,7 +37,9 @@ fn whole_copied(
     class: Option<u16>,
     to: Address,
     from: Address,
-) -> Result<FlatList, AllocError> {
+) -> Result<FlatList, AllocError>
+    ensures { IfOk result (λ list. view_list list.items ≡ whole_copied size class to from) }
+{
     let copies = copied(alloc, to, from, size, None)?;
     let Some(class) = class else {
         return Ok(copies);
@@ -73,7 +81,9 @@ fn arguments_copied(scene: &Scene) -> Result<FlatList, AllocError> {
 }
 
 /// Makes bytes zeros: the first one, and then each from the one before.
-fn zeros(alloc: Global, to: Address, bytes: u16) -> Result<FlatList, AllocError> {
+fn zeros(alloc: Global, to: Address, bytes: u16) -> Result<FlatList, AllocError>
+    ensures { IfOk result (λ list. view_list list.items ≡ zeros to bytes) }
+{
     let first = FlatStmt::StoreByte {
         to,
         value: number(0),
