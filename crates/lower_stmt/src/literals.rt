@@ -56,7 +56,6 @@ fn add_value(alloc: Global, made: &mut FlatData, value: &Value) -> Result<(), Al
 }
 
 #[cycle(literals)]
-#[tactic(auto, using(typed_tree::proofs::Views::view_set, typed_tree::proofs::Views::view_call, typed_tree::proofs::Views::view_call_virtual, typed_tree::proofs::Views::view_call_through, typed_tree::proofs::Views::view_std, typed_tree::proofs::Views::view_make))]
 fn add_expr(alloc: Global, made: &mut FlatData, expr: &Expr) -> Result<(), AllocError>
     ensures { OnOk result (map view_datum made.new ≡ map view_datum made.old ++ literals_of (view_expr expr.now)) }
 {
@@ -75,16 +74,16 @@ fn add_expr(alloc: Global, made: &mut FlatData, expr: &Expr) -> Result<(), Alloc
             add_receiver(alloc, made, own)?;
             add_args(alloc, made, args.as_slice())
         }
-        Expr::CallVirtual {
-            own: place,
-            args,
-            ..
+        Expr::CallVirtual { own, args, .. } => {
+            add_place(alloc, made, own)?;
+            add_args(alloc, made, args.as_slice())
         }
-        | Expr::CallThrough { place, args, .. } => {
+        Expr::CallThrough { place, args, .. } => {
             add_place(alloc, made, place)?;
             add_args(alloc, made, args.as_slice())
         }
-        Expr::Std { args, .. } | Expr::Make { args, .. } => add_args(alloc, made, args.as_slice()),
+        Expr::Std { args, .. } => add_args(alloc, made, args.as_slice()),
+        Expr::Make { args, .. } => add_args(alloc, made, args.as_slice()),
     }
 }
 
@@ -184,7 +183,6 @@ fn add_taken(alloc: Global, made: &mut FlatData, items: &[ReadItem]) -> Result<(
 
 /// Adds the literals of a statement.
 #[cycle(statement_literals)]
-#[tactic(auto, using(typed_tree::proofs::StatementViews::view_block, typed_tree::proofs::StatementViews::view_case))]
 pub fn add_stmt(alloc: Global, made: &mut FlatData, stmt: &Stmt) -> Result<(), AllocError>
     ensures { OnOk result (map view_datum made.new ≡ map view_datum made.old ++ literals_in (view_stmt stmt.now)) }
 {

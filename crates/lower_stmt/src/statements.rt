@@ -80,6 +80,26 @@ fn opened<'a>(
     Ok(withs)
 }
 
+/// Where the branches of a `case` begin.
+fn behind_selector(scene: &Scene, selector: &Expr, spot: Spot) -> Result<Spot, AllocError> {
+    let bytes = form_of(scene, selector)?.bytes();
+    Ok(spot.above(bytes).after(literals_of_expr(selector)))
+}
+
+/// A `case` by the bodies of its branches, and what is done where none has a label for its number.
+fn cased(
+    scene: &Scene,
+    selector: &Expr,
+    arms: &[Arm],
+    bodies: Vec<FlatList>,
+    other: FlatList,
+    spot: Spot,
+) -> Result<FlatList, AllocError> {
+    let code = lower_expr(scene, selector, spot)?;
+    let form = form_of(scene, selector)?;
+    then(code, branched(scene, form, spot.slot, arms, bodies, other)?)
+}
+
 /// A statement that has no others in it.
 fn lower_simple(scene: &Scene, stmt: &Stmt, spot: Spot) -> Result<FlatList, AllocError> {
     match stmt {
@@ -126,16 +146,11 @@ pub fn lower_stmt(scene: &Scene, stmt: &Stmt, spot: Spot) -> Result<FlatList, Al
             arms,
             other,
         } => {
-            let code = lower_expr(scene, selector, spot)?;
-            let form = form_of(scene, selector)?;
-            let behind = spot.above(form.bytes()).after(literals_of_expr(selector));
-            let next = behind.after(literals_of_arms(arms.as_slice()));
+            let behind = behind_selector(scene, selector, spot)?;
             let bodies = lower_bodies(scene, arms.as_slice(), behind)?;
+            let next = behind.after(literals_of_arms(arms.as_slice()));
             let last = lower_stmt(scene, other, next)?;
-            then(
-                code,
-                branched(scene, form, spot.slot, arms.as_slice(), bodies, last)?,
-            )
+            cased(scene, selector, arms.as_slice(), bodies, last, spot)
         }
         Stmt::For {
             variable,
