@@ -3,7 +3,7 @@ use Rattle.typed_tree.specs.Expressions.{view_expr, view_place, view_receiver, v
 use Rattle.typed_tree.proofs.Views.{view_set, view_call, view_call_virtual, view_call_through, view_std, view_make}
 use Rattle.flat_code.specs.Plain.{view_datum}
 use Rattle.lower_places.specs.Data.{literals_of, literals_of_place, literals_of_receiver, literals_of_elements, literals_of_arguments}
-use Rattle.lower_stmt.proofs.Literals.{both_parts}
+use Rattle.lower_stmt.proofs.DatumRows.{both_parts}
 use Rattle.lower_stmt.proofs.literals.+literals.Goals as goal
 
 pub add_expr-returns-in-SetOf : goal.add_expr-returns-in-SetOf

@@ -4,7 +4,7 @@ use Rattle.typed_tree.specs.Statements.{view_stmt, view_stmts, view_arms}
 use Rattle.typed_tree.proofs.StatementViews.{view_block, view_case}
 use Rattle.flat_code.specs.Plain.{view_datum}
 use Rattle.lower_places.specs.Data.{literals_of, literals_in, literals_in_all, literals_in_arms}
-use Rattle.lower_stmt.proofs.Literals.{both_parts}
+use Rattle.lower_stmt.proofs.DatumRows.{both_parts}
 use Rattle.lower_stmt.proofs.literals.+statement_literals.Goals as goal
 
 pub add_stmt-returns-in-Block : goal.add_stmt-returns-in-Block
