@@ -1,6 +1,6 @@
 //! What a program is given as it starts.
 
-ghost use Rattle.std.specs.Prelude.{◌≡◌, ◌++◌, codes, IfOk};
+ghost use Rattle.std.specs.Prelude.{◌≡◌, ◌≤◌, ◌++◌, codes, IfOk, OnOk};
 ghost use Rattle.back_end.specs.Given.{setting_of};
 
 use arrayvec::ArrayVec;
@@ -9,6 +9,9 @@ use std::alloc::AllocError;
 use std::str;
 use type_layout::{FILE_NAME_LEN, FileName, Name};
 use typed_tree::Unit;
+
+/// The most bytes of a stack.
+const STACK_LIMIT: u32 = 65_520;
 
 /// The most bytes of a heap.
 const HEAP_LIMIT: u32 = 196_608;
@@ -40,15 +43,17 @@ fn overlay_file(name: &Name) -> FileName
     }
 }
 
-/// What a program is given: the stack that it asks for, a heap of at most 196,608 bytes, and the name of its overlay file.
+/// What a program is given: the stack that it asks for, of at most 65,520 bytes, a heap of at most 196,608 bytes, and the name of
+/// its overlay file.
 pub(crate) fn setting_of(main: &Unit) -> Result<Setting, AllocError>
-    ensures { IfOk result (λ setting. setting ≡ setting_of main.now) }
+    ensures setting { IfOk result (λ setting. setting ≡ setting_of main.now) }
+    ensures stack { OnOk result (main.now.stack ≤ STACK_LIMIT) }
 {
-    let Ok(stack) = u16::try_from(main.stack) else {
+    if main.stack > STACK_LIMIT {
         return Err(AllocError);
-    };
+    }
     Ok(Setting {
-        stack,
+        stack: main.stack as u16,
         heap: main.heap.min(HEAP_LIMIT),
         file: overlay_file(&main.name),
     })
