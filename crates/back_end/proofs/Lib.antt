@@ -1,2 +1,3 @@
-pub mod Build
+pub mod LinkedUnits
+pub mod OverlayNames
 pub mod Told

@@ -1,6 +1,8 @@
 -- Why a program isn't built.
 use Rattle.std.specs.Prelude.{◌≡◌, ◌<◌, ℕ, List, Option, Some, None}
 use Rattle.typed_tree.specs.declared.units.Program.{Program}
+use Rattle.codegen_8086.specs.declared.error.GenError.{GenError}
+use Rattle.codegen_8086.specs.declared.error.GenError.TheVariants as generated
 use Rattle.back_end.specs.declared.error.BuildError.{BuildError}
 use Rattle.back_end.specs.declared.error.BuildError.TheVariants.{CodeTooLarge, NotOverlayable, DataTooLarge, ImageTooLarge, TooManyRelocations, NoMemory}
 use Rattle.back_end.specs.Overlaid.{first_unfit}
@@ -16,6 +18,11 @@ IsRefusedFor unfit NoMemory = Unit {0}
 
 abbrev pub IsRefused : Program → BuildError → Type 0
 IsRefused program error = IsRefusedFor (first_unfit program) error
+
+-- what a cause of the code generator is of the program
+abbrev pub generator_refusal : GenError → BuildError
+generator_refusal (generated.CodeTooLarge bytes) = CodeTooLarge bytes
+generator_refusal generated.NoMemory = NoMemory
 
 -- a cause that shows as a unit is compiled
 abbrev pub IsCodeCause : BuildError → Type 0

@@ -65,7 +65,7 @@ fn linked(alloc: Global, units: &LinkUnits, setting: &Setting) -> Result<Linked,
 }
 
 /// The executable of a program and its overlays, linked from its units and those of the runtime.
-#[tactic(auto, using(crate::proofs::Build::linked_so, crate::proofs::Build::refused_so, crate::proofs::Build::marked_so, crate::proofs::Build::code_refused))]
+#[tactic(auto, using(crate::proofs::LinkedUnits::linked_so, crate::proofs::LinkedUnits::refused_so, crate::proofs::LinkedUnits::marked_so, crate::proofs::LinkedUnits::code_refused))]
 pub fn build(alloc: Global, program: &Program) -> Result<Linked, BuildError>
     ensures linked { IfOk result (IsLinkedOf program.now) }
     ensures refused { IfErr result (IsRefused program.now) }

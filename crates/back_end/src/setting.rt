@@ -1,6 +1,7 @@
 //! What a program is given as it starts.
 
-ghost use Rattle.std.specs.Prelude.{◌≡◌, ◌≤◌, ◌++◌, codes, IfOk, OnOk};
+ghost use Rattle.std.specs.Prelude.{◌≡◌, ◌≤◌, ◌+◌, ◌++◌, codes, length, IfOk, OnOk};
+ghost use Rattle.arrayvec.specs.ArrayVec.{array_vec_len};
 ghost use Rattle.back_end.specs.Given.{setting_of};
 
 use arrayvec::ArrayVec;
@@ -16,15 +17,14 @@ const STACK_LIMIT: u32 = 65_520;
 /// The most bytes of a heap.
 const HEAP_LIMIT: u32 = 196_608;
 
-fn overlay_file_bytes(name: &Name) -> ArrayVec<u8, FILE_NAME_LEN>
-    ensures { result.items ≡ name.now ++ codes ".OVR" }
+type NameBytes = ArrayVec<u8, FILE_NAME_LEN>;
+
+fn push_bytes(name: &mut NameBytes, bytes: &[u8])
+    requires { array_vec_len name.old + length bytes.now ≤ FILE_NAME_LEN }
+    ensures { name.new.items ≡ name.old.items ++ bytes.now }
 {
-    let mut bytes = ArrayVec::new();
-    for byte in name.as_bytes() {
-        bytes.push(*byte);
-    }
-    match bytes.try_extend_from_slice(b".OVR") {
-        Ok(()) => bytes,
+    match name.try_extend_from_slice(bytes) {
+        Ok(()) => (),
         Err(_) => unreachable!(),
     }
 }
@@ -33,7 +33,9 @@ fn overlay_file_bytes(name: &Name) -> ArrayVec<u8, FILE_NAME_LEN>
 fn overlay_file(name: &Name) -> FileName
     ensures { result ≡ name.now ++ codes ".OVR" }
 {
-    let bytes = overlay_file_bytes(name);
+    let mut bytes = NameBytes::new();
+    push_bytes(&mut bytes, name.as_bytes());
+    push_bytes(&mut bytes, b".OVR");
     match str::from_utf8(bytes.as_slice()) {
         Ok(text) => match FileName::new(text) {
             Some(name) => name,
