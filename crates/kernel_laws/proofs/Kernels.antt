@@ -22,6 +22,7 @@ kernel_filled a own names kernel p = record {
   error = error_filled a own names kernel p;
   text = refl;
   clear = refl;
+  idle = refl;
   flag = λ small.
       let flag = a.datum (part_of own names kernel 1) in
       let same : (flag + 0) % 65536 ≡ flag = omega (arith, small) in

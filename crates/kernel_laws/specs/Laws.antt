@@ -32,4 +32,5 @@ pub record KernelLaws (a : Addresses) (own : Name) (names : List Name) (kernel :
   pub error : a.datum (part_of own names kernel 0) + 21 < 65536 → filled a own names p (error_of kernel) ≡ assembled (effects.error_lines (a.datum (part_of own names kernel 0)))
   pub text : error_bytes ≡ effects.error_bytes
   pub clear : filled a own names p (clear_of true) ≡ assembled (ones services.clear_code)
+  pub idle : filled a own names p (clear_of false) ≡ assembled (ones services.idle_code)
   pub flag : a.datum (part_of own names kernel 1) < 65536 → filled a own names p (flag_of kernel) ≡ assembled (ones (services.flag_code (a.datum (part_of own names kernel 1))))

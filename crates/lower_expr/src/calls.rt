@@ -1,11 +1,12 @@
 //! Calls, behind their arguments.
 
-use crate::forms::{Form, form_of, high_in, long_words, low_in, next_slot, slot_place, text_words};
-use crate::nodes::{clear_at, runtime, signed_byte, single, with_result};
-use crate::words::{push_class, push_link, words_with, words_without};
 use flat_code::flat_builders::{op, set, then};
 use flat_code::{Address, FlatExpr, FlatExprs, FlatList, FlatOp, FlatResult, FlatStmt};
 use lower_places::{Scene, Shape, Sort};
+use lower_values::{
+    Form, clear_at, form_of, high_in, long_words, low_in, next_slot, push_class, push_link,
+    runtime, signed_byte, single, slot_place, text_words, with_result, words_with, words_without,
+};
 use runtime_units::numbers::RuntimeRoutine;
 use std::alloc::AllocError;
 use type_layout::{Host, Kind, RoutineId, TypeId};

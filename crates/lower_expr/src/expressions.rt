@@ -1,21 +1,17 @@
 //! Expressions, places and arguments, part by part.
 
-use crate::access::{load, point};
 use crate::calls::{call, made_block};
-use crate::conversions::{converted, ranged};
-use crate::forms::{Form, form_of, slot_of_arg, slot_place};
-use crate::nodes::{high_number, number, pair, single};
-use crate::operators::{binary, unary};
-use crate::places::{indexed, inside, through};
-use crate::sets::{emptied, with_element, with_span};
 use crate::standard::standard;
-use crate::text_functions::{length_at, length_of};
-use crate::word_operators::early;
 use flat_code::flat_builders::{set, then};
 use flat_code::{FlatExpr, FlatList, FlatStmt};
 use lower_places::{
     Reach, Scene, Spot, literals_of_arg, literals_of_element, literals_of_expr, literals_of_place,
     literals_of_receiver,
+};
+use lower_values::{
+    Form, binary, converted, early, emptied, form_of, high_number, indexed, inside, length_at,
+    length_of, load, number, pair, point, ranged, single, slot_of_arg, slot_place, through, unary,
+    with_element, with_span,
 };
 use std::alloc::AllocError;
 use type_layout::TypeId;

@@ -1,5 +1,5 @@
--- The act that clears the overlay buffer.
-use Rattle.std.proofs.Common.{◌≡◌, ℕ, zero, suc, ◌+◌, ◌≤◌, Bool, true, false, [], None, Ok, arith, refl, sym, ap, subst, ◌∙◌}
+-- The act that clears the overlay buffer, with overlays and without.
+use Rattle.std.proofs.Common.{◌≡◌, ℕ, zero, suc, ◌+◌, ◌≤◌, inl, inr, Bool, true, false, [], None, Ok, arith, refl, sym, ap, subst, ◌∙◌}
 use Rattle.std.specs.Prelude.{IsTrue}
 use Rattle.common_values.specs.behaviour.Seen.{Going}
 use Rattle.x86_table.specs.declared.instr.Instr.TheVariants as instr
@@ -23,7 +23,7 @@ use Rattle.call_simulation.specs.frames.Chain.{IsChained}
 use Rattle.call_simulation.proofs.frames.Leave.{back_free, back_other}
 use Rattle.call_simulation.specs.calls.Enters.{CallsTo}
 use Rattle.call_simulation.proofs.calls.Entered.{framed_call}
-use Rattle.call_simulation.specs.services.Services.{clear_code, HasService}
+use Rattle.call_simulation.specs.services.Services.{clear_code, idle_code, HasService, HasClear}
 use Rattle.call_simulation.proofs.services.Returning.{Inside, caller_again, returns, served_represents}
 use Rattle.call_simulation.proofs.services.Services.{nothing, entered, enters, called, inside_of, flag_is_kept, below_apart}
 
@@ -31,8 +31,8 @@ int_tree : (g : Registers) → act g (instr.Int 0x60) ≡ Interrupt g 96
 unfolding act
 int_tree g = refl
 
-pub clear_flows : (w : World) (site : Site) (live : Live) → Fits w site live → (IsTrue w.framed → IsChained w live) → HasService w site.context.addresses.clear_routine clear_code → 72 ≤ live.frame.sp → 3 ≤ w.rate → (bound pointer : ℕ) → StepFlows w site live bound pointer (Runtime 3 [] None)
-clear_flows w site live fits chained service tall rate bound pointer around k s r few here a stands small = by s.turns refl
+sends_out_flows : (w : World) (site : Site) (live : Live) → Fits w site live → (IsTrue w.framed → IsChained w live) → HasService w site.context.addresses.clear_routine clear_code → 72 ≤ live.frame.sp → 3 ≤ w.rate → (bound pointer : ℕ) → StepFlows w site live bound pointer (Runtime 3 [] None)
+sends_out_flows w site live fits chained service tall rate bound pointer around k s r few here a stands small = by s.turns refl
   where
     room : 72 ≤ r.registers.sp
     room = let sp = a.sp in omega (arith, tall, sp)
@@ -117,3 +117,44 @@ clear_flows w site live fits chained service tall rate bound pointer around k s 
           free = z.free;
           input = z.input;
         }
+
+idle_flows : (w : World) (site : Site) (live : Live) → Fits w site live → (IsTrue w.framed → IsChained w live) → HasService w site.context.addresses.clear_routine idle_code → 72 ≤ live.frame.sp → 3 ≤ w.rate → (bound pointer : ℕ) → StepFlows w site live bound pointer (Runtime 3 [] None)
+idle_flows w site live fits chained service tall rate bound pointer around k s r few here a stands small = by s.turns refl
+  where
+    room : 72 ≤ r.registers.sp
+    room = let sp = a.sp in omega (arith, tall, sp)
+
+    one : ResidentState
+    one = entered w site live fits chained s r a room site.context.addresses.clear_routine idle_code service k here stands
+
+    enters_one : CallsTo true (record { segment = site.segment; offset = site.at (k + 1) }) (Image service.segment) (service.at 0) r one
+    enters_one = enters w site live fits chained s r a room site.context.addresses.clear_routine idle_code service k here stands
+
+    inside_one : Inside w site live fits chained s r a room service.segment (service.at 0) (site.at (k + 1)) one
+    inside_one = inside_of w site live fits chained s r a room site.context.addresses.clear_routine idle_code service k here stands (service.at 0) one enters_one
+
+    flag_shown : IsFlag s.flag (one.cells w.machine.installed)
+    flag_shown = subst (λ cell. IsFlag s.flag cell) (sym (enters_one.bytes w.machine.installed (flag_is_kept w site live fits chained s r a room site.context.addresses.clear_routine idle_code service k here stands))) a.flag
+
+    by : (turns : ℕ) → s.turns ≡ turns → Flows w site live around (site.at (k + 1)) s r (spent turns (begun 1 s) (λ u. clear_act [] u))
+    by zero e = settles_here w site live fits Going (s.work + 1) s.turns s r (omega (arith, e), here.running) (budget_more w s.work 1) a
+    by (suc left) e =
+        let z = returns w site live fits chained s r a room service.segment service.code service.at service.labels service.placed 0 (site.at (k + 1)) one inside_one service.stands in
+        let end = caller_again w site live fits chained s r a room service.segment service.code service.at service.labels service.placed 0 (site.at (k + 1)) one inside_one service.stands in
+        let c = called w site live fits chained s r a room site.context.addresses.clear_routine idle_code service k here stands in
+        record {
+          count = 1 + 1;
+          end = end;
+          leads = leads_on w.machine w.framed 1 1 r one end c.leads z.leads;
+          here = z.here;
+          stands = served_represents w site live fits chained s r a room (site.at (k + 1)) left (s.work + 1) s.flag one end z flag_shown (λ h. h);
+          enough = omega (arith, e);
+          fewer = omega (arith, e);
+          work = budget_grows w s.work 1 2 (omega (arith, rate)) (omega arith);
+          free = z.free;
+          input = z.input;
+        }
+
+pub clear_flows : (w : World) (site : Site) (live : Live) → Fits w site live → (IsTrue w.framed → IsChained w live) → HasClear w site.context.addresses.clear_routine → 72 ≤ live.frame.sp → 3 ≤ w.rate → (bound pointer : ℕ) → StepFlows w site live bound pointer (Runtime 3 [] None)
+clear_flows w site live fits chained (inl service) = sends_out_flows w site live fits chained service
+clear_flows w site live fits chained (inr service) = idle_flows w site live fits chained service

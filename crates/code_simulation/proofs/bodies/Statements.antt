@@ -32,7 +32,7 @@ use Rattle.statement_simulation.specs.flow.Outcomes.{EndsErrors}
 use Rattle.statement_simulation.specs.flow.Sites.{World, Site, Live}
 use Rattle.statement_simulation.proofs.flow.Lists.{length-ones}
 use Rattle.statement_simulation.proofs.flow.Steps.{byte_flows, word_flows, leave_flows, return_flows, fail_flows}
-use Rattle.call_simulation.specs.services.Services.{clear_code, flag_code, HasService}
+use Rattle.call_simulation.specs.services.Services.{flag_code, HasService, HasClear}
 use Rattle.call_simulation.proofs.services.Clearing.{clear_flows}
 use Rattle.call_simulation.proofs.services.Setting.{flag_flows}
 use Rattle.call_simulation.specs.steps.Callable.{Callable}
@@ -218,7 +218,7 @@ module _ (w : World) (R : Mention → Type 0) (x : Layout) (p : PlacedProgram w 
       let l = low in
       let paid = p.paid in
       subst (λ z. Flow pointer (Runtime 3 [] z)) (sym fit.1)
-      (clear_flows w site live g.fits g.chained (subst (λ (c : Context). HasService w c.addresses.clear_routine clear_code) (sym i.context) p.clear) (omega (arith, l)) (omega (arith, paid)) (suc n) pointer)
+      (clear_flows w site live g.fits g.chained (subst (λ (c : Context). HasClear w c.addresses.clear_routine) (sym i.context) p.clear) (omega (arith, l)) (omega (arith, paid)) (suc n) pointer)
   act_step pointer (suc (suc (suc zero))) (e ∷ es) result names fit few say run_time size = let none = fit.0 in absurd (omega (arith, none))
   act_step pointer (suc (suc (suc (suc zero)))) [] result names fit few say run_time size =
       let l = low in

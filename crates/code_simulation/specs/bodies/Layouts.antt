@@ -17,7 +17,7 @@ use Rattle.statement_simulation.specs.expressions.Evaluates.{IsCode}
 use Rattle.statement_simulation.specs.flow.Lists.{AllSteps}
 use Rattle.statement_simulation.specs.flow.Sites.{World, Site, Live}
 use Rattle.call_simulation.specs.calls.Enters.{EntersAt}
-use Rattle.call_simulation.specs.services.Services.{clear_code, flag_code, HasService, HasFlag}
+use Rattle.call_simulation.specs.services.Services.{flag_code, HasService, HasClear, HasFlag}
 use Rattle.call_simulation.specs.indirect_calls.FarCallable.{refusal_of, IsOverlaid}
 use Rattle.code_simulation.specs.bodies.Expressible.{CodeIsExpressible, HasNoThrough}
 
@@ -84,7 +84,7 @@ pub record PlacedProgram (w : World) (R : Mention → Type 0) (x : Layout) : Typ
   pub error : HasErrorRoutine w (constant_live w x) x.addresses.error_routine
   pub error_code : IsCode w.machine x.addresses.error_routine
   pub refusal : refusal_of w.machine ≡ x.addresses.error_routine
-  pub clear : HasService w x.addresses.clear_routine clear_code
+  pub clear : HasClear w x.addresses.clear_routine
   pub flag_offset : ℕ
   pub flag : HasFlag w flag_offset
   pub set : HasService w x.addresses.flag_routine (flag_code flag_offset)

@@ -76,6 +76,7 @@ refusal_text (refusal.Circular unit) = named (codes "Circular") unit
 refusal_text (refusal.CheckRefused at kind rule) = numbered (named (placed (codes "CheckRefused") at) (check_kind_text kind)) rule
 refusal_text (refusal.ClassRefused kind name) = named (named (codes "ClassRefused") (class_kind_text kind)) name
 refusal_text (refusal.VersionMismatch unit import) = named (named (codes "VersionMismatch") unit) import
+refusal_text (refusal.NotOverlayable unit) = named (codes "NotOverlayable") unit
 refusal_text (refusal.NotExecutable c) = codes "NotExecutable " ++ cause_text c
 refusal_text (refusal.OverlayFileDamaged at) = numbered (codes "OverlayFileDamaged") at
 refusal_text (refusal.OverlayMismatch overlay) = numbered (codes "OverlayMismatch") overlay

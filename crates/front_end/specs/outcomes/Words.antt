@@ -47,6 +47,10 @@ lex_cause_text lex.OpenCondition = codes "OpenCondition"
 abbrev pub what_text : What → List ℕ
 what_text what.Source = codes "Source"
 what_text what.Declaration = codes "Declaration"
+what_text what.Code = codes "Code"
+what_text what.Data = codes "Data"
+what_text what.Image = codes "Image"
+what_text what.Relocations = codes "Relocations"
 what_text what.Units = codes "Units"
 what_text what.Input = codes "Input"
 

@@ -246,6 +246,7 @@ fn push_refusal(line: &mut Line, refusal: &Refusal)
         Refusal::CheckRefused { at, kind, rule } => push_check(line, at, *kind, *rule),
         Refusal::ClassRefused { kind, name } => push_class(line, *kind, name),
         Refusal::VersionMismatch { unit, import } => push_mismatch(line, unit, import),
+        Refusal::NotOverlayable { unit } => push_named(line, b"NotOverlayable", unit.as_bytes()),
         Refusal::NotExecutable { cause } => {
             push_text(line, b"NotExecutable ");
             push_cause(line, *cause);

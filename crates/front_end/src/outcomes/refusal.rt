@@ -12,6 +12,14 @@ pub enum What {
     Source,
     /// The bytes of a type, of arguments or of locals, or how deep routines are nested.
     Declaration,
+    /// The bytes of a unit's code.
+    Code,
+    /// The bytes of a program's data segment.
+    Data,
+    /// The paragraphs of a program's image.
+    Image,
+    /// The words of a program that are segments.
+    Relocations,
     /// The units of a program.
     Units,
     /// The bytes of an input.
@@ -66,6 +74,8 @@ pub enum Refusal {
     ClassRefused { kind: ClassKind, name: Name },
     /// A type that the unit `unit` has from `import` does not fit those that it has by the units before.
     VersionMismatch { unit: Name, import: Name },
+    /// The unit is overlaid, and it was not compiled for that.
+    NotOverlayable { unit: Name },
     /// The program to run is no executable file.
     NotExecutable { cause: ExeCause },
     /// The first part of the overlay file that breaks a rule of the format begins at this byte.

@@ -62,6 +62,10 @@ pub fn what_text(what: What) -> &'static [u8]
     match what {
         What::Source => b"Source",
         What::Declaration => b"Declaration",
+        What::Code => b"Code",
+        What::Data => b"Data",
+        What::Image => b"Image",
+        What::Relocations => b"Relocations",
         What::Units => b"Units",
         What::Input => b"Input",
     }

@@ -1,5 +1,0 @@
-use Rattle.std.proofs.Common.{length}
-use Rattle.lower_expr.proofs.text_functions.+chained.Given as goal
-
-abbrev pub decreases-chained : goal.decreases-chained
-decreases-chained l = length l.args.now

@@ -1,0 +1,13 @@
+pub mod Nodes
+pub mod Forms
+pub mod Access
+pub mod Conversions
+pub mod WordOperators
+pub mod LongOperators
+pub mod Texts
+pub mod Sets
+pub mod Operators
+pub mod Places
+pub mod TextFunctions
+pub mod ValueFunctions
+pub mod Words
