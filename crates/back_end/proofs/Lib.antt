@@ -1,0 +1,3 @@
+pub mod LinkedUnits
+pub mod OverlayNames
+pub mod Told

@@ -1,0 +1,5 @@
+pub mod Files
+pub mod Given
+pub mod Overlaid
+pub mod Refused
+pub mod Told
