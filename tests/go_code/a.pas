@@ -1,1 +1,1 @@
-var n: Integer; begin Halt(n) end.
+var n: Integer; begin n := 7; Halt(n) end.

@@ -1,4 +1,6 @@
+var i: Integer;
 begin
   Write('a');
-  while true do Write('b')
+  i := 0;
+  while i < 3 do begin Write('b'); i := i + 1 end
 end.

@@ -1,1 +1,1 @@
-var c: Char; begin Write('c'); Read(c) end.
+var c: Char; begin Write('c'); Read(c); Write(c) end.

@@ -1,4 +1,5 @@
 var x: Integer;
 begin
+  x := 5;
   Write('a', x)
 end.

@@ -7,9 +7,8 @@ use Rattle.tp_outside.specs.Folder.{Folder}
 use Rattle.front_end.specs.declared.program.TypedSources.{TypedSources}
 use Rattle.front_end.specs.Found.{IsFoundIn}
 use Rattle.front_end.specs.Typed.{IsProgramIn}
-use Rattle.front_end.specs.Untyped.{IsRefusing, IsDeclining, IsNoProgram}
+use Rattle.front_end.specs.Untyped.{IsDeclining, IsNoProgram}
 use Rattle.checked_front_end.specs.Formed.{AreFormed}
-use Rattle.source_graph.proofs.determinism.Readings.{one_reading}
 use Rattle.checked_front_end.proofs.interfaces_consistent_proofs.determinism.Programs.{one_folder, found_none}
 use Rattle.cpu_8086.specs.State.{State}
 use Rattle.typed_tree.specs.declared.units.Program.{Program}
@@ -23,13 +22,18 @@ use Rattle.mz_file.specs.declared.executable.Exe.{Exe}
 use Rattle.mz_file.specs.Format.{Denotes, exe_of}
 use Rattle.mz_file.specs.Load.{loaded}
 use Rattle.mz_file.specs.Spelling.{spelling}
+use Rattle.back_end.specs.declared.error.BuildError.{BuildError}
+use Rattle.back_end.specs.declared.error.BuildError.TheVariants as build
+use Rattle.back_end.specs.declared.files.ProgramFiles.{ProgramFiles}
+use Rattle.back_end.specs.Files.{AreFilesOf}
+use Rattle.back_end.specs.Refused.{IsRefused}
 use Rattle.dos_runner.specs.declared.runner.RunEnd.{RunEnd}
 use Rattle.dos_runner.specs.declared.runner.RunEnd.TheVariants as ends
 use Rattle.dos_runner.specs.Outside.{Outside, RunsTo}
 use Rattle.dos_runner.proofs.Composition.{risen_later}
 use Rattle.dos_runner.specs.declared.opened_program.error.OpenError.{OpenError}
 use Rattle.dos_runner.specs.declared.opened_program.error.OpenError.TheVariants as errors
-use Rattle.dos_runner.specs.opened_program.Opening.{IsOpened, IsRefused, HasReason}
+use Rattle.dos_runner.specs.opened_program.Opening.{IsOpened, IsRefused as IsUnopened, HasReason}
 use Rattle.dos_runner.specs.plain_opening.Laws.{IsPlain, needed}
 use Rattle.dos_runner.proofs.opened_program.ReasonLaws.{no_reason}
 use Rattle.dos_runner.proofs.plain_opening.Openings.{large_refusal, plain_refusal}
@@ -37,25 +41,24 @@ use Rattle.overlay_manager.specs.Manager.{Manager}
 use Rattle.dos_runner.specs.overlay_runner.Event.{Rises}
 use Rattle.front_end.specs.declared.outcomes.refusal.Refusal.{Refusal}
 use Rattle.front_end.specs.declared.outcomes.refusal.Refusal.TheVariants as refusal
+use Rattle.front_end.specs.declared.outcomes.refusal.What.TheVariants as what
 use Rattle.front_end.specs.declared.outcomes.outcome.Outcome.{Outcome}
 use Rattle.front_end.specs.declared.outcomes.outcome.Outcome.TheVariants as outcome
 use Rattle.command_line.specs.declared.command.RunOptions.{RunOptions}
 use Rattle.commands.specs.declared.names.FileKind.TheVariants.{Overlays}
 use Rattle.commands.specs.Files.{file_of}
-use Rattle.commands.specs.Go.{DoesSoon, IsNotMade, IsBuiltFrom, IsNotBuilt, IsNotGone, RanBuilt}
-use Rattle.commands.specs.declared.go.Prepared.{Prepared}
-use Rattle.commands.specs.Prepared.{IsPrepared}
+use Rattle.commands.specs.Compiled.{HoldsOther, IsCompiledFrom, IsNotCompiled, not_compiled}
+use Rattle.commands.specs.Go.{DoesSoon, IsBuiltFrom, IsNotBuilt, IsNotGone, RanBuilt}
+use Rattle.commands.specs.Prepared.{IsLoaded}
 use Rattle.commands.specs.Run.{refused_as, limit_of}
-use Rattle.commands.proofs.HeldLaws.{found_in, literal_too, does_too, told_alike}
+use Rattle.commands.proofs.HeldLaws.{found_in, literal_too, does_too}
 
 -- ---- the executable
 
-pub does_of : (program : Program) (exe : Exe) (result : Result (List ℕ) Outcome) → IsLiteral program → HasMemoryOf program exe → exe.block.stubs ≡ []
+pub does_of : (program : Program) (exe : Exe) (bytes : List ℕ) → IsLiteral program → HasMemoryOf program exe → exe.block.stubs ≡ []
     → ((literal : IsLiteral program) → length exe.image ≡ image_size literal.statements) → ((bytes : List ℕ) → Denotes bytes exe → Agrees program bytes)
-    → ((bytes input : List ℕ) (turns : ℕ) → Denotes bytes exe → EndsWithin 16389 bytes input (mean program input turns)) → IfOk result (λ bytes. bytes ≡ spelling exe)
-    → IfOk result (λ bytes. Denotes bytes exe) → IfOk result (DoesSoon program)
-does_of program exe (Err error) literal memory plain size agrees soon exact denotes = tt
-does_of program exe (Ok bytes) literal memory plain size agrees soon exact denotes = record {
+    → ((bytes input : List ℕ) (turns : ℕ) → Denotes bytes exe → EndsWithin 16389 bytes input (mean program input turns)) → bytes ≡ spelling exe → Denotes bytes exe → DoesSoon program bytes
+does_of program exe bytes literal memory plain size agrees soon exact denotes = record {
   literal = literal;
   plain = subst (λ (e : Exe). e.block.stubs ≡ []) denotes.value plain;
   spelled = exact ∙ ap spelling denotes.value;
@@ -65,49 +68,51 @@ does_of program exe (Ok bytes) literal memory plain size agrees soon exact denot
   soon = λ input turns. soon bytes input turns denotes;
 }
 
-pub not_spelled : (found : TypedSources) (result : Result (List ℕ) Outcome) → IfErr result (λ error. error ≡ outcome.NoMemory) → IfErr result (IsNotMade found)
-not_spelled found (Ok bytes) none = tt
-not_spelled found (Err error) none = subst (IsNotMade found) (sym none) tt
-
 built_by : (held : Folder) (name bytes : List ℕ) (found : TypedSources) → IsFoundIn held name found → AreFormed found.program → DoesSoon found.program bytes → IsBuiltFrom held name bytes
 built_by held name bytes found is formed does =
     let here = found_in held name found is in
     record { program = found.program; is = here; formed = formed; does = λ one there. does_too found.program one bytes (one_folder held name found.program one here there) does }
 
-pub built_from : (known : Option Folder) (name : List ℕ) (found : TypedSources) (result : Result (List ℕ) Outcome) → IfSome known (λ held. IsFoundIn held name found)
-    → AreFormed found.program → IfOk result (DoesSoon found.program) → IfSome known (λ held. IfOk result (IsBuiltFrom held name))
-built_from None name found result is formed does = tt
-built_from (Some held) name found (Err error) is formed does = tt
-built_from (Some held) name found (Ok bytes) is formed does = built_by held name bytes found is formed does
+pub built_from : (known : Option Folder) (name bytes : List ℕ) (found : TypedSources) → IfSome known (λ held. IsFoundIn held name found) → AreFormed found.program → DoesSoon found.program bytes
+    → IfSome known (λ held. IsBuiltFrom held name bytes)
+built_from None name bytes found is formed does = tt
+built_from (Some held) name bytes found is formed does = built_by held name bytes found is formed does
 
-other_form : (known : Option Folder) (name : List ℕ) (buffer : Option ℕ) (r : Refusal) (found : TypedSources) → IfSome known (λ held. IsFoundIn held name found) → IsNotMade found (outcome.Refused r)
-    → IfSome known (λ held. IsNotBuilt held name buffer r)
-other_form None name buffer r found is why = tt
-other_form (Some held) name buffer r found is why =
-    let here = found_in held name found is in
-    inr (inl (record {
-      program = found.program;
-      is = here;
-      other = λ one there literal. why.0 (literal_too one found.program (one_folder held name one found.program there here) literal);
-      refused = λ texts sources one gathers is_one.
-          let there : IsProgramIn held name one = record { texts = texts; sources = sources; gathers = gathers; is = is_one } in
-          let read = one_reading held name found.texts.items texts found.sources.items sources is.gathers gathers in
-          why.1 ∙ told_alike found.texts.items texts found.sources.items sources found.program one read.0 read.1 (one_folder held name found.program one here there);
-    }))
+-- ---- the files of any other program
 
-other_refuses : (r : Refusal) (found : TypedSources) → IsNotMade found (outcome.Refused r) → IsRefusing (outcome.Refused r)
-other_refuses r found why = subst (λ (r : Refusal). IsRefusing (outcome.Refused r)) (sym why.1) tt
+other_so : (held : Folder) (name : List ℕ) (found : TypedSources) → IsFoundIn held name found → (IsLiteral found.program → ⊥) → (one : Program) → IsProgramIn held name one → IsLiteral one → ⊥
+other_so held name found is not one there literal = not (literal_too one found.program (one_folder held name one found.program there (found_in held name found is)) literal)
 
-not_made : (result : Outcome) (known : Option Folder) (name : List ℕ) (buffer : Option ℕ) (found : TypedSources) (old new : ℕ) → IfSome known (λ held. IsFoundIn held name found) → IsNotMade found result
-    → IsNotGone result name buffer known old new
-not_made (outcome.Refused r) known name buffer found old new is why = (other_refuses r found why, other_form known name buffer r found is why)
-not_made outcome.NoMemory known name buffer found old new is why = tt
-not_made other known name buffer found old new is why = absurd why
+abbrev holds_other : (held : Folder) (name : List ℕ) (found : TypedSources) → IsFoundIn held name found → AreFormed found.program → (IsLiteral found.program → ⊥) → HoldsOther held name
+holds_other held name found is formed not = record { program = found.program; is = found_in held name found is; formed = formed; other = other_so held name found is not }
 
-pub not_made_of : (known : Option Folder) (name : List ℕ) (found : TypedSources) (result : Result (List ℕ) Outcome) (old new : ℕ) → IfSome known (λ held. IsFoundIn held name found) → IfErr result (IsNotMade found)
-    → IfErr result (λ outcome. (buffer : Option ℕ) → IsNotGone outcome name buffer known old new)
-not_made_of known name found (Ok bytes) old new is why = tt
-not_made_of known name found (Err error) old new is why = λ buffer. not_made error known name buffer found old new is why
+pub compiled_from : (known : Option Folder) (name : List ℕ) (files : ProgramFiles) (found : TypedSources) → IfSome known (λ held. IsFoundIn held name found) → AreFormed found.program → (IsLiteral found.program → ⊥)
+    → AreFilesOf found.program files → IfSome known (λ held. IsCompiledFrom held name files)
+compiled_from None name files found is formed not made = tt
+compiled_from (Some held) name files found is formed not made = record { holds = holds_other held name found is formed not; made = made }
+
+cannot_compile : (known : Option Folder) (name : List ℕ) (buffer : Option ℕ) (r : Refusal) (found : TypedSources) → IfSome known (λ held. IsFoundIn held name found) → AreFormed found.program → (IsLiteral found.program → ⊥)
+    → IsNotCompiled found.program (outcome.Refused r) → IfSome known (λ held. IsNotBuilt held name buffer r)
+cannot_compile None name buffer r found is formed not why = tt
+cannot_compile (Some held) name buffer r found is formed not why = inr (inr (inl (record { holds = holds_other held name found is formed not; why = why })))
+
+-- A program that is not compiled is refused, or there was no memory.
+pub not_compiled_so : (result : Outcome) (known : Option Folder) (name : List ℕ) (buffer : Option ℕ) (found : TypedSources) (old new : ℕ) → IfSome known (λ held. IsFoundIn held name found) → AreFormed found.program
+    → (IsLiteral found.program → ⊥) → IsNotCompiled found.program result → IsNotGone result name buffer known old new
+not_compiled_so result known name buffer found old new is formed not why = subst (λ (o : Outcome). IsNotGone o name buffer known old new) (sym why.is) (by why.error why.cause)
+  where
+    refused : (r : Refusal) (error : BuildError) → IsRefused found.program error → outcome.Refused r ≡ not_compiled error → IfSome known (λ held. IsNotBuilt held name buffer r)
+    refused r error cause is_error = cannot_compile known name buffer r found is formed not (record { error = error; cause = cause; is = is_error })
+
+    by : (error : BuildError) → IsRefused found.program error → IsNotGone (not_compiled error) name buffer known old new
+    by (build.CodeTooLarge bytes) cause = (tt, refused (refusal.TooLarge what.Code bytes) (build.CodeTooLarge bytes) cause refl)
+    by (build.NotOverlayable unit) cause = (tt, refused (refusal.NotOverlayable unit) (build.NotOverlayable unit) cause refl)
+    by (build.DataTooLarge bytes) cause = (tt, refused (refusal.TooLarge what.Data bytes) (build.DataTooLarge bytes) cause refl)
+    by (build.ImageTooLarge paragraphs) cause = (tt, refused (refusal.TooLarge what.Image paragraphs) (build.ImageTooLarge paragraphs) cause refl)
+    by (build.TooManyRelocations count) cause = (tt, refused (refusal.TooLarge what.Relocations count) (build.TooManyRelocations count) cause refl)
+    by build.NoMemory cause = tt
+
+-- ---- no program
 
 no_program : (known : Option Folder) (name : List ℕ) (buffer : Option ℕ) (r : Refusal) → IfSome known (λ held. IsNoProgram held name (outcome.Refused r)) → IfSome known (λ held. IsNotBuilt held name buffer r)
 no_program None name buffer r why = tt
@@ -126,17 +131,17 @@ refusal_is : (a b : Refusal) → outcome.Refused a ≡ outcome.Refused b → a �
 refusal_is a b same = cc
 
 cannot : (known : Option Folder) (name bytes : List ℕ) (buffer : Option ℕ) (r : Refusal) (error : OpenError) → HasReason error → outcome.Refused r ≡ refused_as error → IfSome known (λ held. IsBuiltFrom held name bytes)
-    → IfSome known (λ held. IsRefused bytes (file_of name Overlays) (held (file_of name Overlays)) buffer error) → IfSome known (λ held. IsNotBuilt held name buffer r)
+    → IfSome known (λ held. IsUnopened bytes (file_of name Overlays) (held (file_of name Overlays)) buffer error) → IfSome known (λ held. IsNotBuilt held name buffer r)
 cannot None name bytes buffer r error has is built why = tt
 cannot (Some held) name bytes buffer r error has is built why =
     let does = built.does built.program built.is in
     let plain : IsPlain bytes = record { executable = does.agrees.executable; stubs = does.plain } in
     let told = plain_refusal bytes (file_of name Overlays) (held (file_of name Overlays)) buffer error plain why has in
-    inr (inr (record { bytes = bytes; built = built; large = told.1; refused = refusal_is r (refusal.MemoryTooSmall (needed bytes buffer)) (is ∙ ap refused_as told.0) }))
+    inr (inl (record { bytes = bytes; built = built; large = told.1; refused = refusal_is r (refusal.MemoryTooSmall (needed bytes buffer)) (is ∙ ap refused_as told.0) }))
 
 module _ (known : Option Folder) (name bytes : List ℕ) (buffer : Option ℕ) (old new : ℕ) (built : IfSome known (λ held. IsBuiltFrom held name bytes)) where
   abbrev Why : OpenError → Type 0
-  Why error = IfSome known (λ held. IsRefused bytes (file_of name Overlays) (held (file_of name Overlays)) buffer error)
+  Why error = IfSome known (λ held. IsUnopened bytes (file_of name Overlays) (held (file_of name Overlays)) buffer error)
 
   not_opened : (error : OpenError) → Why error → (error ≡ errors.FilesFault → HasRisen old new) → IsNotGone (refused_as error) name buffer known old new
   not_opened (errors.NotExecutable cause) why counted = (tt, cannot known name bytes buffer (refusal.NotExecutable cause) (errors.NotExecutable cause) tt refl built why)
@@ -153,11 +158,11 @@ module _ (known : Option Folder) (name bytes : List ℕ) (buffer : Option ℕ) (
 
 -- what opening tells of the bytes and the file that it was given
 pub why_by : (known now_known : Option Folder) (shown bytes given file : List ℕ) (buffer : Option ℕ) (error : OpenError) → now_known ≡ known → shown ≡ bytes → given ≡ file
-    → IfSome now_known (λ held. IsRefused shown given (held given) buffer error) → IfSome known (λ held. IsRefused bytes file (held file) buffer error)
+    → IfSome now_known (λ held. IsUnopened shown given (held given) buffer error) → IfSome known (λ held. IsUnopened bytes file (held file) buffer error)
 why_by known now_known shown bytes given file buffer error same texts names why =
-    let a = subst (λ (f : Option Folder). IfSome f (λ held. IsRefused shown given (held given) buffer error)) same why in
-    let b = subst (λ (t : List ℕ). IfSome known (λ held. IsRefused t given (held given) buffer error)) texts a in
-    subst (λ (n : List ℕ). IfSome known (λ held. IsRefused bytes n (held n) buffer error)) names b
+    let a = subst (λ (f : Option Folder). IfSome f (λ held. IsUnopened shown given (held given) buffer error)) same why in
+    let b = subst (λ (t : List ℕ). IfSome known (λ held. IsUnopened t given (held given) buffer error)) texts a in
+    subst (λ (n : List ℕ). IfSome known (λ held. IsUnopened bytes n (held n) buffer error)) names b
 
 -- what was opened the memory holds, with the buffer
 fitting : (bytes name : List ℕ) (held : Option (List ℕ)) (buffer : Option ℕ) (machine : State) (manager : Manager) → IsPlain bytes → IsOpened bytes name held buffer machine manager → needed bytes buffer ≤ 0xA000
@@ -168,29 +173,29 @@ fitting bytes name held buffer machine manager plain opened = by (cases_order (n
     by (inr (inl less)) = omega (arith, less)
     by (inr (inr more)) = absurd (no_reason bytes name held buffer machine manager (errors.MemoryTooSmall (needed bytes buffer)) opened tt (large_refusal bytes name held buffer plain more))
 
-pub prepared_by : (known now_known : Option Folder) (name shown given : List ℕ) (buffer : Option ℕ) (prepared : Prepared) (manager : Manager) → now_known ≡ known → shown ≡ prepared.bytes → IfSome known (λ held. IsBuiltFrom held name prepared.bytes)
-    → IfSome now_known (λ held. IsOpened shown given (held given) buffer prepared.machine manager) → IfSome known (λ held. IsPrepared held name buffer prepared)
-prepared_by None now_known name shown given buffer prepared manager same texts built opened = tt
-prepared_by (Some held) now_known name shown given buffer prepared manager same texts built opened =
-    let here = subst (λ (f : Option Folder). IfSome f (λ held. IsOpened shown given (held given) buffer prepared.machine manager)) same opened in
-    let there = subst (λ (t : List ℕ). IsOpened t given (held given) buffer prepared.machine manager) texts here in
+pub loaded_by : (known now_known : Option Folder) (name shown given bytes : List ℕ) (buffer : Option ℕ) (machine : State) (manager : Manager) → now_known ≡ known → shown ≡ bytes → IfSome known (λ held. IsBuiltFrom held name bytes)
+    → IfSome now_known (λ held. IsOpened shown given (held given) buffer machine manager) → IfSome known (λ held. IsLoaded held name buffer bytes machine)
+loaded_by None now_known name shown given bytes buffer machine manager same texts built opened = tt
+loaded_by (Some held) now_known name shown given bytes buffer machine manager same texts built opened =
+    let here = subst (λ (f : Option Folder). IfSome f (λ held. IsOpened shown given (held given) buffer machine manager)) same opened in
+    let there = subst (λ (t : List ℕ). IsOpened t given (held given) buffer machine manager) texts here in
     let does = built.does built.program built.is in
-    let plain : IsPlain prepared.bytes = record { executable = does.agrees.executable; stubs = does.plain } in
-    record { built = built; fits = fitting prepared.bytes given (held given) buffer prepared.machine manager plain there; starts = there.machine_is }
+    let plain : IsPlain bytes = record { executable = does.agrees.executable; stubs = does.plain } in
+    record { built = built; fits = fitting bytes given (held given) buffer machine manager plain there; starts = there.machine_is }
 
 -- ---- the run
 
-pub prepared_built : (known : Option Folder) (name : List ℕ) (buffer : Option ℕ) (prepared : Prepared) → IfSome known (λ held. IsPrepared held name buffer prepared) → IfSome known (λ held. IsBuiltFrom held name prepared.bytes)
-prepared_built None name buffer prepared is = tt
-prepared_built (Some held) name buffer prepared is = is.built
+pub loaded_built : (known : Option Folder) (name bytes : List ℕ) (buffer : Option ℕ) (machine : State) → IfSome known (λ held. IsLoaded held name buffer bytes machine) → IfSome known (λ held. IsBuiltFrom held name bytes)
+loaded_built None name bytes buffer machine is = tt
+loaded_built (Some held) name bytes buffer machine is = is.built
 
-pub prepared_fits : (known : Option Folder) (name : List ℕ) (buffer : Option ℕ) (prepared : Prepared) → IfSome known (λ held. IsPrepared held name buffer prepared) → IfSome known (λ held. needed prepared.bytes buffer ≤ 0xA000)
-prepared_fits None name buffer prepared is = tt
-prepared_fits (Some held) name buffer prepared is = is.fits
+pub loaded_fits : (known : Option Folder) (name bytes : List ℕ) (buffer : Option ℕ) (machine : State) → IfSome known (λ held. IsLoaded held name buffer bytes machine) → IfSome known (λ held. needed bytes buffer ≤ 0xA000)
+loaded_fits None name bytes buffer machine is = tt
+loaded_fits (Some held) name bytes buffer machine is = is.fits
 
-pub prepared_starts : (known : Option Folder) (name : List ℕ) (buffer : Option ℕ) (prepared : Prepared) → IfSome known (λ held. IsPrepared held name buffer prepared) → IfSome known (λ held. prepared.machine ≡ loaded (exe_of prepared.bytes))
-prepared_starts None name buffer prepared is = tt
-prepared_starts (Some held) name buffer prepared is = is.starts
+pub loaded_starts : (known : Option Folder) (name bytes : List ℕ) (buffer : Option ℕ) (machine : State) → IfSome known (λ held. IsLoaded held name buffer bytes machine) → IfSome known (λ held. machine ≡ loaded (exe_of bytes))
+loaded_starts None name bytes buffer machine is = tt
+loaded_starts (Some held) name bytes buffer machine is = is.starts
 
 pub no_files : (end : RunEnd) (limit : ℕ) (start last : State) (o o' : Outside) → RunsTo end limit start last o o' → end ≡ ends.FilesFault → ⊥
 no_files ends.FilesFault limit start last o o' run is = run.run.leaves

@@ -1,33 +1,24 @@
 -- The program that the files of a folder hold: what is said of it where it lies in memory once is said of it everywhere.
-use Rattle.std.proofs.Common.{◌≡◌, ℕ, List, [], ◌∷◌, Option, Some, None, inl, inr, refl, ap, ◌∙◌, subst}
+use Rattle.std.proofs.Common.{◌≡◌, ℕ, List, Option, Some, None, inl, inr, subst}
 use Rattle.std.specs.Prelude.{IfSome}
 use Rattle.tp_outside.specs.Folder.{Folder}
-use Rattle.type_layout.specs.declared.texts.Place.{Place}
-use Rattle.tp_lexer.specs.declared.token.Text.{Text}
-use Rattle.tp_lexer.specs.declared.token.Feature.TheVariants.{NotYet}
 use Rattle.common_values.specs.behaviour.Seen.{Seen}
 use Rattle.typed_tree.specs.declared.units.Program.{Program}
-use Rattle.source_graph.specs.declared.sources.Source.{Source}
-use Rattle.source_graph.specs.Texts.{at}
 use Rattle.mz_file.specs.Format.{exe_of}
 use Rattle.literal_programs.specs.literal_code.Ends.{EndsAs, EndsWithin}
 use Rattle.literal_programs.specs.Literals.{IsLiteral}
-use Rattle.front_end.specs.declared.outcomes.refusal.Refusal.{Refusal}
-use Rattle.front_end.specs.declared.outcomes.refusal.Refusal.TheVariants as refusal
 use Rattle.front_end.specs.declared.outcomes.outcome.Outcome.{Outcome}
 use Rattle.commands.specs.mean_program.Shown.{Sinks, Writes, Shows}
 use Rattle.front_end.specs.declared.program.TypedSources.{TypedSources}
 use Rattle.front_end.specs.Found.{IsFoundIn}
 use Rattle.front_end.specs.Typed.{IsProgramIn}
 use Rattle.front_end.specs.Untyped.{IsNoProgram}
-use Rattle.source_graph.specs.determinism.Alike.{AreAlike}
 use Rattle.checked_front_end.specs.interfaces_consistent.determinism.Folder.{FoundNone}
 use Rattle.checked_front_end.proofs.interfaces_consistent_proofs.determinism.Programs.{found_none}
 use Rattle.literal_form_laws.specs.address_independence.congruence.Laws.{IsSame}
 use Rattle.literal_form_laws.proofs.address_independence_proofs.congruence.Runs.{means_alike}
 use Rattle.literal_form_laws.proofs.congruence.Programs.{says_alike, has_memory_alike}
-use Rattle.literal_form_laws.proofs.congruence.Places.{place_alike}
-use Rattle.commands.specs.Go.{place_of_first, DoesSoon, IsBuiltFrom}
+use Rattle.commands.specs.Go.{DoesSoon, IsBuiltFrom}
 use Rattle.commands.specs.Turbo.{HoldsLiteral}
 
 -- ---- where the folder is told
@@ -78,19 +69,3 @@ does_so held name bytes built = built.does built.program built.is
 
 pub holds_literal : (held : Folder) (name bytes : List ℕ) → IsBuiltFrom held name bytes → HoldsLiteral held name
 holds_literal held name bytes built = record { program = built.program; is = built.is; literal = λ one here. (built.does one here).literal }
-
--- ---- where they leave the literal form
-
-first_alike : (ones others : List Source) (one other : Program) → AreAlike ones others → IsSame one other → place_of_first ones one ≡ place_of_first others other
-first_alike [] [] one other alike same = refl
-first_alike [] (o ∷ os) one other alike same = absurd alike
-first_alike (s ∷ ss) [] one other alike same = absurd alike
-first_alike (s ∷ ss) (o ∷ os) one other alike same = place_alike s.tree o.tree one other alike.0.whole alike.0.tree same
-
-abbrev not_yet : List Text → Place → Refusal
-not_yet texts place = refusal.NotInProfile (at texts place) NotYet
-
-pub told_alike : (texts more : List Text) (ones others : List Source) (one other : Program) → texts ≡ more → AreAlike ones others → IsSame one other
-    → refusal.NotInProfile (at texts (place_of_first ones one)) NotYet ≡ refusal.NotInProfile (at more (place_of_first others other)) NotYet
-told_alike texts more ones others one other same_texts alike same =
-    ap (λ (t : List Text). not_yet t (place_of_first ones one)) same_texts ∙ ap (λ (p : Place). not_yet more p) (first_alike ones others one other alike same)

@@ -1,9 +1,12 @@
 pub mod FileLaws
+pub mod FolderLaws
 pub mod WordLaws
 pub mod AbsentLaws
 pub mod HeldLaws
 pub mod BuildLaws
 pub mod RanLaws
+pub mod CompiledLaws
+pub mod OpenedLaws
 pub mod GoLaws
 pub mod WentLaws
 pub mod RunLaws

@@ -246,8 +246,8 @@ quiet_line result old mid errors faults quiet line = record {
 quiet_unchanged : (result : Outcome) (words : List (List ℕ)) (old mid : World) (errors : Option (List ℕ)) (faults : ℕ) → IsQuiet result old mid → errors ≡ append_known mid.streams.errors (line_of result)
     → Unchanged words old (told mid errors faults) result
 quiet_unchanged (outcome.Refused r) words old mid errors faults quiet line = quiet_line (outcome.Refused r) old mid errors faults quiet line
-quiet_unchanged outcome.FilesFault words old mid errors faults quiet line = λ name options asked. quiet_line outcome.FilesFault old mid errors faults quiet line
-quiet_unchanged outcome.NoMemory words old mid errors faults quiet line = quiet_line outcome.NoMemory old mid errors faults quiet line
+quiet_unchanged outcome.FilesFault words old mid errors faults quiet line = λ name options asked. inl (quiet_line outcome.FilesFault old mid errors faults quiet line)
+quiet_unchanged outcome.NoMemory words old mid errors faults quiet line = inl (quiet_line outcome.NoMemory old mid errors faults quiet line)
 quiet_unchanged other words old mid errors faults quiet line = tt
 
 end_unchanged : (result : Outcome) (words : List (List ℕ)) (old new : World) → IsEnd result → Unchanged words old new result

@@ -1,5 +1,5 @@
 -- What a run of the executable shows.
-use Rattle.std.proofs.Common.{◌≡◌, ℕ, ◌≤◌, ◌<◌, ◌+◌, List, [], length, Option, Some, None, inl, inr, sym, ap, ◌∙◌, subst, arith}
+use Rattle.std.proofs.Common.{◌≡◌, ◌⊎◌, ℕ, ◌≤◌, ◌<◌, ◌+◌, List, [], length, Option, Some, None, inl, inr, sym, ap, ◌∙◌, subst, arith}
 use Rattle.std.specs.Prelude.{IfSome}
 use Rattle.std.proofs.lemmas.List.{take_all}
 use Rattle.std.specs.Io.KnownBytes.{append_known}
@@ -32,10 +32,11 @@ use Rattle.commands.specs.mean_program.Shown.{WritesAll, Stands}
 use Rattle.command_line.specs.declared.command.RunOptions.{RunOptions}
 use Rattle.commands.specs.declared.names.FileKind.TheVariants.{Executable, Overlays}
 use Rattle.commands.specs.Files.{file_of}
+use Rattle.commands.specs.Compiled.{HoldsOther}
 use Rattle.commands.specs.Go.{DoesSoon, RanBuilt}
 use Rattle.commands.specs.Mean.{sinks_of}
 use Rattle.commands.specs.Run.{limit_of, retry_of, BeginsNamed, RunsFrom}
-use Rattle.commands.specs.Turbo.{HoldsExecutable, IsWritten, TookPrefix}
+use Rattle.commands.specs.Turbo.{HoldsExecutable, HoldsCompiled, IsWritten, TookLiteral}
 use Rattle.commands.specs.World.{World, Holds}
 
 -- The world after more was written to the errors.
@@ -121,38 +122,38 @@ wrote_all program bytes does limit last old mid errors faults code run line inpu
 -- ---- where the folder is told
 
 pub stands_there : (folder now : Option Folder) (end : RunEnd) (name bytes : List ℕ) (options : RunOptions) (o o' : Outside) → IfSome folder (λ held. RanBuilt held end name bytes options o o')
-    → now ≡ with_known_file folder (file_of name Executable) bytes → IfSome folder (λ held. HoldsExecutable held now name)
+    → now ≡ with_known_file folder (file_of name Executable) bytes → IfSome folder (λ held. HoldsExecutable held now name ⊎ HoldsCompiled held now name)
 stands_there None now end name bytes options o o' ran is = tt
-stands_there (Some held) now end name bytes options o o' ran is = record {
+stands_there (Some held) now end name bytes options o o' ran is = inl (record {
   program = ran.built.program;
   is = ran.built.is;
   formed = ran.built.formed;
   bytes = bytes;
   there = subst (λ (f : Option Folder). Holds f (file_of name Executable) bytes) (sym is) (with_file-same held (file_of name Executable) bytes);
   agrees = λ one here. (ran.built.does one here).agrees;
-}
+})
 
 pub written_there : (folder : Option Folder) (name bytes : List ℕ) (options : RunOptions) (old mid : World) (errors : Option (List ℕ)) (faults code : ℕ)
     → IfSome folder (λ held. RanBuilt held (ends.Ended code) name bytes options old.streams mid.streams) → errors ≡ append_known mid.streams.errors []
-    → IfSome folder (λ held. IsWritten held name (outcome.Program code) old (told mid errors faults))
+    → IfSome folder (λ held. IsWritten held name (outcome.Program code) old (told mid errors faults) ⊎ HoldsOther held name)
 written_there None name bytes options old mid errors faults code ran line = tt
-written_there (Some held) name bytes options old mid errors faults code ran line = record {
+written_there (Some held) name bytes options old mid errors faults code ran line = inl (record {
   program = ran.built.program;
   is = ran.built.is;
   all = λ one here. wrote_all one bytes (ran.built.does one here) (limit_of options) ran.last old mid errors faults code ran.run line;
-}
+})
 
 pub prefix_of_output : (folder : Option Folder) (end : RunEnd) (name bytes : List ℕ) (options : RunOptions) (o o' : Outside) → IfSome folder (λ held. RanBuilt held end name bytes options o o')
-    → IfSome folder (λ held. TookPrefix held name (λ (seen : Seen). seen.out) o.output o'.output)
+    → IfSome folder (λ held. TookLiteral held name (λ (seen : Seen). seen.out) o.output o'.output)
 prefix_of_output None end name bytes options o o' ran = tt
 prefix_of_output (Some held) end name bytes options o o' ran =
-    inr (ran.built.program, ran.built.is, λ one here. took_output one bytes (ran.built.does one here) (limit_of options) ran.last o o' end ran.run)
+    inl (inr (ran.built.program, ran.built.is, λ one here. took_output one bytes (ran.built.does one here) (limit_of options) ran.last o o' end ran.run))
 
 pub prefix_of_errors : (folder : Option Folder) (end : RunEnd) (name bytes : List ℕ) (options : RunOptions) (o o' : Outside) → IfSome folder (λ held. RanBuilt held end name bytes options o o')
-    → IfSome folder (λ held. TookPrefix held name (λ (seen : Seen). seen.err) o.errors o'.errors)
+    → IfSome folder (λ held. TookLiteral held name (λ (seen : Seen). seen.err) o.errors o'.errors)
 prefix_of_errors None end name bytes options o o' ran = tt
 prefix_of_errors (Some held) end name bytes options o o' ran =
-    inr (ran.built.program, ran.built.is, λ one here. took_errors one bytes (ran.built.does one here) (limit_of options) ran.last o o' end ran.run)
+    inl (inr (ran.built.program, ran.built.is, λ one here. took_errors one bytes (ran.built.does one here) (limit_of options) ran.last o o' end ran.run))
 
 -- ---- programs that were opened
 

@@ -109,7 +109,7 @@ pub causes : (result : Outcome) (words : List (List ℕ)) (old mid : World) (err
 causes result words old mid errors faults ran = record {
   usage = λ none. absurd (none.run ran.name ran.options ran.asked);
   missing = λ name options asked lacks. absurd (not_both words name ran.name options ran.options asked ran.asked);
-  outside = λ name options asked lacking. absurd (not_both words name ran.name options ran.options asked ran.asked);
+  unfound = λ name options asked lacking. absurd (not_both words name ran.name options ran.options asked ran.asked);
   absent = λ name options asked lacks. by name options lacks (ran.did name options asked);
   unopened = λ name options error asked has why. not-opened name options error has why (ran.did name options asked);
 }
@@ -182,7 +182,7 @@ gave-up-unchanged : (result : Outcome) (name : List ℕ) (buffer : Option ℕ) (
     → errors ≡ append_known mid.streams.errors (line_of result) → Unchanged words old (told mid errors faults) result
 gave-up-unchanged (outcome.Refused r) name buffer words old mid errors faults not gave line = wrote_its_line (outcome.Refused r) old mid errors faults gave.untouched line
 gave-up-unchanged outcome.FilesFault name buffer words old mid errors faults not gave line = λ other gone asked. absurd (not other gone asked)
-gave-up-unchanged outcome.NoMemory name buffer words old mid errors faults not gave line = wrote_its_line outcome.NoMemory old mid errors faults gave.untouched line
+gave-up-unchanged outcome.NoMemory name buffer words old mid errors faults not gave line = inl (wrote_its_line outcome.NoMemory old mid errors faults gave.untouched line)
 gave-up-unchanged other name buffer words old mid errors faults not gave line = tt
 
 ran-unchanged : (end : RunEnd) (words : List (List ℕ)) (old new : World) → ((other : List ℕ) (gone : RunOptions) → IsGo words other gone → ⊥) → Unchanged words old new (outcome_of end)

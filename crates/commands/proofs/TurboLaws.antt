@@ -168,7 +168,7 @@ unchanged result words old mid errors faults (inl misused) line =
     (wrote_its_line usage old mid errors faults misused.untouched (line ∙ ap (λ (o : Outcome). append_known mid.streams.errors (line_of o)) misused.is))
 unchanged result words old mid errors faults (inr (inl went)) line = go.unchanged result words old mid errors faults went line
 unchanged result words old mid errors faults (inr (inr (inl ran))) line = run.unchanged result words old mid errors faults ran line
-unchanged result words old mid errors faults (inr (inr (inr (inl out)))) line = subst (λ (o : Outcome). Unchanged words old (told mid errors faults) o) (sym out.is) (wrote_its_line outcome.NoMemory old mid errors faults out.untouched (line ∙ ap (λ (o : Outcome). append_known mid.streams.errors (line_of o)) out.is))
+unchanged result words old mid errors faults (inr (inr (inr (inl out)))) line = subst (λ (o : Outcome). Unchanged words old (told mid errors faults) o) (sym out.is) (inl (wrote_its_line outcome.NoMemory old mid errors faults out.untouched (line ∙ ap (λ (o : Outcome). append_known mid.streams.errors (line_of o)) out.is)))
 unchanged result words old mid errors faults (inr (inr (inr (inr (inl shown))))) line = text.unchanged result words shown.text old mid errors faults shown.shown
 unchanged result words old mid errors faults (inr (inr (inr (inr (inr meant))))) line = mean.unchanged result words old mid errors faults meant line
 
@@ -204,7 +204,7 @@ causes : (result : Outcome) (words : List (List ℕ)) (old mid : World) (errors 
 causes result words old mid errors faults (inl misused) line = record {
   usage = misused-so result result words old mid errors faults (inl misused) (inl (refl, line));
   missing = λ name options asked lacks. absurd (misused.none.go name options asked);
-  outside = λ name options asked lacking. absurd (misused.none.go name options asked);
+  unfound = λ name options asked lacking. absurd (misused.none.go name options asked);
   absent = λ name options asked lacks. absurd (misused.none.run name options asked);
   unopened = λ name options error asked has why. absurd (misused.none.run name options asked);
 }
@@ -213,21 +213,21 @@ causes result words old mid errors faults (inr (inr (inl ran))) line = run.cause
 causes result words old mid errors faults (inr (inr (inr (inl out)))) line = subst (λ (o : Outcome). Refuses words old (told mid errors faults) o) (sym out.is) (record {
   usage = λ none. misuses outcome.NoMemory outcome.NoMemory old mid errors faults (inr refl) out.untouched (inl (refl, line ∙ ap (λ (o : Outcome). append_known mid.streams.errors (line_of o)) out.is));
   missing = λ name options asked lacks. inr tt;
-  outside = λ name options asked lacking. inr tt;
+  unfound = λ name options asked lacking. inr tt;
   absent = λ name options asked lacks. inr tt;
   unopened = λ name options error asked has why. inr tt;
 })
 causes result words old mid errors faults (inr (inr (inr (inr (inl shown))))) line = record {
   usage = λ none. absurd (none.text shown.text shown.asked);
   missing = λ name options asked lacks. absurd (not_go words shown.text name options shown.asked asked);
-  outside = λ name options asked lacking. absurd (not_go words shown.text name options shown.asked asked);
+  unfound = λ name options asked lacking. absurd (not_go words shown.text name options shown.asked asked);
   absent = λ name options asked lacks. absurd (not_run words shown.text name options shown.asked asked);
   unopened = λ name options error asked has why. absurd (not_run words shown.text name options shown.asked asked);
 }
 causes result words old mid errors faults (inr (inr (inr (inr (inr meant))))) line = record {
   usage = λ none. absurd (none.mean meant.name meant.turns meant.asked);
   missing = λ name options asked lacks. absurd (not_go_and_mean words name meant.name options meant.turns asked meant.asked);
-  outside = λ name options asked lacking. absurd (not_go_and_mean words name meant.name options meant.turns asked meant.asked);
+  unfound = λ name options asked lacking. absurd (not_go_and_mean words name meant.name options meant.turns asked meant.asked);
   absent = λ name options asked lacks. absurd (not_run_and_mean words name meant.name options meant.turns asked meant.asked);
   unopened = λ name options error asked has why. absurd (not_run_and_mean words name meant.name options meant.turns asked meant.asked);
 }
@@ -284,7 +284,7 @@ line_failed inner words old mid errors faults did front counted rose =
     record {
       usage = misused-so inner outcome.ErrorsFault words old mid errors faults did (inr (refl, front));
       missing = λ name options asked lacks. inr all;
-      outside = λ name options asked lacking. inr all;
+      unfound = λ name options asked lacking. inr all;
       absent = λ name options asked lacks. inr all;
       unopened = λ name options error asked has why. inr all;
     }

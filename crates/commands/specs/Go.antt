@@ -1,17 +1,10 @@
 -- What `go` does before its last line.
-use Rattle.std.specs.Prelude.{◌≡◌, ◌⊎◌, ◌<◌, ◌≤◌, ℕ, List, [], ◌∷◌, length, Option, Some, IfSome}
+use Rattle.std.specs.Prelude.{◌≡◌, ◌⊎◌, ◌<◌, ◌≤◌, ℕ, List, [], length, Option, Some, IfSome}
 use Rattle.tp_outside.specs.Faults.{HasRisen}
 use Rattle.tp_outside.specs.Folder.{Folder, with_known_file}
-use Rattle.type_layout.specs.declared.texts.Place.{Place}
-use Rattle.tp_lexer.specs.declared.token.Text.{Text}
-use Rattle.tp_lexer.specs.declared.token.Feature.TheVariants.{NotYet}
-use Rattle.source_graph.specs.declared.sources.Source.{Source}
-use Rattle.source_graph.specs.Texts.{at}
-use Rattle.source_graph.specs.Walk.{Gathers}
 use Rattle.typed_tree.specs.declared.units.Program.{Program}
 use Rattle.tp_meaning.specs.Meaning.{mean}
-use Rattle.front_end.specs.declared.program.TypedSources.{TypedSources}
-use Rattle.front_end.specs.Typed.{IsProgram, IsProgramIn}
+use Rattle.front_end.specs.Typed.{IsProgramIn}
 use Rattle.front_end.specs.Untyped.{IsRefusing}
 use Rattle.checked_front_end.specs.Formed.{AreFormed}
 use Rattle.checked_front_end.specs.interfaces_consistent.determinism.Folder.{FoundNone}
@@ -20,7 +13,6 @@ use Rattle.literal_programs.specs.Agrees.{Agrees}
 use Rattle.literal_programs.specs.Memory.{HasMemoryOf}
 use Rattle.literal_programs.specs.literal_code.Ends.{EndsWithin}
 use Rattle.literal_programs.specs.literal_code.Size.{image_size}
-use Rattle.literal_form_laws.specs.literal_places.Places.{place_outside}
 use Rattle.cpu_8086.specs.State.{State}
 use Rattle.mz_file.specs.Format.{exe_of}
 use Rattle.mz_file.specs.Load.{loaded}
@@ -36,30 +28,13 @@ use Rattle.front_end.specs.declared.outcomes.refusal.Refusal.TheVariants as refu
 use Rattle.front_end.specs.declared.outcomes.outcome.Outcome.{Outcome}
 use Rattle.front_end.specs.declared.outcomes.outcome.Outcome.TheVariants as outcome
 use Rattle.commands.specs.declared.names.FileKind.TheVariants.{Executable}
+use Rattle.commands.specs.Compiled.{CannotCompile, CannotOpen, BrokeOff, WentCompiled}
 use Rattle.commands.specs.Files.{file_of}
 use Rattle.commands.specs.Ending.{outcome_of}
 use Rattle.commands.specs.Run.{limit_of}
 use Rattle.commands.specs.World.{World, IsUntouched}
 
 -- ---- programs of literals
-
--- where sources leave the literal form: in the first of them, which is the program's own
-abbrev pub place_of_first : List Source → Program → Place
-place_of_first [] program = record { text = 0; line = 1; column = 1 }
-place_of_first (source ∷ sources) program = place_outside source.tree program
-
--- what is said of sources that leave it
-abbrev pub other_form : TypedSources → Refusal
-other_form found = refusal.NotInProfile (at found.texts.items (place_of_first found.sources.items found.program)) NotYet
-
--- The files hold a program of this name, and none that is of the literal form. It is not built yet at the first node that the form lacks,
--- which is one place, however the sources are gathered and the program lies in memory.
-pub record IsOfOtherForm (held : Folder) (name : List ℕ) (r : Refusal) : Type 0 where
-  pub program : Program
-  pub is : IsProgramIn held name program
-  pub other : (one : Program) → IsProgramIn held name one → IsLiteral one → ⊥
-  pub refused : (texts : List Text) (sources : List Source) (one : Program) → Gathers held name texts sources → IsProgram sources one
-      → r ≡ refusal.NotInProfile (at texts (place_of_first sources one)) NotYet
 
 -- A program is of the literal form, and these bytes do what it means, soon, without overlays, in the memory that it asks for. They are those
 -- of an executable as it is written, with nothing behind it, and its image is just as large as what the program says asks for.
@@ -71,12 +46,6 @@ pub record DoesSoon (program : Program) (bytes : List ℕ) : Type 0 where
   pub memory : HasMemoryOf program (exe_of bytes)
   pub agrees : Agrees program bytes
   pub soon : (input : List ℕ) (turns : ℕ) → EndsWithin 16389 bytes input (mean program input turns)
-
--- Why it was not made to an executable: it is of another form.
-abbrev pub IsNotMade : TypedSources → Outcome → Type 0
-IsNotMade found (outcome.Refused r) = (IsLiteral found.program → ⊥) × (r ≡ other_form found)
-IsNotMade found outcome.NoMemory = Unit {0}
-IsNotMade found other = ⊥
 
 -- The files hold a program of this name, of well-formed units, and these bytes do what each means that they hold, which is of the literal
 -- form.
@@ -96,10 +65,11 @@ pub record CannotBegin (held : Folder) (name : List ℕ) (buffer : Option ℕ) (
 
 -- ---- refusals
 
--- Why the program of this name is refused that is to be built and run: the files hold none, or what they hold is of another form, or it
--- cannot begin.
+-- Why the program of this name is refused that is to be built and run: the files hold none; or one of literals, which cannot begin; or any
+-- other, which is not compiled or would not be opened.
 abbrev pub IsNotBuilt : Folder → List ℕ → Option ℕ → Refusal → Type 0
-IsNotBuilt held name buffer r = FoundNone held name (outcome.Refused r) ⊎ (IsOfOtherForm held name r ⊎ CannotBegin held name buffer r)
+IsNotBuilt held name buffer r =
+    FoundNone held name (outcome.Refused r) ⊎ (CannotBegin held name buffer r ⊎ (CannotCompile held name r ⊎ CannotOpen held name buffer r))
 
 -- Why it was not run. Faults and out of memory have no cause there.
 abbrev pub HasNoRun : Folder → Outcome → List ℕ → Option ℕ → Type 0
@@ -138,6 +108,8 @@ pub record WentTo (end : RunEnd) (name : List ℕ) (options : RunOptions) (old n
   pub reads : end ≡ ends.FilesFault → ⊥
   pub written : new.folder ≡ with_known_file old.folder (file_of name Executable) bytes
 
+-- Nothing was written; or the executable of a program of literals was written and run; or of any other the files, or the first of two.
 abbrev pub GoDid : Outcome → List ℕ → RunOptions → World → World → Type 0
 GoDid result name options old new =
-    GaveNoRun result name options.buffer old new ⊎ ((end : RunEnd) × (result ≡ outcome_of end) × WentTo end name options old new)
+    GaveNoRun result name options.buffer old new ⊎ (((end : RunEnd) × (result ≡ outcome_of end) × WentTo end name options old new)
+    ⊎ (BrokeOff result name old new ⊎ ((end : RunEnd) × (result ≡ outcome_of end) × WentCompiled end name options old new)))

@@ -1,3 +1,4 @@
+pub mod Compiled
 pub mod Ending
 pub mod Files
 pub mod Go

@@ -1,6 +1,7 @@
 //! The commands of `tp`: from the words of a command line to what it does.
 #![tactic(auto)]
 
+mod compiled;
 mod ending;
 mod go;
 mod mean;

@@ -18,7 +18,8 @@ pub fn help_text() -> &'static str
      \x20      tp run NAME [--buffer P] [--limit N] [--retry P]\n\
      \x20      tp --help\n\
      \x20      tp --version\n\n\
-     go   reads name.pas and its units, writes name.exe, and runs it\n\
+     go   reads name.pas and its units, writes name.exe, with name.ovr if it has\n\
+     \x20    overlays, and runs it\n\
      mean reads name.pas and its units, and shows what the program means\n\
      run  runs name.exe, with name.ovr if it has overlays\n\n\
      The program reads standard input, which Ctrl-D ends at a terminal; mean\n\

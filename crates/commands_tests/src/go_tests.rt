@@ -37,7 +37,7 @@ const TAKEN_ROWS: [Row; 12] = [
     (0, 2, 1, 254, New, "Hi", ""),
 ];
 
-const REFUSED: &[u8] = b"begin Write(1) end.";
+const REFUSED: &[u8] = b"begin Write(x) end.";
 
 const REFUSED_ROWS: [Row; 7] = [
     (
@@ -47,7 +47,7 @@ const REFUSED_ROWS: [Row; 7] = [
         252,
         Old,
         "",
-        "tp: NotInProfile a.pas:1:13 NotYet\n",
+        "tp: CheckRefused a.pas:1:13 UnknownName 1\n",
     ),
     (1, 0, 0, 254, Old, "", "tp: FilesFault\n"),
     (2, 0, 0, 254, Old, "", "tp: FilesFault\n"),
@@ -58,7 +58,7 @@ const REFUSED_ROWS: [Row; 7] = [
         252,
         Old,
         "",
-        "tp: NotInProfile a.pas:1:13 NotYet\n",
+        "tp: CheckRefused a.pas:1:13 UnknownName 1\n",
     ),
     (
         0,
@@ -67,7 +67,7 @@ const REFUSED_ROWS: [Row; 7] = [
         252,
         Old,
         "",
-        "tp: NotInProfile a.pas:1:13 NotYet\n",
+        "tp: CheckRefused a.pas:1:13 UnknownName 1\n",
     ),
     (0, 0, 1, 254, Old, "", ""),
     (
@@ -77,7 +77,7 @@ const REFUSED_ROWS: [Row; 7] = [
         252,
         Old,
         "",
-        "tp: NotInProfile a.pas:1:13 NotYet\n",
+        "tp: CheckRefused a.pas:1:13 UnknownName 1\n",
     ),
 ];
 

@@ -2,6 +2,8 @@
 #![tactic(auto)]
 
 #[cfg(test)]
+mod compiled_tests;
+#[cfg(test)]
 mod go_tests;
 #[cfg(test)]
 mod mean_tests;

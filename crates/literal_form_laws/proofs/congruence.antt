@@ -1,4 +1,2 @@
 pub mod Units
 pub mod Programs
-pub mod Outlines
-pub mod Places

@@ -1,3 +1,2 @@
 pub use Rattle.address_independence.specs as address_independence
 pub mod congruence
-pub mod literal_places

@@ -1,5 +1,4 @@
-//! (likewise) their forms.
+//! Laws on programs of literals that lie in memory in different ways.
 #![tactic(auto)]
 
 pub mod congruence;
-pub mod literal_places;

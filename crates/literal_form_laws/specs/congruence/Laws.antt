@@ -1,8 +1,5 @@
 -- What typed programs that are the same have in common, as programs of literals.
 use Rattle.std.specs.Prelude.{◌≡◌, List}
-use Rattle.ll1_grammar.specs.whole_trees.Whole.{IsWhole}
-use Rattle.syntax_tree.specs.declared.source_tree.source.Tree.{Tree}
-use Rattle.syntax_tree.specs.source_tree.Sources.{of_tree}
 use Rattle.typed_tree.specs.declared.units.Program.{Program}
 use Rattle.tp_meaning.specs.Programs.{stack_of, heap_of}
 use Rattle.address_independence.specs.congruence.Laws.{IsSame}
@@ -10,7 +7,6 @@ use Rattle.mz_file.specs.declared.executable.Exe.{Exe}
 use Rattle.literal_programs.specs.literal_code.Statement.{Statement}
 use Rattle.literal_programs.specs.Literals.{Says}
 use Rattle.literal_programs.specs.Memory.{HasMemoryOf}
-use Rattle.literal_form_laws.specs.literal_places.Places.{place_outside}
 
 -- The same is said by both, so both are programs of literals or neither is.
 abbrev pub SaysAlike : Type 0
@@ -22,8 +18,3 @@ MemoryAlike = (one other : Program) → IsSame one other → (stack_of one ≡ s
 
 abbrev pub HasMemoryAlike : Type 0
 HasMemoryAlike = (one other : Program) → IsSame one other → (exe : Exe) → HasMemoryOf one exe → HasMemoryOf other exe
-
--- Where their sources are spelled alike, both leave the literal form at one place.
-abbrev pub PlaceAlike : Type 0
-PlaceAlike = (tree another : Tree) (one other : Program) → IsWhole (of_tree tree) → of_tree tree ≡ of_tree another → IsSame one other
-    → place_outside tree one ≡ place_outside another other

@@ -1,3 +1,0 @@
-mod OutlineViews
-mod WalkSteps
-mod PlaceLaws
