@@ -36,7 +36,7 @@ use Rattle.overlay_services.proofs.ReadyLaws.{begins_taken, stands_after}
 use Rattle.overlay_services.proofs.SoundLaws.{sound_with, seated_told}
 use Rattle.overlay_services.proofs.TableEvents.{served, illegal_event, served_event}
 use Rattle.overlay_services.proofs.WrittenLaws.{Begins}
-use Rattle.tabled_runs.specs.Tables.{On, NotLegal, next_table, later_tables, seats_of}
+use Rattle.tabled_runs.specs.Tables.{TabledRuns, On, NotLegal, next_table, later_tables, seats_of}
 
 module _ (p : Program) (kept : ℕ → Bool) (bytes : List ℕ) (t : ResidentState) (q : Managed) (u : Process) (here : IsSeated p kept bytes q.manager) (whole : IsWhole p kept t) (framed : IsFramed p false t) (h : AtBegin p t q u) (tables : List Table) where
   abbrev m : Manager
@@ -69,13 +69,13 @@ module _ (p : Program) (kept : ℕ → Bool) (bytes : List ℕ) (t : ResidentSta
   abbrev denoted : List Denoted
   denoted = Into h.overlay t.registers.ip ∷ items_of t.records
 
-  apart : TellsApart p old
+  pub apart : TellsApart p old
   apart = seated_told p kept bytes m here
 
-  begins : Begins p kept bytes m met t s false denoted
+  pub begins : Begins p kept bytes m met t s false denoted
   begins = begins_taken p kept bytes m here.sound apart t whole h.half framed h.overlay h.code h.found begin u h.stands h.saved h.overlays s (record { ss = refl; sp = refl; bp = refl; memory = refl })
 
-  chain : chain_of m.marked s ≡ Ok framed.links
+  pub chain : chain_of m.marked s ≡ Ok framed.links
   chain = chain_is p m met kept t s false begins.ready framed
 
   -- an overlay was entered, so that they are installed
@@ -86,7 +86,7 @@ module _ (p : Program) (kept : ℕ → Bool) (bytes : List ℕ) (t : ResidentSta
     abbrev after : List ℕ
     after = memory_after m bytes false seats s
 
-    abbrev served_it : Managed
+    abbrev pub served_it : Managed
     served_it = served bytes led tables s (return_runs p t q u here.sound.manages apart h) (return_steps p t q u here.sound.manages apart h) trap (return_trap p t q u here.sound.manages apart h) framed.links refl chain
 
     abbrev back : Far
@@ -120,18 +120,17 @@ module _ (p : Program) (kept : ℕ → Bool) (bytes : List ℕ) (t : ResidentSta
       flag = λ none. absurd (set none);
     }
 
-    by_legal : ComesTo p kept bytes t (On led tables) 1
-    by_legal =
+    pub back_runs : TabledRuns bytes 1 (On led tables) (On served_it (later_tables tables))
+    back_runs =
         let first = served_event bytes led tables s (return_runs p t q u here.sound.manages apart h) (return_steps p t q u here.sound.manages apart h) trap (return_trap p t q u here.sound.manages apart h) framed.links refl chain legal
         (none_short bytes 0 m.entries old new here.sound.whole) in
-        record {
-          events = 1;
-          some = omega arith;
-          few = omega arith;
-          end = On served_it (later_tables tables);
-          runs = (On served_it (later_tables tables), first, refl);
-          follows = (seated_again, matches_served);
-        }
+        (On served_it (later_tables tables), first, refl)
+
+    pub back_follows : IsSeated p kept bytes served_it.manager × Matches p t served_it
+    back_follows = (seated_again, matches_served)
+
+    by_legal : ComesTo p kept bytes t (On led tables) 1
+    by_legal = record { events = 1; some = omega arith; few = omega arith; end = On served_it (later_tables tables); runs = back_runs; follows = back_follows }
 
   pub return_served : ComesTo p kept bytes t (On led tables) 1
   return_served = by (is_legal_table m.ring.sizes m.ring.room h.overlay (next_table tables)) refl

@@ -10,7 +10,6 @@ use Rattle.cpu_8086.specs.Process as process
 use Rattle.cpu_8086.specs.Process.{Process, after_step}
 use Rattle.cpu_8086.specs.State.{State}
 use Rattle.cpu_8086.specs.Step.{effect, Steps}
-use Rattle.overlay_ring.specs.Table.{Table}
 use Rattle.overlay_manager.specs.Manager as manager
 use Rattle.overlay_manager.specs.Manager.{Manager, buffer_segment, table_from, table_by, with_seats, with_stubs, sent_out}
 use Rattle.overlay_manager.specs.Serves.{table_before}
@@ -39,13 +38,14 @@ use Rattle.overlay_simulation.proofs.OrderLaws.{chain_is}
 use Rattle.overlay_simulation.proofs.OwnLaws.{unhalved}
 use Rattle.overlay_simulation.proofs.RefusedLaws.{all_out}
 use Rattle.overlay_simulation.proofs.StepLaws.{none}
-use Rattle.overlay_services.specs.Seated.{IsSeated, ComesTo}
+use Rattle.overlay_services.specs.Seated.{IsSeated, FitAlone}
+use Rattle.overlay_services.proofs.PassLaws.{Passes, by_one}
 use Rattle.overlay_services.proofs.ReadyLaws.{begins_whole, stands_after}
 use Rattle.overlay_services.proofs.SoundLaws.{sound_with, seated_told}
-use Rattle.overlay_services.proofs.TableEvents.{alone_event, clear_event}
+use Rattle.overlay_services.proofs.TableEvents.{clear_event}
 use Rattle.overlay_services.proofs.WrittenLaws as whole
 use Rattle.overlay_services.proofs.WrittenLaws.{Begins, steps, memory_written, overlays_after}
-use Rattle.tabled_runs.specs.Tables.{On, emptied}
+use Rattle.tabled_runs.specs.Tables.{TabledRuns, On, emptied}
 
 in_image : (table : List Loaded) (cs : Segment) → IsImage cs → IsIn table cs
 in_image table (Image number) image = tt
@@ -55,7 +55,7 @@ same_number : (old new : List Loaded) (cs : Segment) → IsImage cs → number_b
 same_number old new (Image number) image = refl
 same_number old new (Overlay v) image = absurd image
 
-module _ (p : Program) (kept : ℕ → Bool) (bytes : List ℕ) (r t : ResidentState) (q : Managed) (here : IsSeated p kept bytes q.manager) (whole_t : IsWhole p kept t) (m : Matches p r q) (g : Goes p r t AtClear) (framed : IsFramed p true t) (tables : List Table) where
+module _ (p : Program) (kept : ℕ → Bool) (bytes : List ℕ) (r t : ResidentState) (q : Managed) (here : IsSeated p kept bytes q.manager) (whole_t : IsWhole p kept t) (m : Matches p r q) (g : Goes p r t AtClear) (framed : IsFramed p true t) where
   abbrev old : List Loaded
   old = table_before q.manager
 
@@ -94,17 +94,10 @@ module _ (p : Program) (kept : ℕ → Bool) (bytes : List ℕ) (r t : ResidentS
       overlays_begun p r t AtClear q told_old m g flags none_met (λ v out unmet. h.leads.mirrors.topmost v out)
 
   -- an event that clears nothing
-  gone_alone : IsOwn step.1 → ComesTo p kept bytes t (On q tables) 1
+  gone_alone : IsOwn step.1 → Passes p kept bytes t q 1
   gone_alone own =
-      let goes = begins_alone p r t AtClear q told_old m g flags own in
-      record {
-        events = 1;
-        some = omega arith;
-        few = omega arith;
-        end = On (record q { process = u }) tables;
-        runs = (On (record q { process = u }) tables, alone_event bytes q tables u goes, refl);
-        follows = (here, record { stands = stands_u; here = in_image old t.cs image; overlays = overlays_u; flag = flag_begun p r t AtClear q told_old m g flags });
-      }
+      by_one p kept bytes t q here u (begins_alone p r t AtClear q told_old m g flags own)
+      (record { stands = stands_u; here = in_image old t.cs image; overlays = overlays_u; flag = flag_begun p r t AtClear q told_old m g flags })
 
   -- ## All overlays go out
 
@@ -134,18 +127,19 @@ module _ (p : Program) (kept : ℕ → Bool) (bytes : List ℕ) (r t : ResidentS
     chain : chain_of q.manager.marked s ≡ Ok framed.links
     chain = chain_is p q.manager none_met kept t s true ready.ready framed
 
-    clears_so : (next : Managed) → emptied q s ≡ next → IsSeated p kept bytes next.manager → Matches p t next → ComesTo p kept bytes t (On q tables) 1
-    clears_so next is seated matches =
+    clears_so : (next : Managed) → emptied q s ≡ next → IsSeated p kept bytes next.manager → (FitAlone p q.manager → FitAlone p next.manager) → Matches p t next → Passes p kept bytes t q 1
+    clears_so next is seated fit matches =
         let there = steps_here p r t AtClear q told_old m g flags in
         let steps = subst (Steps q.process.machine s) clears there.1 in
-        let event = clear_event bytes q tables s framed.links there.0 steps chain in
         record {
           events = 1;
           some = omega arith;
           few = omega arith;
-          end = On (emptied q s) tables;
-          runs = (On (emptied q s) tables, event, refl);
-          follows = subst (λ (z : Managed). IsSeated p kept bytes z.manager × Matches p t z) (sym is) (seated, matches);
+          end = next;
+          runs = λ tables. subst (λ (z : Managed). TabledRuns bytes 1 (On q tables) (On z tables)) is (On (emptied q s) tables, clear_event bytes q tables s framed.links there.0 steps chain, refl);
+          seated = seated;
+          fit = fit;
+          matches = matches;
         }
 
     -- without stubs there is nothing to send
@@ -216,7 +210,7 @@ module _ (p : Program) (kept : ℕ → Bool) (bytes : List ℕ) (r t : ResidentS
       flag = λ unset. refl;
     }
 
-    cleared : ComesTo p kept bytes t (On q tables) 1
+    cleared : Passes p kept bytes t q 1
     cleared = by (length q.manager.stubs == 0) refl
       where
         -- what the machine and the manager come to
@@ -226,17 +220,17 @@ module _ (p : Program) (kept : ℕ → Bool) (bytes : List ℕ) (r t : ResidentS
         manager_if : Bool → Manager
         manager_if b = if b then with_seats q.manager [] else manager.emptied q.manager s
 
-        by : (b : Bool) → (length q.manager.stubs == 0) ≡ b → ComesTo p kept bytes t (On q tables) 1
+        by : (b : Bool) → (length q.manager.stubs == 0) ≡ b → Passes p kept bytes t q 1
         by true is =
             clears_so (kept_on (eqb-true (length q.manager.stubs) 0 is)) (ap (λ (b : Bool). goes_on q (record s { memory = memory_if b }) (manager_if b)) is)
-            (record { sound = sound_with p kept bytes q.manager [] q.manager.tally here.sound; table = tt }) (matches_on (eqb-true (length q.manager.stubs) 0 is))
+            (record { sound = sound_with p kept bytes q.manager [] q.manager.tally here.sound; table = tt }) (λ fit. fit) (matches_on (eqb-true (length q.manager.stubs) 0 is))
         by false is =
             clears_so sent_on (ap (λ (b : Bool). goes_on q (record s { memory = memory_if b }) (manager_if b)) is)
-            (record { sound = sound_with p kept bytes q.manager [] (manager.emptied q.manager s).tally here.sound; table = tt }) matches_sent
+            (record { sound = sound_with p kept bytes q.manager [] (manager.emptied q.manager s).tally here.sound; table = tt }) (λ fit. fit) matches_sent
 
-  pub clear_served : ComesTo p kept bytes t (On q tables) 1
+  pub clear_served : Passes p kept bytes t q 1
   clear_served = by (begins_so p r t AtClear q told_old m g flags)
     where
-      by : IsOwn step.1 ⊎ (step.1 ≡ events.Service 96) → ComesTo p kept bytes t (On q tables) 1
+      by : IsOwn step.1 ⊎ (step.1 ≡ events.Service 96) → Passes p kept bytes t q 1
       by (inl own) = gone_alone own
       by (inr clears) = cleared clears

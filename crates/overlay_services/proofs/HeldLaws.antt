@@ -6,11 +6,11 @@ use Rattle.cpu_8086.specs.declared.registers.Far.{Far}
 use Rattle.cpu_8086.specs.Memory.{load_word}
 use Rattle.resident_machine.specs.Cells.{Cells}
 use Rattle.resident_machine.specs.Framed.{places_of}
-use Rattle.resident_machine.specs.Standing.{PairWord, words_of, IsApart, HoldsWords}
+use Rattle.resident_machine.specs.Standing.{words_of, IsApart, HoldsWords}
 use Rattle.resident_machine.specs.State.{Record}
 use Rattle.return_repair.specs.declared.table.Loaded.{Loaded}
 use Rattle.return_repair.specs.Pairs.{pair_at}
-use Rattle.return_repair.specs.Follows.{Denoted, denoted, denotations, pairs_at}
+use Rattle.return_repair.specs.Follows.{denoted, denotations, pairs_at}
 use Rattle.overlay_simulation.specs.Laid.{with_pairs}
 use Rattle.overlay_simulation.specs.Shown.{items_of, pairs_by}
 use Rattle.overlay_simulation.proofs.ShownLaws.{met_past, shown_first}

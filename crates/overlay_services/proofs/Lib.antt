@@ -8,7 +8,9 @@ pub mod LoadedLaws
 pub mod ReadyLaws
 pub mod SoundLaws
 pub mod TableEvents
+pub mod PassLaws
 pub mod CallLaws
 pub mod BackLaws
 pub mod ClearLaws
 pub mod StepLaws
+pub mod TurnLaws

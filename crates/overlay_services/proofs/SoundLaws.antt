@@ -1,5 +1,5 @@
 -- What stays as overlays move holds of the manager with other seats; and the table of its seats tells apart what stands in memory.
-use Rattle.std.proofs.Common.{◌≡◌, ℕ, ◌<◌, Bool, List, length, ap, ◌∙◌, subst, sym, arith}
+use Rattle.std.proofs.Common.{◌≡◌, ℕ, ◌<◌, Bool, List, length, ap, ◌∙◌, subst, arith}
 use Rattle.overlay_manager.specs.declared.tally.Tally.{Tally}
 use Rattle.overlay_manager.specs.Manager.{Manager}
 use Rattle.overlay_manager.specs.Serves.{table_before}

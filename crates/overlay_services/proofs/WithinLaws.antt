@@ -1,6 +1,5 @@
 -- Loading overlays writes to the buffer alone.
 use Rattle.std.proofs.Common.{◌≡◌, ◌⊎◌, inl, inr, ℕ, zero, suc, ◌+◌, ◌*◌, ◌<◌, ◌≤◌, Bool, true, false, cond, List, [], ◌∷◌, refl, arith}
-use Rattle.std.specs.Prelude.{slice_get, Some}
 use Rattle.overlay_file.specs.declared.overlay.OvrEntry.{OvrEntry}
 use Rattle.return_repair.specs.declared.table.Loaded.{Loaded}
 use Rattle.overlay_manager.specs.Code.{with_code}

@@ -1,9 +1,10 @@
 -- Where a program is between two events, as its overlays move: on its way beside the resident machine, or at a table that is not legal.
-use Rattle.std.specs.Prelude.{ℕ, ◌<◌, ◌≤◌, Bool, List}
+use Rattle.std.specs.Prelude.{◌≡◌, ℕ, ◌<◌, ◌≤◌, Bool, List, ◌++◌, slice_get, slice_index, Some}
 use Rattle.overlay_manager.specs.Manager.{Manager}
+use Rattle.overlay_manager.specs.overlay_run.Managed.{Managed}
 use Rattle.overlay_ring.specs.Seats.{table_of}
-use Rattle.overlay_ring.specs.Table.{IsTable}
-use Rattle.resident_machine.specs.Program.{Program}
+use Rattle.overlay_ring.specs.Table.{IsTable, Table}
+use Rattle.resident_machine.specs.Program.{OverlayCode, Program}
 use Rattle.resident_machine.specs.State.{ResidentState}
 use Rattle.overlay_simulation.specs.Matching.{Matches}
 use Rattle.overlay_services.specs.Sound.{IsSound}
@@ -27,3 +28,20 @@ pub record ComesTo (p : Program) (kept : ℕ → Bool) (bytes : List ℕ) (t : R
   pub end : Tabled
   pub runs : TabledRuns bytes events start end
   pub follows : Follows p kept bytes t end
+
+-- ## Some tables
+
+-- Each overlay fits the buffer by itself.
+abbrev pub FitAlone : Program → Manager → Type 0
+FitAlone p m = (v : ℕ) (o : OverlayCode) → slice_get p.overlays v ≡ Some o → slice_index m.ring.sizes v ≤ m.ring.room
+
+-- There are tables by which within so many events it comes to where it matches the state, whatever tables follow these.
+pub record ComesBySome (p : Program) (kept : ℕ → Bool) (bytes : List ℕ) (t : ResidentState) (start : Managed) (most : ℕ) : Type 0 where
+  pub taken : List Table
+  pub events : ℕ
+  pub few : events ≤ most
+  pub end : Managed
+  pub runs : (later : List Table) → TabledRuns bytes events (On start (taken ++ later)) (On end later)
+  pub seated : IsSeated p kept bytes end.manager
+  pub fit : FitAlone p end.manager
+  pub matches : Matches p t end
