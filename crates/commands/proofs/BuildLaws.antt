@@ -49,7 +49,9 @@ use Rattle.commands.specs.declared.names.FileKind.TheVariants.{Overlays}
 use Rattle.commands.specs.Files.{file_of}
 use Rattle.commands.specs.Compiled.{HoldsOther, IsCompiledFrom, IsNotCompiled, not_compiled}
 use Rattle.commands.specs.Go.{DoesSoon, IsBuiltFrom, IsNotBuilt, IsNotGone, RanBuilt}
-use Rattle.commands.specs.Prepared.{IsLoaded}
+use Rattle.commands.specs.declared.go.Built.{Built}
+use Rattle.commands.specs.declared.go.Built.TheVariants as way
+use Rattle.commands.specs.Prepared.{IsBuilt, IsLoaded}
 use Rattle.commands.specs.Run.{refused_as, limit_of}
 use Rattle.commands.proofs.HeldLaws.{found_in, literal_too, does_too}
 
@@ -111,6 +113,16 @@ not_compiled_so result known name buffer found old new is formed not why = subst
     by (build.ImageTooLarge paragraphs) cause = (tt, refused (refusal.TooLarge what.Image paragraphs) (build.ImageTooLarge paragraphs) cause refl)
     by (build.TooManyRelocations count) cause = (tt, refused (refusal.TooLarge what.Relocations count) (build.TooManyRelocations count) cause refl)
     by build.NoMemory cause = tt
+
+-- ---- what was built
+
+pub literal_built : (known : Option Folder) (name : List ℕ) (one : Built) (bytes : List ℕ) → one ≡ way.Literal bytes → IfSome known (λ held. IsBuilt held name one) → IfSome known (λ held. IsBuiltFrom held name bytes)
+literal_built None name one bytes is from = tt
+literal_built (Some held) name one bytes is from = subst (IsBuilt held name) is from
+
+pub compiled_built : (known : Option Folder) (name : List ℕ) (one : Built) (files : ProgramFiles) → one ≡ way.Compiled files → IfSome known (λ held. IsBuilt held name one) → IfSome known (λ held. IsCompiledFrom held name files)
+compiled_built None name one files is from = tt
+compiled_built (Some held) name one files is from = subst (IsBuilt held name) is from
 
 -- ---- no program
 

@@ -7,6 +7,7 @@ use Rattle.tp_outside.specs.declared.faults.WriteError.TheVariants as write
 use Rattle.tp_outside.specs.Faults.{HasRisen}
 use Rattle.tp_outside.specs.Folder.{Folder, with_file, bytes_of}
 use Rattle.tp_outside.proofs.FolderLaws.{with_file-same}
+use Rattle.cpu_8086.specs.State.{State}
 use Rattle.front_end.specs.Untyped.{IsRefusing}
 use Rattle.back_end.specs.declared.files.ProgramFiles.{ProgramFiles}
 use Rattle.dos_runner.specs.declared.runner.RunEnd.{RunEnd}
@@ -26,7 +27,9 @@ use Rattle.commands.specs.declared.names.FileKind.TheVariants.{Overlays}
 use Rattle.commands.specs.Compiled.{IsCompiledFrom, with_files, with_known_files, IsFront, without_fault, not_written, IsNotOpened, RanCompiled, IsWriteFailure}
 use Rattle.commands.specs.Files.{file_of}
 use Rattle.commands.specs.Go.{IsNotBuilt, IsNotGone, GoDid}
-use Rattle.commands.specs.Prepared.{IsReady}
+use Rattle.commands.specs.declared.go.Prepared.{Prepared}
+use Rattle.commands.specs.declared.go.Prepared.TheVariants as prepared
+use Rattle.commands.specs.Prepared.{IsLoaded, IsReady, IsPrepared, IsIdle}
 use Rattle.commands.specs.Run.{refused_as, IsOfRun, OpensNot, BeginsNamed, limit_of, retry_of, RunsFrom}
 use Rattle.commands.specs.World.{World}
 use Rattle.commands.proofs.FolderLaws.{executable_there, overlays_there}
@@ -41,15 +44,15 @@ pub refused_too : (bytes name : List ℕ) (held : Option (List ℕ)) (buffer : O
 refused_too bytes name held buffer errors.FilesFault refused = tt
 refused_too bytes name held buffer other refused = refused
 
-pub no_fault : (error : OpenError) → without_fault error ≡ errors.FilesFault → ⊥
-no_fault errors.FilesFault is = absurd cc
-no_fault errors.NoMemory is = absurd cc
-no_fault (errors.NotExecutable cause) is = absurd cc
-no_fault (errors.MissingFile file) is = absurd cc
-no_fault (errors.OverlayFileDamaged at) is = absurd cc
-no_fault (errors.OverlayMismatch overlay) is = absurd cc
-no_fault (errors.BufferTooSmall need have) is = absurd cc
-no_fault (errors.MemoryTooSmall need) is = absurd cc
+pub never_a_fault : (error : OpenError) → without_fault error ≡ errors.FilesFault → ⊥
+never_a_fault errors.FilesFault is = absurd cc
+never_a_fault errors.NoMemory is = absurd cc
+never_a_fault (errors.NotExecutable cause) is = absurd cc
+never_a_fault (errors.MissingFile file) is = absurd cc
+never_a_fault (errors.OverlayFileDamaged at) is = absurd cc
+never_a_fault (errors.OverlayMismatch overlay) is = absurd cc
+never_a_fault (errors.BufferTooSmall need have) is = absurd cc
+never_a_fault (errors.MemoryTooSmall need) is = absurd cc
 
 -- ---- opening
 
@@ -124,6 +127,21 @@ pub not_gone_so : (result : Outcome) (known now_known : Option Folder) (name : L
     → IsNotOpened result name files buffer now_known mid new → IsNotGone result name buffer known old new
 not_gone_so result known now_known name files buffer old mid new same compiled counted why =
     not_gone result known name files buffer old mid new compiled counted (subst (λ (folder : Option Folder). IsNotOpened result name files buffer folder mid new) same why)
+
+-- ---- what was prepared
+
+pub literal_loaded : (known : Option Folder) (name : List ℕ) (buffer : Option ℕ) (one : Prepared) (bytes : List ℕ) (machine : State) → one ≡ prepared.Literal bytes machine → IfSome known (λ held. IsPrepared held name buffer one)
+    → IfSome known (λ held. IsLoaded held name buffer bytes machine)
+literal_loaded None name buffer one bytes machine is prepares = tt
+literal_loaded (Some held) name buffer one bytes machine is prepares = subst (IsPrepared held name buffer) is prepares
+
+pub compiled_ready : (known : Option Folder) (name : List ℕ) (buffer : Option ℕ) (one : Prepared) (files : ProgramFiles) (runner : Runner) → one ≡ prepared.Compiled files runner → IfSome known (λ held. IsPrepared held name buffer one)
+    → IfSome known (λ held. IsReady held name buffer files runner)
+compiled_ready None name buffer one files runner is prepares = tt
+compiled_ready (Some held) name buffer one files runner is prepares = subst (IsPrepared held name buffer) is prepares
+
+pub compiled_idle : (one : Prepared) (files : ProgramFiles) (runner : Runner) → one ≡ prepared.Compiled files runner → IsIdle one → runner.end ≡ None
+compiled_idle one files runner is idle = subst IsIdle is idle
 
 -- ---- what was written
 

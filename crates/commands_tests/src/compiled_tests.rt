@@ -25,9 +25,9 @@ const PROGRAM: &[u8] =
 const UNIT: &[u8] =
     b"{$F+,O+} unit U; interface procedure P(n: Integer); implementation procedure P(n: Integer); begin Write(n) end; end.";
 
-// The files are asked for the sizes of both sources and their bytes, write the executable and the overlay file, and give the overlay to the
-// program that runs.
-const ROWS: [Row; 15] = [
+// The files are asked for the sizes of both sources and their bytes, write the executable and the overlay file, and give the overlay's code
+// and its fixups to the program that runs.
+const ROWS: [Row; 16] = [
     (0, 0, 0, 0, All, "a12", ""),
     (1, 0, 0, 254, Old, "", "tp: FilesFault\n"),
     (2, 0, 0, 254, Old, "", "tp: FilesFault\n"),
@@ -36,6 +36,7 @@ const ROWS: [Row; 15] = [
     (5, 0, 0, 254, Old, "", "tp: FilesFault\n"),
     (6, 0, 0, 254, First, "", "tp: FilesFault\n"),
     (7, 0, 0, 254, All, "a", "tp: FilesFault\n"),
+    (8, 0, 0, 254, All, "a", "tp: FilesFault\n"),
     (9, 0, 0, 0, All, "a12", ""),
     (0, 1, 0, 254, All, "", "tp: OutputFault\n"),
     (0, 3, 0, 254, All, "a1", "tp: OutputFault\n"),
@@ -119,14 +120,14 @@ const ASKED_ROWS: [AskedRow; 3] = [
         252,
         Old,
         "",
-        "tp: BufferTooSmall 0 1\n",
+        "tp: BufferTooSmall 5 1\n",
     ),
     (
         &["go", "A", "--buffer=40960"],
         252,
         Old,
         "",
-        "tp: MemoryTooSmall 0\n",
+        "tp: MemoryTooSmall 54536\n",
     ),
     (
         &["go", "A", "--retry", "1", "--buffer", "99"],
