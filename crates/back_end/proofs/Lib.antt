@@ -1,1 +1,3 @@
+pub mod LinkedUnits
+pub mod OverlayNames
 pub mod Told

@@ -58,6 +58,10 @@ impl From<AllocError> for BuildError {
 }
 
 impl From<GenError> for BuildError {
+    ghost use Rattle.back_end.specs.Refused.{generator_refusal};
+
+    ghost from_gives = { λ error refusal. refusal ≡ generator_refusal error };
+
     fn from(error: GenError) -> BuildError {
         match error {
             GenError::CodeTooLarge { bytes } => BuildError::CodeTooLarge { bytes },

@@ -1,6 +1,6 @@
 //! The units of a program for the linker.
 
-ghost use Rattle.std.specs.Prelude.{◌≡◌, ◌++◌, map, IfOk, IfErr, OnOk};
+ghost use Rattle.std.specs.Prelude.{◌≡◌, ◌++◌, map, length, IfOk, IfErr, OnOk};
 ghost use Rattle.back_end.specs.Overlaid.{is_among};
 ghost use Rattle.back_end.specs.Refused.{IsCodeCause};
 ghost use Rattle.back_end.specs.Told.{told, told_of, told_of_runtime, AreUnitsOf};
@@ -73,7 +73,7 @@ fn runtime_unit(alloc: Global, flat: &FlatUnit) -> Result<LinkUnit, BuildError>
     })
 }
 
-/// Appends units of a program that overlays those of these names. There is flat code for each of them.
+/// Appends units of a program that overlays those of these names, with the flat code of each.
 fn push_program(
     alloc: Global,
     made: &mut LinkUnits,
@@ -81,6 +81,7 @@ fn push_program(
     flat: &[FlatUnit],
     overlaid: &[Name],
 ) -> Result<(), BuildError>
+    requires { length units.now ≡ length flat.now }
     ensures told { OnOk result (map told made.new ≡ map told made.old ++ map (told_of overlaid.now) units.now) }
     ensures cause { IfErr result IsCodeCause }
 {
@@ -90,7 +91,7 @@ fn push_program(
             made.push(program_unit(alloc, unit, code, overlaid)?)?;
             push_program(alloc, made, units, flat, overlaid)
         }
-        _ => Err(BuildError::NoMemory),
+        _ => unreachable!(),
     }
 }
 
@@ -115,9 +116,7 @@ pub(crate) fn link_units(
     ensures cause { IfErr result IsCodeCause }
 {
     let flat = flat_units(alloc, program)?;
-    let Some((runtime, own)) = flat.as_slice().split_at_checked(RUNTIME_UNITS) else {
-        return Err(BuildError::NoMemory);
-    };
+    let (runtime, own) = flat.as_slice().split_at(RUNTIME_UNITS);
     let mut units = LinkUnits::new(alloc);
     push_program(alloc, &mut units, program.units.as_slice(), own, overlaid)?;
     push_runtime(alloc, &mut units, runtime)?;

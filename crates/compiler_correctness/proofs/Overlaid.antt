@@ -14,7 +14,7 @@ use Rattle.resident_machine.specs.machine_lines.Steps.{Leads}
 use Rattle.statement_simulation.specs.flow.Sites.{AreBytes}
 use Rattle.code_simulation.specs.start.Shown as resident_seen
 use Rattle.compiler_correctness.specs.Runs.{Files, shown, begun, IsPaid}
-use Rattle.compiler_correctness.specs.Tables.{Tabled, On, NotLegal, TabledRuns, TabledGoes}
+use Rattle.tabled_runs.specs.Tables.{Tabled, On, NotLegal, TabledRuns, TabledGoes}
 use Rattle.compiler_correctness.specs.Hypotheses.{IsBuilt, Matches, ComesTo, overlaid_rate, resident_rate}
 use Rattle.compiler_correctness.specs.Correct.{IsShown, ShowsWithin, Agrees, RunsTo, IsCorrect}
 use Rattle.compiler_correctness.proofs.Events.{IsDetermined, events_rest, events_last, events_same}

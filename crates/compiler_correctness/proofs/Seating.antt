@@ -1,15 +1,13 @@
 -- Runs by given tables, and the tables that come later: what a run did it does with others behind those that it took, and behind a table that
 -- is not legal it can be taken further by one that is.
 use Rattle.std.proofs.Common.{◌≡◌, ℕ, zero, suc, ◌+◌, ◌==◌, ◌<◌, ◌≤◌, Bool, true, false, List, [], ◌∷◌, length, map, Option, None, Some, Result, Ok, Err, refl, sym, ap, ◌∙◌, subst, inl, inr, arith}
-use Rattle.std.specs.Prelude.{◌⊎◌, if◌then◌else◌, nat_lt, nat_le, slice_index, position}
+use Rattle.std.specs.Prelude.{◌⊎◌, if◌then◌else◌, nat_lt, nat_le, slice_index}
 use Rattle.std.proofs.lemmas.Bool.Decides.{nat_tests}
 use Rattle.std.proofs.lemmas.List.{length-map}
-use Rattle.std.proofs.lemmas.List.Quantifiers.{position-Some}
 use Rattle.cpu_8086.specs.declared.process.Why.TheVariants as why
 use Rattle.cpu_8086.specs.declared.machine.Event.{Event}
 use Rattle.cpu_8086.specs.declared.machine.Event.TheVariants.{Ran, Service, Divide, Unknown}
 use Rattle.cpu_8086.specs.Process.{serviced, after_step}
-use Rattle.cpu_8086.specs.Memory.{load_word}
 use Rattle.cpu_8086.specs.State.{State}
 use Rattle.mz_file.specs.Format.{exe_of}
 use Rattle.mz_file.specs.Load.{loaded_segment}
@@ -20,12 +18,13 @@ use Rattle.frame_links.specs.Links.{Link}
 use Rattle.return_repair.specs.Chain.{chain_of}
 use Rattle.overlay_manager.specs.declared.traps.Trap.{Trap}
 use Rattle.overlay_manager.specs.Manager as manager
-use Rattle.overlay_manager.specs.Manager.{Manager, paragraphs_of, with_seats, table_by, cleared_manager}
-use Rattle.overlay_manager.specs.Traps.{is_entry_place, trap_place, trap_by, trap_of, is_refused, refused}
+use Rattle.overlay_manager.specs.Manager.{Manager, paragraphs_of, with_seats, table_by}
+use Rattle.overlay_manager.specs.Traps.{trap_of, is_refused, refused}
 use Rattle.overlay_manager.specs.overlay_run.Managed.{Managed, goes_on, is_stopped, with_trap}
 use Rattle.dos_runner.specs.opened_program.Matching.{largest}
 use Rattle.dos_runner.specs.opened_program.Opening.{room_of, start_manager, IsOpened}
-use Rattle.compiler_correctness.specs.Tables.{Tabled, On, NotLegal, next_table, later_tables, seats_of, short_from, loaded_by, seated, served_next, chained, trapped, emptied, emptied_by, all_out, interrupted, after_event, TabledEvent, TabledGoes, TabledRuns}
+use Rattle.tabled_runs.proofs.TrapLaws.{trap_inside}
+use Rattle.tabled_runs.specs.Tables.{Tabled, On, NotLegal, next_table, later_tables, seats_of, short_from, loaded_by, seated, served_next, chained, trapped, emptied, emptied_by, all_out, interrupted, after_event, TabledEvent, TabledGoes, TabledRuns}
 use Rattle.compiler_correctness.proofs.Tabled.{on_legal}
 
 -- ---- what an event does with the tables
@@ -245,29 +244,7 @@ mended bytes p tables has_room x = by (takes_event bytes p x.machine x.event)
           },
         )
 
-abbrev overlay_or : ℕ → Option Trap → ℕ
-overlay_or other None = other
-overlay_or other (Some trap) = trap.overlay
-
-trap_known : (v : ℕ) (a b : Bool) (trap : Trap) → (if a then Some (record { overlay = v; call = false }) else (if b then Some (record { overlay = v; call = true }) else None)) ≡ Some trap → trap.overlay ≡ v
-trap_known v true b trap e = sym (ap (overlay_or v) e)
-trap_known v false true trap e = sym (ap (overlay_or v) e)
-trap_known v false false trap e = absurd cc
-
-trapped_inside : (stubs : List ℕ) (t : State) (trap : Trap) → trap_of stubs t ≡ Some trap → trap.overlay < length stubs
-trapped_inside stubs t trap found = by (position (λ stub. stub == t.cs) stubs) refl
-  where
-    none : (e : Option Trap) → e ≡ None → e ≡ Some trap → ⊥
-    none e is so = cc
-
-    by : (v : Option ℕ) → position (λ stub. stub == t.cs) stubs ≡ v → trap.overlay < length stubs
-    by None is = absurd (none (trap_of stubs t) (ap (trap_by t) is) found)
-    by (Some v) is =
-        let inside = (position-Some (λ stub. stub == t.cs) stubs v 0 is).0 in
-        let same : trap.overlay ≡ v = trap_known v (trap_place t == 0) (is_entry_place (load_word t.memory t.cs 12) (trap_place t)) trap (sym (ap (trap_by t) is) ∙ found) in
-        omega (arith, inside, same)
-
-size_within : (overlays : List OvrEntry) (v : ℕ) → v < length overlays → slice_index (map paragraphs_of overlays) v ≤ largest overlays
+pub size_within : (overlays : List OvrEntry) (v : ℕ) → v < length overlays → slice_index (map paragraphs_of overlays) v ≤ largest overlays
 size_within [] v there = omega (arith, there)
 size_within (overlay ∷ overlays) zero there = omega arith
 size_within (overlay ∷ overlays) (suc v) there = let less = size_within overlays v (omega (arith, there)) in omega (arith, less)
@@ -283,7 +260,7 @@ opened_room exe name held buffer state m opened = subst (λ (m : Manager). HasRo
 
     has_room : HasRoom (fixed (start_manager (exe_of exe) name opened.overlays room))
     has_room t trap found =
-        let inside = trapped_inside (map loaded_segment (exe_of exe).block.stubs) t trap found in
+        let inside = trap_inside (map loaded_segment (exe_of exe).block.stubs) t trap found in
         let stubs = length-map (exe_of exe).block.stubs loaded_segment in
         let overlays : trap.overlay < length opened.overlays = omega (arith, inside, stubs, opened.fit.together.same) in
         let known : trap.overlay < length sizes = omega (arith, overlays, length-map opened.overlays paragraphs_of) in

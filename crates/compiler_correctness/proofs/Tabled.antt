@@ -18,7 +18,7 @@ use Rattle.overlay_manager.specs.Manager.{table_by}
 use Rattle.overlay_manager.specs.Traps.{trap_of, is_refused, refused}
 use Rattle.overlay_manager.specs.overlay_run.Managed.{Managed, goes_on, is_stopped, with_trap}
 use Rattle.compiler_correctness.specs.Runs.{standing_of, shown}
-use Rattle.compiler_correctness.specs.Tables.{Tabled, On, NotLegal, next_table, later_tables, seats_of, short_from, loaded_by, seated, chained, trapped, emptied, emptied_by, all_out, interrupted, after_event, TabledEvent, TabledGoes, TabledRuns}
+use Rattle.tabled_runs.specs.Tables.{Tabled, On, NotLegal, next_table, later_tables, seats_of, short_from, loaded_by, seated, chained, trapped, emptied, emptied_by, all_out, interrupted, after_event, TabledEvent, TabledGoes, TabledRuns}
 use Rattle.compiler_correctness.proofs.Events.{Events, IsDetermined, IsLast, events_keep}
 use Rattle.compiler_correctness.proofs.Written.{Extends, extends_same, extends_both, service_extends, step_extends}
 

@@ -15,7 +15,7 @@ use Rattle.dos_runner.specs.opened_program.Matching.{largest}
 use Rattle.dos_runner.specs.opened_program.Opening.{room_of, start_manager, IsOpened}
 use Rattle.dos_runner.specs.plain_opening.Laws.{needed}
 use Rattle.compiler_correctness.specs.Runs.{Files, shown, begun, IsPaid}
-use Rattle.compiler_correctness.specs.Tables.{Tabled, On, NotLegal, TabledRuns}
+use Rattle.tabled_runs.specs.Tables.{Tabled, On, NotLegal, TabledRuns}
 
 -- on this input the program meets no act that the language leaves undefined
 abbrev pub IsDefined : Program → List ℕ → Type 0

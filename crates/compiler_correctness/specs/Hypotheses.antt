@@ -25,7 +25,7 @@ use Rattle.dos_runner.specs.opened_program.Matching.{BelongTogether}
 use Rattle.dos_runner.specs.opened_program.Opening.{IsOpened, HasOverlays}
 use Rattle.dos_runner.specs.plain_opening.Laws.{IsPlain}
 use Rattle.compiler_correctness.specs.Runs.{Files, shown, begun, IsPaid}
-use Rattle.compiler_correctness.specs.Tables.{Tabled, On, NotLegal, TabledRuns}
+use Rattle.tabled_runs.specs.Tables.{Tabled, On, NotLegal, TabledRuns}
 
 -- ---- lowering
 

@@ -1,5 +1,4 @@
 pub mod Runs
-pub mod Tables
 pub mod Hypotheses
 pub mod Correct
 pub mod Compiler

@@ -11,7 +11,7 @@ ghost use Rattle.compiler_correctness.specs.Correct.{IsCorrectPlain, IsCorrect};
 ghost use Rattle.compiler_correctness.specs.Compiler.{Compiler, CompilerLaws, PlainTheorem, OverlaidTheorem, RingLaw, RunTheorem};
 ghost use Rattle.compiler_correctness.specs.Slice.{SliceFollows, SliceStands};
 ghost use Rattle.compiler_correctness.specs.Expressible.{PlainIsExpressible, RuntimeIsExpressible};
-ghost use Rattle.compiler_correctness.specs.Tables.{Tabled, TabledRuns};
+ghost use Rattle.tabled_runs.specs.Tables.{Tabled, TabledRuns};
 
 use code_simulation::start::start_law;
 use cpu_8086::{run_law, step_law};

@@ -1,5 +1,5 @@
 -- The kernel's code, with addresses filled in, is the lines on which the code of programs is proved.
-use Rattle.std.specs.Prelude.{◌≡◌, ℕ, ◌+◌, ◌<◌, true, List, [], ◌∷◌}
+use Rattle.std.specs.Prelude.{◌≡◌, ℕ, ◌+◌, ◌<◌, false, true, List, [], ◌∷◌}
 use Rattle.object_file.specs.declared.object_unit.object.Code8086.{Code8086}
 use Rattle.x86_table.specs.Lines.{assembled}
 use Rattle.flat_code.specs.Program.{Name, Key}

@@ -1,1 +1,9 @@
 pub mod Words
+pub mod Copies
+pub mod Counters
+pub mod Branches
+pub mod Loops
+pub mod Items
+pub mod Procedures
+pub mod Heap
+pub mod Prologues

@@ -1,9 +1,14 @@
 //! Copies of records, arrays and objects.
 
+ghost use Rattle.std.specs.Prelude.{◌≡◌, IfOk};
+ghost use Rattle.flat_code.specs.View.{view_list};
+ghost use Rattle.lower_stmt.specs.Copies.{part_copied, copied};
+
 use flat_code::flat_builders::then;
 use flat_code::{Address, FlatList, FlatStmt};
-use lower_expr::{lower_place, point, single};
+use lower_expr::lower_place;
 use lower_places::{Reach, Scene, Shape, Spot, further, literals_of_place};
+use lower_values::{point, single};
 use std::alloc::{AllocError, Global};
 use typed_tree::PlaceExpr;
 
@@ -32,7 +37,9 @@ fn part_copied(
     from: Address,
     start: u16,
     end: u16,
-) -> Result<FlatList, AllocError> {
+) -> Result<FlatList, AllocError>
+    ensures { IfOk result (λ list. view_list list.items ≡ part_copied to from start end) }
+{
     let bytes = end.saturating_sub(start);
     if bytes == 0 {
         return Ok(Vec::new(alloc));
@@ -49,7 +56,9 @@ pub fn copied(
     from: Address,
     size: u16,
     class: Option<u16>,
-) -> Result<FlatList, AllocError> {
+) -> Result<FlatList, AllocError>
+    ensures { IfOk result (λ list. view_list list.items ≡ copied to from size class) }
+{
     match class {
         None => part_copied(alloc, to, from, 0, size),
         Some(class) => {

@@ -1,12 +1,19 @@
 //! The variable of a `for`: how it is compared, tested and stepped.
 
+ghost use Rattle.std.specs.Prelude.{◌≡◌, IfOk};
+ghost use Rattle.flat_code.specs.Tree.{Code, Do};
+ghost use Rattle.flat_code.specs.View.{view_expr, view_list, view_stmt};
+ghost use Rattle.lower_places.specs.Reaches.{scratch_address};
+ghost use Rattle.lower_places.specs.declared.sorts.Shape.TheVariants as shape;
+ghost use Rattle.lower_stmt.specs.Counters.{form_of_host, less_of, less_code, less_word, is_open, long_tested, bounds_tested, last_code, last_word, long_stepped, stepped};
+
 use crate::words::compute;
 use flat_code::flat_builders::{op, then, when};
 use flat_code::{Address, FlatExpr, FlatList, FlatOp, FlatStmt};
-use lower_expr::{
+use lower_places::{Reach, Scene, Shape, further};
+use lower_values::{
     Form, high_in, high_number, low_in, number, runtime, single, slot_place, word_in,
 };
-use lower_places::{Reach, Scene, Shape, further};
 use runtime_units::numbers::RuntimeRoutine;
 use std::alloc::AllocError;
 use type_layout::{Host, TypeId};
@@ -36,7 +43,9 @@ impl Counter {
     }
 
     /// How its values lie in slots.
-    pub fn form(self) -> Form {
+    pub fn form(self) -> Form
+        ensures { result ≡ form_of_host self.host }
+    {
         if self.host.width() <= 2 {
             Form::Word(self.host)
         } else {
@@ -45,7 +54,9 @@ impl Counter {
     }
 
     /// How it is stored.
-    pub fn shape(self) -> Shape {
+    pub fn shape(self) -> Shape
+        ensures { result ≡ shape.Number self.host self.low self.high }
+    {
         let Counter {
             host,
             low,
@@ -57,7 +68,9 @@ impl Counter {
 }
 
 /// How words of a host are compared.
-fn less_of(host: Host) -> FlatOp {
+fn less_of(host: Host) -> FlatOp
+    ensures { result ≡ less_of host }
+{
     if host.least() < 0 {
         FlatOp::Less
     } else {
@@ -71,7 +84,10 @@ pub fn less(
     form: Form,
     one: u32,
     other: u32,
-) -> Result<(FlatList, FlatExpr), AllocError> {
+) -> Result<(FlatList, FlatExpr), AllocError>
+    ensures code { IfOk result (λ tested. view_list tested.0.items ≡ less_code scene.now.locals form one other (scratch_address scene.now.unit.now 0)) }
+    ensures word { IfOk result (λ tested. view_expr tested.1 ≡ less_word scene.now.locals form one other (scratch_address scene.now.unit.now 0)) }
+{
     let alloc = scene.alloc;
     match form {
         Form::Long => {
@@ -95,12 +111,16 @@ pub fn less(
 }
 
 /// Whether bounds leave out no value of a host.
-fn is_open(host: Host, low: i32, high: i32) -> bool {
+fn is_open(host: Host, low: i32, high: i32) -> bool
+    ensures { result ≡ is_open host low high }
+{
     low <= host.least() && host.greatest() <= high
 }
 
 /// Error 201 where the LongInt in a slot lies outside of bounds.
-fn long_tested(scene: &Scene, low: i32, high: i32, slot: u32) -> Result<FlatStmt, AllocError> {
+fn long_tested(scene: &Scene, low: i32, high: i32, slot: u32) -> Result<FlatStmt, AllocError>
+    ensures { IfOk result (λ stmt. (next : Code) → view_stmt stmt next ≡ Do (long_tested scene.now.locals low high slot) next) }
+{
     let args = vec![in scene.alloc;
         low_in(scene, slot)?,
         high_in(scene, slot)?,
@@ -118,7 +138,9 @@ pub fn bounds_tested(
     counter: Counter,
     least: u32,
     greatest: u32,
-) -> Result<FlatList, AllocError> {
+) -> Result<FlatList, AllocError>
+    ensures { IfOk result (λ list. view_list list.items ≡ bounds_tested scene.now.locals counter.host counter.low counter.high least greatest) }
+{
     let alloc = scene.alloc;
     let Counter {
         host,
@@ -151,7 +173,10 @@ pub fn is_last(
     scene: &Scene,
     counter: Counter,
     slot: u32,
-) -> Result<(FlatList, FlatExpr), AllocError> {
+) -> Result<(FlatList, FlatExpr), AllocError>
+    ensures code { IfOk result (λ tested. view_list tested.0.items ≡ last_code scene.now.locals counter.host counter.at slot (scratch_address scene.now.unit.now 0)) }
+    ensures word { IfOk result (λ tested. view_expr tested.1 ≡ last_word scene.now.locals counter.host counter.at slot (scratch_address scene.now.unit.now 0)) }
+{
     let alloc = scene.alloc;
     let Counter { at, host, .. } = counter;
     if host.width() == 4 {
@@ -176,7 +201,9 @@ pub fn is_last(
 }
 
 /// The LongInt at a place goes one step on.
-fn long_stepped(scene: &Scene, at: Address, down: bool) -> Result<FlatStmt, AllocError> {
+fn long_stepped(scene: &Scene, at: Address, down: bool) -> Result<FlatStmt, AllocError>
+    ensures { IfOk result (λ stmt. (next : Code) → view_stmt stmt next ≡ Do (long_stepped at down) next) }
+{
     let by = if down { -1 } else { 1 };
     let args = vec![in scene.alloc;
         FlatExpr::Word(at),
@@ -188,7 +215,9 @@ fn long_stepped(scene: &Scene, at: Address, down: bool) -> Result<FlatStmt, Allo
 }
 
 /// The variable goes one step on.
-pub fn stepped(scene: &Scene, counter: Counter, down: bool) -> Result<FlatStmt, AllocError> {
+pub fn stepped(scene: &Scene, counter: Counter, down: bool) -> Result<FlatStmt, AllocError>
+    ensures { IfOk result (λ stmt. (next : Code) → view_stmt stmt next ≡ Do (stepped counter.host counter.at down) next) }
+{
     let Counter { at: to, host, .. } = counter;
     let operator = if down { FlatOp::Sub } else { FlatOp::Add };
     if host.width() == 4 {

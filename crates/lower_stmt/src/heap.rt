@@ -1,20 +1,27 @@
 //! New and Dispose.
 
+ghost use Rattle.std.specs.Prelude.{◌≡◌, IfOk};
+ghost use Rattle.flat_code.specs.Tree.{Code, Do};
+ghost use Rattle.flat_code.specs.View.{view_expr, view_list, view_stmt};
+ghost use Rattle.lower_places.specs.Reaches.{scratch_address};
+ghost use Rattle.lower_stmt.specs.Heap.{made, freed, nil_refused, instance_freed};
+
 use crate::procedures::through;
 use crate::words::compute;
 use flat_code::flat_builders::{op, then, when};
 use flat_code::{FlatExpr, FlatList, FlatOp, FlatStmt};
-use lower_expr::{
-    call_destructor, clear_at, high_in, low_in, lower_args, lower_expr, runtime, single,
-};
+use lower_expr::{call_destructor, lower_args, lower_expr};
 use lower_places::{Scene, Sort, Spot, literals_of_expr};
+use lower_values::{clear_at, high_in, low_in, runtime, single};
 use runtime_units::numbers::RuntimeRoutine;
 use std::alloc::AllocError;
 use typed_tree::{Arg, Destructor, Expr};
 
 /// A new block of so many bytes for the pointer variable to which the far pointer in a slot leads. With `cleared` it begins as
 /// zeros, so that an instance in it has no class.
-fn made(scene: &Scene, size: u16, cleared: bool, slot: u32) -> Result<FlatList, AllocError> {
+fn made(scene: &Scene, size: u16, cleared: bool, slot: u32) -> Result<FlatList, AllocError>
+    ensures { IfOk result (λ list. view_list list.items ≡ made scene.now.locals size cleared slot) }
+{
     let alloc = scene.alloc;
     let to = through(scene, slot, 0)?;
     let args = vec![in alloc; FlatExpr::Number(size)]?;
@@ -34,7 +41,9 @@ pub fn block_made(scene: &Scene, target: &Sort, slot: u32) -> Result<FlatList, A
 }
 
 /// The block of so many bytes is freed to which the pointer in a slot leads.
-fn freed(scene: &Scene, size: FlatExpr, slot: u32) -> Result<FlatStmt, AllocError> {
+fn freed(scene: &Scene, size: FlatExpr, slot: u32) -> Result<FlatStmt, AllocError>
+    ensures { IfOk result (λ stmt. (next : Code) → view_stmt stmt next ≡ Do (freed scene.now.locals (view_expr size) slot) next) }
+{
     let args = vec![in scene.alloc; high_in(scene, slot)?, low_in(scene, slot)?, size]?;
     Ok(runtime(RuntimeRoutine::Dispose, args))
 }
@@ -46,7 +55,9 @@ pub fn block_freed(scene: &Scene, target: &Sort, slot: u32) -> Result<FlatList, 
 }
 
 /// Error 204 where the pointer in a slot is nil.
-fn nil_refused(scene: &Scene, slot: u32) -> Result<FlatList, AllocError> {
+fn nil_refused(scene: &Scene, slot: u32) -> Result<FlatList, AllocError>
+    ensures { IfOk result (λ list. view_list list.items ≡ nil_refused scene.now.locals slot) }
+{
     let alloc = scene.alloc;
     let test = op(
         alloc,
@@ -60,7 +71,9 @@ fn nil_refused(scene: &Scene, slot: u32) -> Result<FlatList, AllocError> {
 
 /// The block to which the pointer in a slot leads is freed by the size of the class that its instance says so many bytes
 /// on.
-fn instance_freed(scene: &Scene, class: u16, slot: u32) -> Result<FlatList, AllocError> {
+fn instance_freed(scene: &Scene, class: u16, slot: u32) -> Result<FlatList, AllocError>
+    ensures { IfOk result (λ list. view_list list.items ≡ instance_freed scene.now.locals class (scratch_address scene.now.unit.now 0) slot) }
+{
     let alloc = scene.alloc;
     let scratch = scene.scratch(0)?;
     let args = vec![in alloc;

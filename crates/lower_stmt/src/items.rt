@@ -1,14 +1,22 @@
 //! Write and Read.
 
+ghost use Rattle.std.specs.Prelude.{◌≡◌, IfOk};
+ghost use Rattle.type_layout.specs.Storage.{width_of};
+ghost use Rattle.flat_code.specs.Tree.{Code, Do};
+ghost use Rattle.flat_code.specs.View.{view_expr, view_list, view_stmt};
+ghost use Rattle.lower_places.specs.Reaches.{scratch_address};
+ghost use Rattle.lower_stmt.specs.Items.{number_written, word_written, text_written, written, line_end, kept_scratch, scratch_tested, number_read, char_read, text_read, ordinal_read, filled};
+
 use crate::copies::found;
 use crate::words::compute;
 use flat_code::flat_builders::then;
 use flat_code::{Address, FlatExpr, FlatExprs, FlatList, FlatStmt};
-use lower_expr::{
-    Form, form_of, high_number, long_words, low_word, lower_expr, number, pair, runtime, single,
-    text_words, word_in,
-};
+use lower_expr::lower_expr;
 use lower_places::{Scene, Shape, Spot, literals_of_expr, literals_of_place};
+use lower_values::{
+    Form, form_of, high_number, long_words, low_word, number, pair, runtime, single, text_words,
+    word_in,
+};
 use runtime_units::numbers::RuntimeRoutine;
 use std::alloc::AllocError;
 use type_layout::Host;
@@ -35,7 +43,9 @@ fn number_written(
     form: Form,
     width: FlatExpr,
     slot: u32,
-) -> Result<FlatStmt, AllocError> {
+) -> Result<FlatStmt, AllocError>
+    ensures { IfOk result (λ stmt. (next : Code) → view_stmt stmt next ≡ Do (number_written scene.now.locals form (view_expr width) slot) next) }
+{
     let (low, high) = long_words(scene, form, slot)?;
     let args = vec![in scene.alloc; low, high, width]?;
     Ok(runtime(RuntimeRoutine::WriteInteger, args))
@@ -47,7 +57,9 @@ fn word_written(
     host: Host,
     width: FlatExpr,
     slot: u32,
-) -> Result<FlatStmt, AllocError> {
+) -> Result<FlatStmt, AllocError>
+    ensures { IfOk result (λ stmt. (next : Code) → view_stmt stmt next ≡ Do (word_written scene.now.locals host (view_expr width) slot) next) }
+{
     match host {
         Host::Char => {
             let args = vec![in scene.alloc; word_in(scene, slot)?, width]?;
@@ -72,14 +84,18 @@ fn text_written(
     form: Form,
     width: FlatExpr,
     slot: u32,
-) -> Result<FlatStmt, AllocError> {
+) -> Result<FlatStmt, AllocError>
+    ensures { IfOk result (λ stmt. (next : Code) → view_stmt stmt next ≡ Do (text_written scene.now.locals form (view_expr width) slot) next) }
+{
     let (segment, offset) = text_words(scene, form, slot)?;
     let args = vec![in scene.alloc; segment, offset, width]?;
     Ok(runtime(RuntimeRoutine::WriteString, args))
 }
 
 /// Writes what lies in a slot in a field of a width.
-fn written(scene: &Scene, form: Form, width: FlatExpr, slot: u32) -> Result<FlatStmt, AllocError> {
+fn written(scene: &Scene, form: Form, width: FlatExpr, slot: u32) -> Result<FlatStmt, AllocError>
+    ensures { IfOk result (λ stmt. (next : Code) → view_stmt stmt next ≡ Do (written scene.now.locals form (view_expr width) slot) next) }
+{
     match form {
         Form::Word(host) => word_written(scene, host, width, slot),
         Form::Long => number_written(scene, form, width, slot),
@@ -108,7 +124,9 @@ fn literals_of_item(item: &WriteItem) -> u32 {
 }
 
 /// A routine of the runtime on the end of a line, where there is one.
-fn line_end(scene: &Scene, routine: RuntimeRoutine, line: bool) -> Result<FlatList, AllocError> {
+fn line_end(scene: &Scene, routine: RuntimeRoutine, line: bool) -> Result<FlatList, AllocError>
+    ensures { IfOk result (λ list. view_list list.items ≡ line_end routine line) }
+{
     let alloc = scene.alloc;
     if line {
         single(alloc, runtime(routine, Vec::new(alloc)))
@@ -134,7 +152,9 @@ pub fn lower_write(
 }
 
 /// Error 201 where the LongInt in the scratch lies outside of bounds, if there are any.
-fn scratch_tested(scene: &Scene, bounds: Option<(i32, i32)>) -> Result<FlatList, AllocError> {
+fn scratch_tested(scene: &Scene, bounds: Option<(i32, i32)>) -> Result<FlatList, AllocError>
+    ensures { IfOk result (λ list. view_list list.items ≡ scratch_tested (scratch_address scene.now.unit.now 0) (scratch_address scene.now.unit.now 2) bounds) }
+{
     let Some((low, high)) = bounds else {
         return Ok(Vec::new(scene.alloc));
     };
@@ -150,7 +170,9 @@ fn scratch_tested(scene: &Scene, bounds: Option<(i32, i32)>) -> Result<FlatList,
 }
 
 /// The low bytes of what the scratch holds, to a place that has as many.
-pub fn keep_scratch(scene: &Scene, width: u32, to: Address) -> Result<FlatStmt, AllocError> {
+pub fn keep_scratch(scene: &Scene, width: u32, to: Address) -> Result<FlatStmt, AllocError>
+    ensures { IfOk result (λ stmt. (next : Code) → view_stmt stmt next ≡ Do (kept_scratch width (scratch_address scene.now.unit.now 0) to) next) }
+{
     let from = scene.scratch(0)?;
     if width == 1 {
         let value = FlatExpr::Byte(from);
@@ -169,7 +191,9 @@ fn number_read(
     host: Host,
     bounds: Option<(i32, i32)>,
     to: Address,
-) -> Result<FlatList, AllocError> {
+) -> Result<FlatList, AllocError>
+    ensures { IfOk result (λ list. view_list list.items ≡ number_read host bounds (scratch_address scene.now.unit.now 0) (scratch_address scene.now.unit.now 2) to) }
+{
     let alloc = scene.alloc;
     let none = FlatExprs::new(alloc);
     let taken = compute(RuntimeRoutine::ReadNumber, none, scene.scratch(0)?, 4);
@@ -178,7 +202,9 @@ fn number_read(
     then(single(alloc, taken)?, then(test, stored)?)
 }
 
-fn char_read(scene: &Scene, to: Address) -> Result<FlatList, AllocError> {
+fn char_read(scene: &Scene, to: Address) -> Result<FlatList, AllocError>
+    ensures { IfOk result (λ list. view_list list.items ≡ char_read (scratch_address scene.now.unit.now 0) to) }
+{
     let none = FlatExprs::new(scene.alloc);
     pair(
         scene.alloc,
@@ -187,7 +213,9 @@ fn char_read(scene: &Scene, to: Address) -> Result<FlatList, AllocError> {
     )
 }
 
-fn text_read(scene: &Scene, max: u8, to: Address) -> Result<FlatList, AllocError> {
+fn text_read(scene: &Scene, max: u8, to: Address) -> Result<FlatList, AllocError>
+    ensures { IfOk result (λ list. view_list list.items ≡ text_read max to) }
+{
     let args = vec![in scene.alloc;
         FlatExpr::SegmentOf(to),
         FlatExpr::AddressOf(to),
@@ -202,7 +230,9 @@ fn ordinal_read(
     host: Host,
     bounds: Option<(i32, i32)>,
     to: Address,
-) -> Result<FlatList, AllocError> {
+) -> Result<FlatList, AllocError>
+    ensures { IfOk result (λ list. view_list list.items ≡ ordinal_read host bounds (scratch_address scene.now.unit.now 0) (scratch_address scene.now.unit.now 2) to) }
+{
     match host {
         Host::Char => char_read(scene, to),
         Host::ShortInt
@@ -216,7 +246,9 @@ fn ordinal_read(
 }
 
 /// Fills a place by its type.
-fn filled(scene: &Scene, shape: Shape, checked: bool, to: Address) -> Result<FlatList, AllocError> {
+fn filled(scene: &Scene, shape: Shape, checked: bool, to: Address) -> Result<FlatList, AllocError>
+    ensures { IfOk result (λ list. view_list list.items ≡ filled shape checked (scratch_address scene.now.unit.now 0) (scratch_address scene.now.unit.now 2) to) }
+{
     match shape {
         Shape::Number { host, low, high } => {
             let bounds = if checked { Some((low, high)) } else { None };

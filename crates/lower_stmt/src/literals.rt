@@ -1,7 +1,7 @@
 //! The literals of trees, in their order: strings with their lengths, and sets of 32 bytes. They are put behind the data of a unit
 //! that are there.
 
-ghost use Rattle.std.specs.Prelude.{◌≡◌, ◌++◌, OnOk, IfOk, map};
+ghost use Rattle.std.specs.Prelude.{◌≡◌, ◌++◌, [], ◌∷◌, OnOk, IfOk, map};
 ghost use Rattle.std.specs.Option.{option_map};
 ghost use Rattle.typed_tree.specs.Expressions.{view_expr, view_place, view_elements, view_args, view_receiver, view_boxed};
 ghost use Rattle.typed_tree.specs.Statements.{view_stmt, view_stmts, view_arms, view_written, view_taken};
@@ -39,13 +39,19 @@ fn set_datum(alloc: Global, elements: &[u8]) -> Result<FlatDatum, AllocError>
     Ok(FlatDatum { size: 32, first })
 }
 
+fn add_datum(made: &mut FlatData, datum: FlatDatum) -> Result<(), AllocError>
+    ensures { OnOk result (map view_datum made.new ≡ map view_datum made.old ++ view_datum datum ∷ []) }
+{
+    made.push(datum)
+}
+
 fn add_value(alloc: Global, made: &mut FlatData, value: &Value) -> Result<(), AllocError>
     ensures { OnOk result (map view_datum made.new ≡ map view_datum made.old ++ literals_of_value value.now) }
 {
     match value {
         Value::Number(_) | Value::Nil => Ok(()),
-        Value::Chars(text) => made.push(string_datum(alloc, text.as_slice())?),
-        Value::Elements(elements) => made.push(set_datum(alloc, elements.as_slice())?),
+        Value::Chars(text) => add_datum(made, string_datum(alloc, text.as_slice())?),
+        Value::Elements(elements) => add_datum(made, set_datum(alloc, elements.as_slice())?),
     }
 }
 
@@ -68,16 +74,16 @@ fn add_expr(alloc: Global, made: &mut FlatData, expr: &Expr) -> Result<(), Alloc
             add_receiver(alloc, made, own)?;
             add_args(alloc, made, args.as_slice())
         }
-        Expr::CallVirtual {
-            own: place,
-            args,
-            ..
+        Expr::CallVirtual { own, args, .. } => {
+            add_place(alloc, made, own)?;
+            add_args(alloc, made, args.as_slice())
         }
-        | Expr::CallThrough { place, args, .. } => {
+        Expr::CallThrough { place, args, .. } => {
             add_place(alloc, made, place)?;
             add_args(alloc, made, args.as_slice())
         }
-        Expr::Std { args, .. } | Expr::Make { args, .. } => add_args(alloc, made, args.as_slice()),
+        Expr::Std { args, .. } => add_args(alloc, made, args.as_slice()),
+        Expr::Make { args, .. } => add_args(alloc, made, args.as_slice()),
     }
 }
 

@@ -1,13 +1,20 @@
 //! Loops. `Leave 1` leaves the innermost one.
 
+ghost use Rattle.std.specs.Prelude.{◌≡◌, IfOk};
+ghost use Rattle.flat_code.specs.View.{view_list};
+ghost use Rattle.lower_places.specs.Reaches.{scratch_address};
+ghost use Rattle.lower_stmt.specs.Loops.{leave, while_held, repeated, turned, turns, counted};
+
 use crate::counters::{Counter, bounds_tested, is_last, less, stepped};
 use flat_code::flat_builders::{repeat, then, when};
 use flat_code::{FlatList, FlatStmt};
-use lower_expr::{pair, single, slot_place, store, word_in};
 use lower_places::{Reach, Scene};
+use lower_values::{pair, single, slot_place, store, word_in};
 use std::alloc::{AllocError, Global};
 
-fn leave(alloc: Global) -> Result<FlatList, AllocError> {
+fn leave(alloc: Global) -> Result<FlatList, AllocError>
+    ensures { IfOk result (λ list. view_list list.items ≡ leave) }
+{
     single(alloc, FlatStmt::Leave { loops: 1 })
 }
 
@@ -17,7 +24,9 @@ pub fn while_held(
     test: FlatList,
     body: FlatList,
     slot: u32,
-) -> Result<FlatList, AllocError> {
+) -> Result<FlatList, AllocError>
+    ensures { IfOk result (λ list. view_list list.items ≡ while_held scene.now.locals (view_list test.items) (view_list body.items) slot) }
+{
     let alloc = scene.alloc;
     let turn = single(alloc, repeat(then(body, leave(alloc)?)?))?;
     let word = word_in(scene, slot)?;
@@ -31,7 +40,9 @@ pub fn repeated(
     body: FlatList,
     test: FlatList,
     slot: u32,
-) -> Result<FlatList, AllocError> {
+) -> Result<FlatList, AllocError>
+    ensures { IfOk result (λ list. view_list list.items ≡ repeated scene.now.locals (view_list body.items) (view_list test.items) slot) }
+{
     let alloc = scene.alloc;
     let word = word_in(scene, slot)?;
     let end = single(alloc, when(word, leave(alloc)?, Vec::new(alloc)))?;
@@ -47,7 +58,9 @@ pub struct Counting {
 }
 
 /// The end of a turn: the variable is compared with the last value, which stands in a slot, and stepped.
-fn turned(scene: &Scene, counter: Counter, down: bool, slot: u32) -> Result<FlatList, AllocError> {
+fn turned(scene: &Scene, counter: Counter, down: bool, slot: u32) -> Result<FlatList, AllocError>
+    ensures { IfOk result (λ list. view_list list.items ≡ turned scene.now.locals counter.host counter.at down slot (scratch_address scene.now.unit.now 0)) }
+{
     let alloc = scene.alloc;
     let (test, ended) = is_last(scene, counter, slot)?;
     let on = single(alloc, stepped(scene, counter, down)?)?;
@@ -61,7 +74,9 @@ fn turns(
     counting: Counting,
     body: FlatList,
     slot: u32,
-) -> Result<FlatList, AllocError> {
+) -> Result<FlatList, AllocError>
+    ensures { IfOk result (λ list. view_list list.items ≡ turns scene.now.locals counting.counter.host counting.counter.low counting.counter.high counting.counter.at counting.down (view_list body.items) slot (scratch_address scene.now.unit.now 0)) }
+{
     let Counting { counter, down, .. } = counting;
     let bytes = counter.form().bytes();
     let next = slot.checked_add(bytes).ok_or(AllocError)?;
@@ -83,7 +98,9 @@ pub fn counted(
     bounds: FlatList,
     body: FlatList,
     slot: u32,
-) -> Result<FlatList, AllocError> {
+) -> Result<FlatList, AllocError>
+    ensures { IfOk result (λ list. view_list list.items ≡ counted scene.now.locals counting.counter.host counting.counter.low counting.counter.high counting.counter.at counting.down counting.checked (view_list bounds.items) (view_list body.items) slot (scratch_address scene.now.unit.now 0)) }
+{
     let alloc = scene.alloc;
     let form = counting.counter.form();
     let next = slot.checked_add(form.bytes()).ok_or(AllocError)?;

@@ -1,15 +1,23 @@
 //! Standard procedures. Their arguments stand in slots, one behind another; of a variable a far pointer stands there.
 
+ghost use Rattle.std.specs.Prelude.{◌≡◌, ◌+◌, IfOk};
+ghost use Rattle.flat_code.specs.declared.tree.Address.TheVariants.{Through};
+ghost use Rattle.flat_code.specs.Tree.{Code, Do};
+ghost use Rattle.flat_code.specs.View.{view_expr, view_list, view_stmt};
+ghost use Rattle.lower_places.specs.Reaches.{scratch_address};
+ghost use Rattle.lower_values.specs.Forms.{slot_at};
+ghost use Rattle.lower_stmt.specs.Procedures.{through, step_word, step_words, long_moved, word_moved, moved, deleted, inserted, width_word, told, valued, val_stored};
+
 use crate::heap::{block_freed, block_made};
 use crate::items::keep_scratch;
 use crate::words::compute;
 use flat_code::flat_builders::{op, then};
 use flat_code::{Address, FlatExpr, FlatList, FlatOp, FlatStmt};
-use lower_expr::{
-    Form, form_of, high_in, long_words, low_in, low_word, lower_args, number, pair, runtime,
-    single, text_words,
-};
+use lower_expr::lower_args;
 use lower_places::{Scene, Shape, Spot};
+use lower_values::{
+    Form, form_of, high_in, long_words, low_in, low_word, number, pair, runtime, single, text_words,
+};
 use runtime_units::numbers::RuntimeRoutine;
 use std::alloc::AllocError;
 use type_layout::Host;
@@ -17,12 +25,16 @@ use typed_tree::standard::{DEC, DELETE, DISPOSE, INC, INSERT, NEW, STR, VAL};
 use typed_tree::{Arg, PlaceExpr};
 
 /// The slot behind one of so many bytes.
-fn behind(slot: u32, bytes: u32) -> Result<u32, AllocError> {
+fn behind(slot: u32, bytes: u32) -> Result<u32, AllocError>
+    ensures { IfOk result (λ next. next ≡ slot + bytes) }
+{
     slot.checked_add(bytes).ok_or(AllocError)
 }
 
 /// What the far pointer in a slot leads to, some bytes on.
-pub fn through(scene: &Scene, slot: u32, plus: u16) -> Result<Address, AllocError> {
+pub fn through(scene: &Scene, slot: u32, plus: u16) -> Result<Address, AllocError>
+    ensures { IfOk result (λ at. at ≡ Through (slot_at scene.now.locals slot 4) plus) }
+{
     let slot = scene.slot_at(slot, 4)?;
     Ok(Address::Through { slot, plus })
 }
@@ -46,7 +58,9 @@ fn max_at(scene: &Scene, place: &PlaceExpr) -> Result<u8, AllocError> {
 // ---- Inc and Dec
 
 /// By how much a variable changes, as a word: by 1, or by the number in a slot.
-fn step_word(scene: &Scene, by: Option<Form>, slot: u32) -> Result<FlatExpr, AllocError> {
+fn step_word(scene: &Scene, by: Option<Form>, slot: u32) -> Result<FlatExpr, AllocError>
+    ensures { IfOk result (λ word. view_expr word ≡ step_word scene.now.locals by slot) }
+{
     match by {
         None => Ok(number(1)),
         Some(form) => low_word(scene, form, slot),
@@ -58,7 +72,9 @@ fn step_words(
     scene: &Scene,
     by: Option<Form>,
     slot: u32,
-) -> Result<(FlatExpr, FlatExpr), AllocError> {
+) -> Result<(FlatExpr, FlatExpr), AllocError>
+    ensures { IfOk result (λ words. (view_expr words.0, view_expr words.1) ≡ step_words scene.now.locals by slot) }
+{
     match by {
         None => Ok((number(1), number(0))),
         Some(form) => long_words(scene, form, slot),
@@ -71,7 +87,9 @@ fn long_moved(
     by: Option<Form>,
     down: bool,
     slot: u32,
-) -> Result<FlatStmt, AllocError> {
+) -> Result<FlatStmt, AllocError>
+    ensures { IfOk result (λ stmt. (next : Code) → view_stmt stmt next ≡ Do (long_moved scene.now.locals by down slot) next) }
+{
     let to = through(scene, slot, 0)?;
     let by = step_words(scene, by, behind(slot, 4)?)?;
     let args = vec![in scene.alloc;
@@ -94,7 +112,9 @@ fn word_moved(
     by: Option<Form>,
     down: bool,
     slot: u32,
-) -> Result<FlatStmt, AllocError> {
+) -> Result<FlatStmt, AllocError>
+    ensures { IfOk result (λ stmt. (next : Code) → view_stmt stmt next ≡ Do (word_moved scene.now.locals width by down slot) next) }
+{
     let to = through(scene, slot, 0)?;
     let operator = if down { FlatOp::Sub } else { FlatOp::Add };
     let by = step_word(scene, by, behind(slot, 4)?)?;
@@ -114,7 +134,9 @@ fn moved(
     by: Option<Form>,
     down: bool,
     slot: u32,
-) -> Result<FlatList, AllocError> {
+) -> Result<FlatList, AllocError>
+    ensures { IfOk result (λ list. view_list list.items ≡ moved scene.now.locals host by down slot) }
+{
     if host.width() == 4 {
         single(scene.alloc, long_moved(scene, by, down, slot)?)
     } else {
@@ -126,7 +148,9 @@ fn moved(
 // ---- strings
 
 /// Delete: a variable, a place and a count.
-fn deleted(scene: &Scene, place: Form, count: Form, slot: u32) -> Result<FlatList, AllocError> {
+fn deleted(scene: &Scene, place: Form, count: Form, slot: u32) -> Result<FlatList, AllocError>
+    ensures { IfOk result (λ list. view_list list.items ≡ deleted scene.now.locals place count slot) }
+{
     let second = behind(slot, 4)?;
     let place_words = long_words(scene, place, second)?;
     let count_words = long_words(scene, count, behind(second, place.bytes())?)?;
@@ -148,7 +172,9 @@ fn inserted(
     max: u8,
     place: Form,
     slot: u32,
-) -> Result<FlatList, AllocError> {
+) -> Result<FlatList, AllocError>
+    ensures { IfOk result (λ list. view_list list.items ≡ inserted scene.now.locals part max place slot) }
+{
     let second = behind(slot, part.bytes())?;
     let part_words = text_words(scene, part, slot)?;
     let place_words = long_words(scene, place, behind(second, 4)?)?;
@@ -165,7 +191,9 @@ fn inserted(
 }
 
 /// The width of a field in a slot, or 0.
-fn width_word(scene: &Scene, width: Option<Form>, slot: u32) -> Result<FlatExpr, AllocError> {
+fn width_word(scene: &Scene, width: Option<Form>, slot: u32) -> Result<FlatExpr, AllocError>
+    ensures { IfOk result (λ word. view_expr word ≡ width_word scene.now.locals width slot) }
+{
     match width {
         None => Ok(number(0)),
         Some(form) => low_word(scene, form, slot),
@@ -179,7 +207,9 @@ fn told(
     width: Option<Form>,
     max: u8,
     slot: u32,
-) -> Result<FlatList, AllocError> {
+) -> Result<FlatList, AllocError>
+    ensures { IfOk result (λ list. view_list list.items ≡ told scene.now.locals value width max slot) }
+{
     let second = behind(slot, value.bytes())?;
     let third = match width {
         None => second,
@@ -204,7 +234,9 @@ fn valued(
     text: Form,
     bytes: u8,
     slot: u32,
-) -> Result<FlatStmt, AllocError> {
+) -> Result<FlatStmt, AllocError>
+    ensures { IfOk result (λ stmt. (next : Code) → view_stmt stmt next ≡ Do (valued scene.now.locals routine text bytes (scratch_address scene.now.unit.now 0) slot) next) }
+{
     let words = text_words(scene, text, slot)?;
     let args = vec![in scene.alloc; words.0, words.1]?;
     Ok(compute(routine, args, scene.scratch(0)?, bytes))
@@ -218,7 +250,9 @@ fn val_stored(
     host: Host,
     place: Host,
     slot: u32,
-) -> Result<FlatList, AllocError> {
+) -> Result<FlatList, AllocError>
+    ensures { IfOk result (λ list. view_list list.items ≡ val_stored scene.now.locals text host place (scratch_address scene.now.unit.now 0) (scratch_address scene.now.unit.now 2) slot) }
+{
     let second = behind(slot, text.bytes())?;
     let to = through(scene, second, 0)?;
     let value = pair(

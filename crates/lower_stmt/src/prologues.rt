@@ -1,19 +1,25 @@
 //! What a routine does before its body.
 
+ghost use Rattle.std.specs.Prelude.{◌≡◌, IfOk};
+ghost use Rattle.flat_code.specs.View.{view_list};
+ghost use Rattle.lower_stmt.specs.Prologues.{text_copied, whole_copied, zeros};
+
 use crate::copies::copied;
 use flat_code::flat_builders::{then, when};
 use flat_code::{Address, FlatExpr, FlatList, FlatStmt};
-use lower_expr::{number, pair, runtime, single};
 use lower_places::{
     Home, Scene, Shape, class_word_at, copy_at, further, home_of, instance_at, is_copied,
     parameter_at,
 };
+use lower_values::{number, pair, runtime, single};
 use runtime_units::numbers::RuntimeRoutine;
 use std::alloc::{AllocError, Global};
 use type_layout::{Kind, Param, TypeId};
 
 /// Copies a string, which is cut to the size of the copy.
-fn text_copied(alloc: Global, max: u8, to: Address, from: Address) -> Result<FlatList, AllocError> {
+fn text_copied(alloc: Global, max: u8, to: Address, from: Address) -> Result<FlatList, AllocError>
+    ensures { IfOk result (λ list. view_list list.items ≡ text_copied max to from) }
+{
     let args = vec![in alloc;
         FlatExpr::SegmentOf(to),
         FlatExpr::AddressOf(to),
@@ -31,7 +37,9 @@ fn whole_copied(
     class: Option<u16>,
     to: Address,
     from: Address,
-) -> Result<FlatList, AllocError> {
+) -> Result<FlatList, AllocError>
+    ensures { IfOk result (λ list. view_list list.items ≡ whole_copied size class to from) }
+{
     let copies = copied(alloc, to, from, size, None)?;
     let Some(class) = class else {
         return Ok(copies);
@@ -73,7 +81,9 @@ fn arguments_copied(scene: &Scene) -> Result<FlatList, AllocError> {
 }
 
 /// Makes bytes zeros: the first one, and then each from the one before.
-fn zeros(alloc: Global, to: Address, bytes: u16) -> Result<FlatList, AllocError> {
+fn zeros(alloc: Global, to: Address, bytes: u16) -> Result<FlatList, AllocError>
+    ensures { IfOk result (λ list. view_list list.items ≡ zeros to bytes) }
+{
     let first = FlatStmt::StoreByte {
         to,
         value: number(0),

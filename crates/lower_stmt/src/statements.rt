@@ -1,6 +1,6 @@
 //! Statements.
 
-use crate::branches::{branch, literals_of_arms};
+use crate::branches::{branched, literals_of_arms};
 use crate::copies::lower_copy;
 use crate::counters::Counter;
 use crate::heap::lower_unmake;
@@ -9,10 +9,9 @@ use crate::loops::{Counting, counted, repeated, while_held};
 use crate::procedures::lower_procedure;
 use flat_code::flat_builders::{then, when};
 use flat_code::{FlatList, FlatStmt};
-use lower_expr::{
-    Form, form_of, low_word, lower_address, lower_expr, lower_place, single, store, word_in,
-};
+use lower_expr::{lower_address, lower_expr, lower_place};
 use lower_places::{Held, Scene, Spot, literals_of_expr, literals_of_place, literals_of_stmt};
+use lower_values::{Form, form_of, low_word, single, store, word_in};
 use std::alloc::AllocError;
 use typed_tree::{Arm, Expr, PlaceExpr, Stmt, is_var};
 
@@ -81,6 +80,26 @@ fn opened<'a>(
     Ok(withs)
 }
 
+/// Where the branches of a `case` begin.
+fn behind_selector(scene: &Scene, selector: &Expr, spot: Spot) -> Result<Spot, AllocError> {
+    let bytes = form_of(scene, selector)?.bytes();
+    Ok(spot.above(bytes).after(literals_of_expr(selector)))
+}
+
+/// A `case` by the bodies of its branches, and what is done where none has a label for its number.
+fn cased(
+    scene: &Scene,
+    selector: &Expr,
+    arms: &[Arm],
+    bodies: Vec<FlatList>,
+    other: FlatList,
+    spot: Spot,
+) -> Result<FlatList, AllocError> {
+    let code = lower_expr(scene, selector, spot)?;
+    let form = form_of(scene, selector)?;
+    then(code, branched(scene, form, spot.slot, arms, bodies, other)?)
+}
+
 /// A statement that has no others in it.
 fn lower_simple(scene: &Scene, stmt: &Stmt, spot: Spot) -> Result<FlatList, AllocError> {
     match stmt {
@@ -127,13 +146,11 @@ pub fn lower_stmt(scene: &Scene, stmt: &Stmt, spot: Spot) -> Result<FlatList, Al
             arms,
             other,
         } => {
-            let code = lower_expr(scene, selector, spot)?;
-            let form = form_of(scene, selector)?;
-            let behind = spot.above(form.bytes()).after(literals_of_expr(selector));
+            let behind = behind_selector(scene, selector, spot)?;
+            let bodies = lower_bodies(scene, arms.as_slice(), behind)?;
             let next = behind.after(literals_of_arms(arms.as_slice()));
             let last = lower_stmt(scene, other, next)?;
-            let branches = lower_arms(scene, form, spot.slot, arms.as_slice(), last, behind)?;
-            then(code, branches)
+            cased(scene, selector, arms.as_slice(), bodies, last, spot)
         }
         Stmt::For {
             variable,
@@ -144,32 +161,52 @@ pub fn lower_stmt(scene: &Scene, stmt: &Stmt, spot: Spot) -> Result<FlatList, Al
             checked,
             body,
         } => {
-            let counter = Counter::of(scene, *variable, *ty)?;
-            let next = spot
-                .above(counter.form().bytes())
-                .after(literals_of_expr(from));
-            let first = lower_expr(scene, from, spot)?;
-            let last = lower_expr(scene, to, next)?;
-            let turn = lower_stmt(scene, body, next.after(literals_of_expr(to)))?;
             let counting = Counting {
-                counter,
+                counter: Counter::of(scene, *variable, *ty)?,
                 down: *down,
                 checked: *checked,
             };
-            counted(scene, counting, then(first, last)?, turn, spot.slot)
+            lower_for(scene, body, counting, from, to, spot)
         }
-        Stmt::With { place, body } => {
-            let code = lower_address(scene, place, spot)?;
-            let withs = opened(scene, place, spot.slot)?;
-            let inside = Scene {
-                withs: withs.as_slice(),
-                ..*scene
-            };
-            let behind = spot.above(4).after(literals_of_place(place));
-            then(code, lower_stmt(&inside, body, behind)?)
-        }
+        Stmt::With { place, body } => lower_with(scene, body, place, spot),
         _ => lower_simple(scene, stmt, spot),
     }
+}
+
+/// A `for`. Its first value lies in the slot of the spot, and its last one in the next.
+#[cycle(statements)]
+fn lower_for(
+    scene: &Scene,
+    body: &Stmt,
+    counting: Counting,
+    from: &Expr,
+    to: &Expr,
+    spot: Spot,
+) -> Result<FlatList, AllocError> {
+    let bytes = counting.counter.form().bytes();
+    let next = spot.above(bytes).after(literals_of_expr(from));
+    let first = lower_expr(scene, from, spot)?;
+    let last = lower_expr(scene, to, next)?;
+    let turn = lower_stmt(scene, body, next.after(literals_of_expr(to)))?;
+    counted(scene, counting, then(first, last)?, turn, spot.slot)
+}
+
+/// A `with`. A pointer to its place lies in the slot of the spot.
+#[cycle(statements)]
+fn lower_with(
+    scene: &Scene,
+    body: &Stmt,
+    place: &PlaceExpr,
+    spot: Spot,
+) -> Result<FlatList, AllocError> {
+    let code = lower_address(scene, place, spot)?;
+    let withs = opened(scene, place, spot.slot)?;
+    let inside = Scene {
+        withs: withs.as_slice(),
+        ..*scene
+    };
+    let behind = spot.above(4).after(literals_of_place(place));
+    then(code, lower_stmt(&inside, body, behind)?)
 }
 
 #[cycle(statements)]
@@ -183,23 +220,14 @@ fn lower_block(scene: &Scene, statements: &[Stmt], spot: Spot) -> Result<FlatLis
     Ok(code)
 }
 
-/// The branches of a `case` by the number in a slot, and what is done behind them where none has a label for it.
+/// The bodies of the branches of a `case`, one behind another.
 #[cycle(statements)]
-fn lower_arms(
-    scene: &Scene,
-    form: Form,
-    slot: u32,
-    arms: &[Arm],
-    other: FlatList,
-    spot: Spot,
-) -> Result<FlatList, AllocError> {
-    match arms {
-        [] => Ok(other),
-        [arm, rest @ ..] => {
-            let taken = lower_stmt(scene, &arm.body, spot)?;
-            let behind = spot.after(literals_of_stmt(&arm.body));
-            let next = lower_arms(scene, form, slot, rest, other, behind)?;
-            branch(scene, form, slot, arm.labels.as_slice(), taken, next)
-        }
+fn lower_bodies(scene: &Scene, arms: &[Arm], spot: Spot) -> Result<Vec<FlatList>, AllocError> {
+    let mut bodies = Vec::new(scene.alloc);
+    let mut at = spot;
+    for arm in arms {
+        bodies.push(lower_stmt(scene, &arm.body, at)?)?;
+        at = at.after(literals_of_stmt(&arm.body));
     }
+    Ok(bodies)
 }

@@ -1,5 +1,7 @@
 //! Routines and units.
 
+ghost use Rattle.std.specs.Prelude.{◌≡◌, IfOk};
+
 use crate::prologues::prologue;
 use crate::statements::lower_stmt;
 use crate::tables::tables_of;
@@ -16,7 +18,9 @@ use type_layout::size_of;
 use typed_tree::{Routine, Unit, frame_of, own_bytes};
 
 /// A number of 64 bits as one of 32.
-fn short(number: u64) -> Result<u32, AllocError> {
+fn short(number: u64) -> Result<u32, AllocError>
+    ensures { IfOk result (λ short. short ≡ number) }
+{
     match u32::try_from(number) {
         Ok(number) => Ok(number),
         Err(_) => Err(AllocError),

@@ -2,8 +2,10 @@
 use Rattle.std.proofs.Common.{◌≡◌, ℕ, Bool, List, [], Some, refl, sym, ap, ◌∙◌, subst}
 use Rattle.std.specs.Prelude.{slice_get}
 use Rattle.x86_table.specs.declared.instr.Instr.{Instr}
+use Rattle.cpu_8086.specs.Process as process
 use Rattle.cpu_8086.specs.Process.{Process, after_step}
-use Rattle.cpu_8086.specs.Step.{effect}
+use Rattle.cpu_8086.specs.Step.{effect, Steps}
+use Rattle.cpu_8086.proofs.StepLaws.{steps_by}
 use Rattle.overlay_manager.specs.Serves.{table_before}
 use Rattle.overlay_manager.specs.overlay_run.Managed.{Managed}
 use Rattle.resident_machine.specs.Program.{Segment, Image, Overlay, OverlayCode, Program, code_of}
@@ -24,7 +26,7 @@ use Rattle.overlay_simulation.proofs.KeepLaws.{Stay, KeepsTopmost, overlays_stay
 use Rattle.overlay_simulation.proofs.LeadLaws.{leads_keep}
 use Rattle.overlay_simulation.proofs.MirrorLaws.{bare, Leads}
 use Rattle.overlay_simulation.proofs.OwnLaws.{effect_own}
-use Rattle.overlay_simulation.proofs.StepLaws.{none, IsAt, Comes, stays, stands_there, stands_by, stands_bare, alone, end_bytes}
+use Rattle.overlay_simulation.proofs.StepLaws.{none, IsAt, Comes, stays, stands_there, stands_by, stands_bare, fetched_here, running, alone, end_bytes}
 use Rattle.overlay_simulation.proofs.StubLaws.{bytes_from}
 use Rattle.overlay_simulation.proofs.TableLaws.{own_stubs, overlay_code}
 
@@ -89,8 +91,15 @@ module _ (p : Program) (r t : ResidentState) (service : Service) (q : Managed) (
       record { there = so.there; leads = so.leads; stands = stands_there p seen q.process i at_here t.cells comes_here }
 
   -- the event is the process's own, but for a clear
-  pub begins_alone : (IsOwnBut service (effect q.process.machine i).1 → IsOwn (effect q.process.machine i).1) → GoesAlone q.process begun
-  begins_alone own = alone p seen q.process i at_here (own (effect_own p r t seen service q.process i m.stands refl refl g.result))
+  pub begins_so : IsOwnBut service (effect q.process.machine i).1
+  begins_so = effect_own p r t seen service q.process i m.stands refl refl g.result
+
+  pub begins_alone : IsOwn (effect q.process.machine i).1 → GoesAlone q.process begun
+  begins_alone own = alone p seen q.process i at_here own
+
+  -- the step as it is, whatever the event does
+  pub steps_here : (q.process.status ≡ process.Running) × Steps q.process.machine (effect q.process.machine i).0 (effect q.process.machine i).1
+  steps_here = (running p seen q.process i at_here, steps_by q.process.machine i (fetched_here p seen q.process i at_here).0 (fetched_here p seen q.process i at_here).1)
 
   -- ## What stays
 

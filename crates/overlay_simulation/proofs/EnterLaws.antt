@@ -31,7 +31,7 @@ use Rattle.overlay_simulation.specs.Matching.{size_of, StubStands, HoldsOverlays
 use Rattle.overlay_simulation.specs.Plain.{IsOwn, GoesAlone}
 use Rattle.overlay_simulation.specs.Shown.{at_pair, number_by, IsIn, items_of, shown_state}
 use Rattle.overlay_simulation.specs.Trapping.{at_entry, AtEntry}
-use Rattle.overlay_simulation.proofs.BeginLaws.{begun, begins, begins_alone, overlays_begun, flag_begun, stands_whole}
+use Rattle.overlay_simulation.proofs.BeginLaws.{begun, begins, begins_so, begins_alone, overlays_begun, flag_begun, stands_whole}
 use Rattle.overlay_simulation.proofs.EffectLaws.{is_uninstalled, effect_parts, effect_whole}
 use Rattle.overlay_simulation.proofs.EntryLaws.{jumps}
 use Rattle.overlay_simulation.proofs.KeepLaws.{Stay, overlays_stay}
@@ -83,7 +83,7 @@ enters p r t q told m g framed =
     let here = subst (λ (n : ℕ). StandsFor (bare p none) (at_pair (record { offset = n; segment = e.code.stub }) (shown_state table none_met l.through)) u) e.place
     (subst (λ (n : ℕ). StandsFor (bare p none) (at_pair (record { offset = l.entry; segment = n }) (shown_state table none_met l.through)) u) (sym e.stub) at) in (
       u,
-      begins_alone p r t AtCall q told m g flags (λ own. own),
+      begins_alone p r t AtCall q told m g flags (begins_so p r t AtCall q told m g flags),
       record {
         through = l.through;
         overlay = l.overlay;
@@ -196,15 +196,14 @@ module _ (p : Program) (t : ResidentState) (q : Managed) (u : Process) (told : T
         flag = subst (λ (z : ResidentState). z.cells p.installed ≡ Known 0 → q.manager.ring.seats ≡ []) left h.unset;
       }
 
-  pub entered : (w : Process) × GoesAlone u w × Matches p t (record q { process = w })
-  entered = (
-    jumped,
-    alone p x u (instr.JumpFar routine load) at (jump_own u.machine routine load),
-    subst (λ (z : ResidentState). Matches p z (record q { process = jumped })) (sym left) arrived,
-  )
+  pub jumps_alone : GoesAlone u jumped
+  jumps_alone = alone p x u (instr.JumpFar routine load) at (jump_own u.machine routine load)
+
+  pub jumps_match : Matches p t (record q { process = jumped })
+  jumps_match = subst (λ (z : ResidentState). Matches p z (record q { process = jumped })) (sym left) arrived
 
 -- where CS names the overlay the call was not refused
-not_refused : (p : Program) (t through : ResidentState) (v : ℕ) (b : Bool) → t.cs ≡ Overlay v → t ≡ blurred (if b then refused p through else through) → t ≡ blurred through
+pub not_refused : (p : Program) (t through : ResidentState) (v : ℕ) (b : Bool) → t.cs ≡ Overlay v → t ≡ blurred (if b then refused p through else through) → t ≡ blurred through
 not_refused p t through v true cs left = let e : Image p.error_routine.segment ≡ Overlay v = sym (ap (λ (z : ResidentState). z.cs) left) ∙ cs in absurd (cc)
 not_refused p t through v false cs left = left
 
@@ -218,5 +217,4 @@ loaded_call p r t q v told m g framed cs loaded =
     let same : Overlay h.overlay ≡ Overlay v = sym h.cs ∙ sym (ap (λ (z : ResidentState). z.cs) left) ∙ cs in
     let number : h.overlay ≡ v = cc in
     let in_memory : is_out (overlay_at (table_before q.manager) h.overlay) ≡ false = ap (λ (n : ℕ). is_out (overlay_at (table_before q.manager) n)) number ∙ loaded in
-    let second = entered p t q first.0 told h left in_memory in
-    (first.0, second.0, first.1, second.1, second.2)
+    (first.0, jumped p t q first.0 told h left in_memory, first.1, jumps_alone p t q first.0 told h left in_memory, jumps_match p t q first.0 told h left in_memory)

@@ -29,6 +29,18 @@ word_parts memory segment k w e small fits =
     let sum : load_byte memory segment k + 256 * load_byte memory segment (k + 1) ≡ w = sym (ap (λ (z : ℕ). load_byte memory segment k + 256 * load_byte memory segment z) next) ∙ e in
     (omega arith, omega arith)
 
+two_bytes : (a a' b b' : ℕ) (rest : List ℕ) → a ≡ a' → b ≡ b' → a ∷ b ∷ rest ≡ a' ∷ b' ∷ rest
+two_bytes a a' b b' rest p q = cc
+
+-- a stub begins with an INT 3Fh
+pub begins_so : (cells : Cells) (memory : List ℕ) (o : OverlayCode) (load next : ℕ) → StubStands cells memory o load next → (rest : List ℕ) × (bytes_from memory o.stub 0 (size_of o) ≡ spelling (instr.Int 63) ++ rest)
+begins_so cells memory o load next h =
+    let first = word_parts memory o.stub 0 0x3FCD h.is_stub.interrupt (h.small 0 (omega arith) (λ same. absurd (omega arith)) (λ same. absurd (omega arith))) (omega arith) in
+    let left : ℕ = size_of o - 2 in
+    let size : size_of o ≡ suc (suc left) = omega arith in
+    let rest : List ℕ = bytes_from memory o.stub (0 + 1 + 1) left in
+    (rest, ap (bytes_from memory o.stub 0) size ∙ two_bytes (load_byte memory o.stub 0) 0xCD (load_byte memory o.stub (0 + 1)) 63 rest first.0 first.1)
+
 module _ (cells : Cells) (memory : List ℕ) (o : OverlayCode) (load next : ℕ) (h : StubStands cells memory o load next) (e : ℕ) (lt : e < length o.entries) where
   abbrev at : ℕ
   at = entry_offset e
@@ -54,10 +66,10 @@ module _ (cells : Cells) (memory : List ℕ) (o : OverlayCode) (load next : ℕ)
   abbrev word_at : ℕ → ℕ → Type 0
   word_at k w = load_word memory o.stub k ≡ w
 
-  parts : (k w : ℕ) → k + 2 ≤ at + 5 → word_at k w → (load_byte memory o.stub k ≡ w % 256) × (load_byte memory o.stub (k + 1) ≡ w / 256)
-  parts k w fits is =
+  parts : (k w : ℕ) → 32 ≤ k → k + 2 ≤ at + 5 → word_at k w → (load_byte memory o.stub k ≡ w % 256) × (load_byte memory o.stub (k + 1) ≡ w / 256)
+  parts k w above fits is =
       let room = stub_room cells memory o load next h in
-      word_parts memory o.stub k w is (h.small k (omega arith)) (omega arith)
+      word_parts memory o.stub k w is (h.small k (omega arith) (λ same. absurd (omega arith)) (λ same. absurd (omega arith))) (omega arith)
 
   -- the offset of the routine, where the overlay is loaded
   routine_word : (load == 0) ≡ false → word_at (at + 1) (slice_index o.entries e)
@@ -73,8 +85,8 @@ module _ (cells : Cells) (memory : List ℕ) (o : OverlayCode) (load next : ℕ)
   jumps loaded =
       let routine : ℕ = slice_index o.entries e in
       let is : IsJump memory o.stub load at = subst (λ (b : Bool). MatchBool b (IsTrap memory o.stub at) (IsJump memory o.stub load at)) loaded entry_is in
-      let first = parts (at + 1) routine (omega arith) (routine_word loaded) in
-      let second = parts (at + 3) load (omega arith) is.target in
+      let first = parts (at + 1) routine (omega arith) (omega arith) (routine_word loaded) in
+      let second = parts (at + 3) load (omega arith) (omega arith) is.target in
       let a : at + 1 + 1 ≡ at + 2 = omega arith in
       let b : at + 1 + 1 + 1 ≡ at + 3 = omega arith in
       let c : at + 1 + 1 + 1 + 1 ≡ at + 3 + 1 = omega arith in
@@ -92,9 +104,6 @@ module _ (cells : Cells) (memory : List ℕ) (o : OverlayCode) (load next : ℕ)
   pub traps : (load == 0) ≡ true → (rest : List ℕ) × (drop at bytes ≡ spelling (instr.Int 63) ++ rest)
   traps out =
       let is : IsTrap memory o.stub at = subst (λ (b : Bool). MatchBool b (IsTrap memory o.stub at) (IsJump memory o.stub load at)) out entry_is in
-      let first = parts at 0x3FCD (omega arith) is.interrupt in
+      let first = parts at 0x3FCD (omega arith) (omega arith) is.interrupt in
       let rest : List ℕ = bytes_from memory o.stub (at + 1 + 1) (suc (suc (suc left))) in
-      (rest, from_entry ∙ two (load_byte memory o.stub at) 0xCD (load_byte memory o.stub (at + 1)) 63 rest first.0 first.1)
-    where
-      two : (a a' b b' : ℕ) (rest : List ℕ) → a ≡ a' → b ≡ b' → a ∷ b ∷ rest ≡ a' ∷ b' ∷ rest
-      two a a' b b' rest p q = cc
+      (rest, from_entry ∙ two_bytes (load_byte memory o.stub at) 0xCD (load_byte memory o.stub (at + 1)) 63 rest first.0 first.1)

@@ -1,5 +1,5 @@
 -- The event of an instruction that no service follows, on the machine with one memory.
-use Rattle.std.proofs.Common.{◌≡◌, ◌≢◌, ℕ, ◌+◌, ◌-◌, ◌%◌, ◌<◌, ◌==◌, Bool, true, false, List, ◌++◌, length, drop, get_or, Ok, Err, refl, sym, ap, ◌∙◌, subst, arith, eq-eqb, eqb-true, length-append, length-drop}
+use Rattle.std.proofs.Common.{◌≡◌, ◌≢◌, ◌⊎◌, inl, inr, ℕ, ◌+◌, ◌-◌, ◌%◌, ◌<◌, ◌==◌, Bool, true, false, List, ◌++◌, length, drop, get_or, Ok, Err, refl, sym, ap, ◌∙◌, subst, arith, eq-eqb, eqb-true, length-append, length-drop}
 use Rattle.std.specs.Prelude.{if◌then◌else◌, slice_index, slice_set}
 use Rattle.std.proofs.lemmas.List.{get_or-drop, get_or_append_left}
 use Rattle.x86_table.specs.declared.instr.Instr.{Instr}
@@ -25,9 +25,9 @@ use Rattle.overlay_simulation.specs.Plain.{IsOwn}
 
 -- ## Interrupts
 
--- what is said of the event, by the service that may follow
+-- What is said of the event, by the service that may follow: it is the process's own, but for an INT 60h that clears.
 abbrev pub IsOwnBut : Service → Event → Type 0
-IsOwnBut AtClear event = Unit {0}
+IsOwnBut AtClear event = IsOwn event ⊎ (event ≡ events.Service 96)
 IsOwnBut NoService event = IsOwn event
 IsOwnBut AtCall event = IsOwn event
 IsOwnBut AtReturn event = IsOwn event
@@ -36,14 +36,14 @@ pub own_but : (service : Service) (event : Event) → IsOwn event → IsOwnBut s
 own_but NoService event own = own
 own_but AtCall event own = own
 own_but AtReturn event own = own
-own_but AtClear event own = tt
+own_but AtClear event own = inl own
 
 other_number : (n k : ℕ) → (n == k) ≡ false → n ≢ k
 other_number n k apart same = let e = eq-eqb n k same in absurd (cc)
 
-cleared_own : (cs : Segment) (t : ResidentState) (n : ℕ) (w : ResidentState × Service) → cleared cs t ≡ Ok w → IsOwnBut w.1 (events.Service n)
-cleared_own (Image number) t n w e = subst (λ (z : ResidentState × Service). IsOwnBut z.1 (events.Service n)) (ok_same (blurred t, AtClear) w e) tt
-cleared_own (Overlay number) t n w e = absurd (cc)
+cleared_own : (cs : Segment) (t : ResidentState) (n : ℕ) (w : ResidentState × Service) → n ≡ 96 → cleared cs t ≡ Ok w → IsOwnBut w.1 (events.Service n)
+cleared_own (Image number) t n w is e = subst (λ (z : ResidentState × Service). IsOwnBut z.1 (events.Service n)) (ok_same (blurred t, AtClear) w e) (inr (ap events.Service is))
+cleared_own (Overlay number) t n w is e = absurd (cc)
 
 interrupt_own : (r t : ResidentState) (n : ℕ) (w : ResidentState × Service) → serviced r t n ≡ Ok w → IsOwnBut w.1 (events.Service n)
 interrupt_own r t n w e = by (n == 33) refl (n == 96) refl (n == 63) refl e
@@ -52,7 +52,7 @@ interrupt_own r t n w e = by (n == 33) refl (n == 96) refl (n == 63) refl e
     by true is y apart z other e =
         let number : n ≡ 33 = eqb-true n 33 is in
         own_but w.1 (events.Service n) ((λ same. absurd (omega arith)), (λ same. absurd (omega arith)))
-    by false is true apart z other e = cleared_own r.cs t n w e
+    by false is true clear z other e = cleared_own r.cs t n w (eqb-true n 96 clear) e
     by false is false apart true other e = absurd (cc)
     by false is false apart false other e = own_but w.1 (events.Service n) (other_number n 63 other, other_number n 96 apart)
 

@@ -35,7 +35,7 @@ called_stack p t through false e = (ap (λ (z : ResidentState). z.registers.ss) 
 -- what is kept there is kept
 pub leads_keep : (p : Program) (table : List Loaded) (met : ℕ → Bool) (r t there : ResidentState) (service : Service) → Leads p table met r service t there → (place : ℕ) → there.cells place ≡ Kept → t.cells place ≡ Kept
 leads_keep p table met r t there NoService h place kept = sym (ap (λ (z : ResidentState). z.cells place) h.state) ∙ kept
-leads_keep p table met r t there AtClear h place kept = sym (ap (λ (z : ResidentState). z.cells place) h.state) ∙ kept
+leads_keep p table met r t there AtClear h place kept = sym (ap (λ (z : ResidentState). z.cells place) h.mirrors.state) ∙ kept
 leads_keep p table met r t there AtReturn h place kept =
     ap (λ (z : ResidentState). z.cells place) h.left
     ∙ with_lost-kept h.back.registers.ss h.back.registers.sp h.back.cells place (sym (ap (λ (z : ResidentState). z.cells place) h.state) ∙ kept)
@@ -52,6 +52,9 @@ framed_spares p pending t f k lt = (f.spare k lt).flag
 
 pub plain_flag : (p : Program) (table : List Loaded) (met : ℕ → Bool) (r t there : ResidentState) → Leads p table met r NoService t there → there.cells p.installed ≡ t.cells p.installed
 plain_flag p table met r t there h = ap (λ (z : ResidentState). z.cells p.installed) h.state
+
+pub clear_flag : (p : Program) (table : List Loaded) (met : ℕ → Bool) (r t there : ResidentState) → Leads p table met r AtClear t there → there.cells p.installed ≡ t.cells p.installed
+clear_flag p table met r t there h = ap (λ (z : ResidentState). z.cells p.installed) h.mirrors.state
 
 pub return_flag : (p : Program) (table : List Loaded) (met : ℕ → Bool) (r t there : ResidentState) → IsSpared p t → Leads p table met r AtReturn t there → there.cells p.installed ≡ t.cells p.installed
 return_flag p table met r t there spare h =

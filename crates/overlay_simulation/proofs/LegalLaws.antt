@@ -82,13 +82,13 @@ module _ (p : Program) (m : Manager) (seats : List Seat) (manages : Manages p m)
   table = table_by m seats
 
   -- where an overlay stands that is loaded
-  record IsSeated (v : ℕ) : Type 0 where
-    code : OverlayCode
-    found : slice_get p.overlays v ≡ Some code
-    place : ℕ
-    seat : place_of v seats ≡ Some place
-    load : (overlay_at table v).load ≡ buffer_segment room + place
-    inside : place + slice_index m.ring.sizes v ≤ room
+  pub record IsSeated (v : ℕ) : Type 0 where
+    pub code : OverlayCode
+    pub found : slice_get p.overlays v ≡ Some code
+    pub place : ℕ
+    pub seat : place_of v seats ≡ Some place
+    pub load : (overlay_at table v).load ≡ buffer_segment room + place
+    pub inside : place + slice_index m.ring.sizes v ≤ room
 
   known : (v : ℕ) → v < length m.stubs → (o : OverlayCode) × (slice_get p.overlays v ≡ Some o)
   known v lt = by (slice_get p.overlays v) refl
@@ -104,7 +104,7 @@ module _ (p : Program) (m : Manager) (seats : List Seat) (manages : Manages p m)
           slice_get_none (o ∷ os) zero lt e = absurd (cc)
           slice_get_none (o ∷ os) (suc v) lt e = slice_get_none os v (omega arith) e
 
-  seated : (v : ℕ) → is_out (overlay_at table v) ≡ false → IsSeated v
+  pub seated : (v : ℕ) → is_out (overlay_at table v) ≡ false → IsSeated v
   seated v loaded = by (cases_lt v (length m.stubs))
     where
       at_place : (lt : v < length m.stubs) (x : Option ℕ) → place_of v seats ≡ x → IsSeated v

@@ -17,6 +17,7 @@ pub mod ChainLaws
 pub mod TargetLaws
 pub mod EntryLaws
 pub mod EnterLaws
+pub mod TrapLaws
 pub mod RefusedLaws
 pub mod PairLaws
 pub mod FoundLaws

@@ -13,6 +13,7 @@ use Rattle.resident_machine.specs.Astray.{Astray, ReturnsElsewhere, Traps, and_t
 use Rattle.resident_machine.specs.Cells.{Cell, Known, Unknown, Kept, Paired, Cells, with_cell, with_word, is_free, known_then, free_then, moved_then, paired_then, with_bytes}
 use Rattle.resident_machine.specs.Dos.{plainly, stopped, answered, bad_handle, said_bytes, to_output, to_errors, write_call, read_bytes, given, read_call, exit_call, dos_call}
 use Rattle.resident_machine.specs.Effect.{Outcome, with_memory, blurred, called, refused, refused_to, entered, called_to, far_call, returned, returned_into, far_return, jumped_to, half_pushed, cleared, serviced, stack_then, on_cells}
+use Rattle.resident_machine.specs.Whole.{IsImage}
 use Rattle.resident_machine.specs.State.{Record, ResidentState, Service, NoService, AtCall, AtReturn, AtClear}
 use Rattle.resident_machine.proofs.CellLaws.{known_ok, free_ok, moved_ok, and_then_ok, unless_ok, stack_ok, paired_ok, ok_same}
 use Rattle.resident_machine.proofs.TreeLaws.{no_stub}
@@ -43,7 +44,16 @@ pub record Returns (table : List Loaded) (met : ℕ → Bool) (r t there : Resid
   pub left : t ≡ blurred back
   pub place : ℕ
   pub taken : r.records ≡ record { place = place; segment = Overlay overlay; offset = back.registers.ip } ∷ back.records
+  pub half : back.half ≡ r.half
+  pub status : back.status ≡ r.status
   pub state : there ≡ at_pair (shown_pair (overlay_at table overlay) (met (overlay_at table overlay).stub) back.registers.ip) (shown_state table (met_too (overlay_at table overlay).stub met) back)
+
+-- The buffer was cleared from code of the image: the other program went on likewise.
+pub record Clears (table : List Loaded) (met : ℕ → Bool) (r t there : ResidentState) : Type 0 where
+  pub mirrors : Mirrors table met r t there
+  pub image : IsImage t.cs
+  pub half : t.half ≡ r.half
+  pub status : t.status ≡ r.status
 
 -- A stub was called: the other program came to its entry. If no overlay is installed the error routine is entered.
 pub record Enters (p : Program) (table : List Loaded) (met : ℕ → Bool) (r t there : ResidentState) : Type 0 where
@@ -63,7 +73,7 @@ pub record Enters (p : Program) (table : List Loaded) (met : ℕ → Bool) (r t 
 
 abbrev pub Leads : Program → List Loaded → (ℕ → Bool) → ResidentState → Service → ResidentState → ResidentState → Type 0
 Leads p table met r NoService t there = Mirrors table met r t there
-Leads p table met r AtClear t there = Mirrors table met r t there
+Leads p table met r AtClear t there = Clears table met r t there
 Leads p table met r AtReturn t there = Returns table met r t there
 Leads p table met r AtCall t there = Enters p table met r t there
 
@@ -190,18 +200,18 @@ module _ (p : Program) (bytes : ℕ → List ℕ) (table : List Loaded) (met : �
           (record { there = exit_call (with_memory seen g c); service = NoService; goes = refl; leads = same_mirrors (exit_call (with_memory r g c)) refl refl })
       by false false false e = stopped_mirrored (why.Function (g.ax / 256)) w e
 
-  cleared_mirrored : (cs : Segment) (g : Registers) (c : Cells) (w : ResidentState × Service) → cleared cs (with_memory r g c) ≡ Ok w → Mirrored p table met r (cleared seen.cs (with_memory seen g c)) w
-  cleared_mirrored (Image number) g c w e =
+  cleared_mirrored : (cs : Segment) (g : Registers) (c : Cells) (w : ResidentState × Service) → r.cs ≡ cs → cleared cs (with_memory r g c) ≡ Ok w → Mirrored p table met r (cleared seen.cs (with_memory seen g c)) w
+  cleared_mirrored (Image number) g c w same e =
       comes (cleared seen.cs (with_memory seen g c)) (blurred (with_memory r g c)) AtClear w e
-      (record { there = blurred (with_memory seen g c); service = AtClear; goes = refl; leads = same_mirrors (blurred (with_memory r g c)) refl refl })
-  cleared_mirrored (Overlay number) g c w e = absurd (cc)
+      (record { there = blurred (with_memory seen g c); service = AtClear; goes = refl; leads = record { mirrors = same_mirrors (blurred (with_memory r g c)) refl refl; image = subst IsImage (sym same) tt; half = refl; status = refl } })
+  cleared_mirrored (Overlay number) g c w same e = absurd (cc)
 
   service_mirrored : (g : Registers) (c : Cells) (n : ℕ) (w : ResidentState × Service) → serviced r (with_memory r g c) n ≡ Ok w → Mirrored p table met r (serviced seen (with_memory seen g c) n) w
   service_mirrored g c n w e = by (n == 33) (n == 96) (n == 63) e
     where
       by : (x y z : Bool) → (if x then dos_call r (with_memory r g c) else (if y then cleared r.cs (with_memory r g c) else (if z then Err Traps else plainly (stopped r (why.Interrupt n))))) ≡ Ok w → Mirrored p table met r (if x then dos_call seen (with_memory seen g c) else (if y then cleared seen.cs (with_memory seen g c) else (if z then Err Traps else plainly (stopped seen (why.Interrupt n))))) w
       by true y z e = dos_mirrored g c w e
-      by false true z e = cleared_mirrored r.cs g c w e
+      by false true z e = cleared_mirrored r.cs g c w refl e
       by false false true e = absurd (cc)
       by false false false e = stopped_mirrored (why.Interrupt n) w e
 
@@ -314,6 +324,8 @@ module _ (p : Program) (bytes : ℕ → List ℕ) (table : List Loaded) (met : �
           left = refl;
           place = place;
           taken = sym records;
+          half = refl;
+          status = refl;
           state = refl;
         };
       })

@@ -31,7 +31,7 @@ all_by : {A : Type 0} → (P : A → Type 0) (xs : List A) → ((v : ℕ) (x : A
 all_by P [] each = tt
 all_by P (x ∷ xs) each = (each zero x refl, all_by P xs (λ v y found. each (suc v) y found))
 
-all_stubs : (P : ℕ → Type 0) (os : List OverlayCode) → ((v : ℕ) (o : OverlayCode) → slice_get os v ≡ Some o → P o.stub) → AllByRecursion P (map (λ (o : OverlayCode). o.stub) os)
+pub all_stubs : (P : ℕ → Type 0) (os : List OverlayCode) → ((v : ℕ) (o : OverlayCode) → slice_get os v ≡ Some o → P o.stub) → AllByRecursion P (map (λ (o : OverlayCode). o.stub) os)
 all_stubs P [] each = tt
 all_stubs P (o ∷ os) each = (each zero o refl, all_stubs P os (λ v x found. each (suc v) x found))
 
@@ -105,10 +105,10 @@ module _ (p : Program) (m : Manager) (met : ℕ → Bool) (kept : ℕ → Bool) 
 
   -- ## Bytes of stubs and of the buffer
 
-  stub_kept : (v : ℕ) (o : OverlayCode) → slice_get p.overlays v ≡ Some o → (k : ℕ) → k < size_of o → t.cells (address o.stub k) ≡ Kept
+  pub stub_kept : (v : ℕ) (o : OverlayCode) → slice_get p.overlays v ≡ Some o → (k : ℕ) → k < size_of o → t.cells (address o.stub k) ≡ Kept
   stub_kept v o found k lt = (ready.overlays.stubs v o found).kept k lt
 
-  stub_count : (v : ℕ) (o : OverlayCode) → slice_get p.overlays v ≡ Some o → stub_size s.memory o.stub ≡ size_of o
+  pub stub_count : (v : ℕ) (o : OverlayCode) → slice_get p.overlays v ≡ Some o → stub_size s.memory o.stub ≡ size_of o
   stub_count v o found = ap entry_offset (ready.overlays.stubs v o found).count
 
   pair_not_kept : (at other : ℕ) → t.cells at ≡ Paired → t.cells other ≡ Kept → at ≢ other
@@ -119,7 +119,7 @@ module _ (p : Program) (m : Manager) (met : ℕ → Bool) (kept : ℕ → Bool) 
       (all_stubs (λ (stub : ℕ). (k : ℕ) → k < stub_size s.memory stub → at ≢ address stub k) p.overlays
       (λ v o found k lt. pair_not_kept at (address o.stub k) pair (stub_kept v o found k (subst (λ (n : ℕ). k < n) (stub_count v o found) lt))))
 
-  off_buffer : (at : ℕ) → (t.cells at ≡ Kept → ⊥) → IsOffBuffer m.ring.room at
+  pub off_buffer : (at : ℕ) → (t.cells at ≡ Kept → ⊥) → IsOffBuffer m.ring.room at
   off_buffer at free = by (ready.apart.buffer at)
     where
       by : IsOffBuffer m.ring.room at ⊎ IsTrue (kept at) → IsOffBuffer m.ring.room at
@@ -129,10 +129,10 @@ module _ (p : Program) (m : Manager) (met : ℕ → Bool) (kept : ℕ → Bool) 
   paired_off_buffer : (at : ℕ) → t.cells at ≡ Paired → IsOffBuffer m.ring.room at
   paired_off_buffer at pair = off_buffer at (λ same. (let e = sym pair ∙ same in absurd (cc)))
 
-  known_off_buffer : (at v : ℕ) → t.cells at ≡ Known v → IsOffBuffer m.ring.room at
+  pub known_off_buffer : (at v : ℕ) → t.cells at ≡ Known v → IsOffBuffer m.ring.room at
   known_off_buffer at v known = off_buffer at (λ same. (let e = sym known ∙ same in absurd (cc)))
 
-  each_byte : (P : ℕ → Type 0) → ((at : ℕ) → t.cells at ≡ Paired → P at) → EachPairByte P ss (places_of t.records)
+  pub each_byte : (P : ℕ → Type 0) → ((at : ℕ) → t.cells at ≡ Paired → P at) → EachPairByte P ss (places_of t.records)
   each_byte P each = each_place (λ place. AllByRecursion P (pair_bytes ss place)) on
     where
       at_byte : (place offset j : ℕ) → EachPaired ss t.cells place → j < 4 → offset ≡ place + j → P (address ss offset)
@@ -172,10 +172,10 @@ module _ (p : Program) (m : Manager) (met : ℕ → Bool) (kept : ℕ → Bool) 
 
   -- ## The order
 
-  abbrev IsPlaces : (List ℕ → Type 0) → Type 0
+  abbrev pub IsPlaces : (List ℕ → Type 0) → Type 0
   IsPlaces P = P (orderly.places_of m.marked s pending)
 
-  at_places : (P : List ℕ → Type 0) → P (places_of t.records) → IsPlaces P
+  pub at_places : (P : List ℕ → Type 0) → P (places_of t.records) → IsPlaces P
   at_places P h = subst P (sym places_are) h
 
   pub order : IsOrderlyFor m s pending

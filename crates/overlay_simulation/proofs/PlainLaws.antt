@@ -11,7 +11,7 @@ use Rattle.return_repair.specs.Follows.{none_met}
 use Rattle.overlay_simulation.specs.Matching.{Matches, TellsApart}
 use Rattle.overlay_simulation.specs.Plain.{GoesAlone}
 use Rattle.overlay_simulation.specs.Shown.{shown_state}
-use Rattle.overlay_simulation.proofs.BeginLaws.{begun, begins, begins_alone, overlays_begun, flag_begun, stands_whole}
+use Rattle.overlay_simulation.proofs.BeginLaws.{begun, begins, begins_so, begins_alone, overlays_begun, flag_begun, stands_whole}
 use Rattle.overlay_simulation.proofs.LeadLaws.{plain_flag}
 use Rattle.overlay_simulation.proofs.MirrorLaws.{bare}
 use Rattle.overlay_simulation.proofs.StepLaws.{none}
@@ -24,7 +24,7 @@ plain_event p r t q told m g =
     let u : Process = begun p r t NoService q told m g flags in
     let stands = subst (λ (x : ResidentState). StandsFor (bare p none) x u) h.leads.state h.stands in (
       u,
-      begins_alone p r t NoService q told m g flags (λ own. own),
+      begins_alone p r t NoService q told m g flags (begins_so p r t NoService q told m g flags),
       record {
         stands = stands_whole p r t NoService q told m g flags (shown_state table none_met t) refl stands;
         here = h.leads.cs;

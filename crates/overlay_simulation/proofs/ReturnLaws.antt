@@ -20,9 +20,11 @@ use Rattle.overlay_simulation.specs.Matching.{HoldsOverlays, Matches, TellsApart
 use Rattle.overlay_simulation.specs.Plain.{GoesAlone}
 use Rattle.overlay_simulation.specs.Shown.{at_pair, number_by, IsIn, items_of, shown_state}
 use Rattle.overlay_simulation.specs.Trapping.{at_begin, AtBegin}
-use Rattle.overlay_simulation.proofs.BeginLaws.{begun, begins, begins_alone, overlays_begun, saved_begun, flag_begun, stands_whole}
+use Rattle.overlay_simulation.proofs.BeginLaws.{begun, begins, begins_so, begins_alone, overlays_begun, saved_begun, flag_begun, stands_whole}
+use Rattle.overlay_simulation.proofs.EffectLaws.{effect_parts}
 use Rattle.overlay_simulation.proofs.LeadLaws.{framed_spares, return_flag}
 use Rattle.overlay_simulation.proofs.MirrorLaws.{bare, Returns}
+use Rattle.overlay_simulation.proofs.OwnLaws.{unhalved}
 use Rattle.overlay_simulation.proofs.ShownLaws.{HasOwnStubs, pair_in, past_in, topmost_in}
 use Rattle.overlay_simulation.proofs.StepLaws.{none}
 use Rattle.overlay_simulation.proofs.TableLaws.{stub_is, own_stubs, overlay_code}
@@ -52,7 +54,7 @@ loaded_return p r t q told m g framed here =
     let stands = subst (λ (x : ResidentState). StandsFor (bare p none) (shown_state table none_met x) u) (sym l.left) lost in
     let x : Record = record { place = l.place; segment = Overlay l.overlay; offset = l.back.registers.ip } in (
       u,
-      begins_alone p r t AtReturn q told m g flags (λ own. own),
+      begins_alone p r t AtReturn q told m g flags (begins_so p r t AtReturn q told m g flags),
       record {
         stands = stands_whole p r t AtReturn q told m g flags (shown_state table none_met t) refl stands;
         here = here;
@@ -75,7 +77,7 @@ returned_out table o v back stub out =
     ∙ ap (λ (n : ℕ). at_pair (record { offset = 0; segment = n }) (shown_state table (met_too n none_met) back)) stub
 
 -- of the stubs that were not met the topmost returns are those below
-topmost_below : (table : List Loaded) (v w offset : ℕ) (records : List Record) (place : ℕ) → met_too (overlay_at table v).stub none_met (overlay_at table w).stub ≡ false
+pub topmost_below : (table : List Loaded) (v w offset : ℕ) (records : List Record) (place : ℕ) → met_too (overlay_at table v).stub none_met (overlay_at table w).stub ≡ false
     → topmost_into table (overlay_at table w).stub (items_of records) ≡ topmost_into table (overlay_at table w).stub (items_of (record { place = place; segment = Overlay v; offset = offset } ∷ records))
 topmost_below table v w offset records place unmet = by ((overlay_at table w).stub == (overlay_at table v).stub) unmet
   where
@@ -107,12 +109,14 @@ out_return p r t q v told m g framed cs out named =
     let saved_before = m.overlays.saved l.overlay o.0 l.back.registers.ip found is refl
     (ap (λ (n : ℕ). topmost_into table n (items_of r.records)) (sym stub) ∙ (ap (λ (xs : List Record). topmost_into table (overlay_at table l.overlay).stub (items_of xs)) l.taken ∙ topmost)) in (
       u,
-      begins_alone p r t AtReturn q told m g flags (λ own. own),
+      begins_alone p r t AtReturn q told m g flags (begins_so p r t AtReturn q told m g flags),
       record {
         overlay = v;
         code = o.0;
         found = o.1;
         cs = cs;
+        running = ap (λ (z : ResidentState). z.status) l.left ∙ l.status ∙ g.running;
+        half = ap (λ (z : ResidentState). z.half) l.left ∙ l.half ∙ unhalved p r t AtReturn g.instruction (effect_parts p r g.instruction (t, AtReturn) g.result).0 (λ same. absurd (cc));
         stands = stands_whole p r t AtReturn q told m g flags (at_begin table o.0 t) refl stands;
         saved = saved_begun p r t AtReturn q told m g flags l.overlay o.0 found ∙ saved_before ∙ sym (ap (λ (z : ResidentState). z.registers.ip) l.left);
         overlays = subst (λ (n : ℕ). HoldsOverlays p q.manager (met_too n none_met) t.cells t.records u.machine.memory) stub

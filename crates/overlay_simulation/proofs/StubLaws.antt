@@ -77,7 +77,7 @@ stub_stands cells later memory after o load next h held =
     let size : n ≡ entry_offset (load_word memory o.stub 12) = ap entry_offset (sym h.count) in
     record {
       kept = still_kept later memory after o.stub n held;
-      small = λ k lt. subst (λ (byte : ℕ). byte < 256) (sym (same k lt)) (h.small k lt);
+      small = λ k lt two three. subst (λ (byte : ℕ). byte < 256) (sym (same k lt)) (h.small k lt two three);
       is_stub = stub-agrees o.stub after memory (λ k lt two three. byte_same memory after o.stub n k same (subst (λ (z : ℕ). k < z) (sym size) lt)) h.is_stub.room h.is_stub;
       count = same_word memory after o.stub n 12 same (omega arith) room ∙ h.count;
       loaded = same_word memory after o.stub n 14 same (omega arith) room ∙ h.loaded;

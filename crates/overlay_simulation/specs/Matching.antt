@@ -22,10 +22,10 @@ abbrev pub size_of : OverlayCode → ℕ
 size_of o = entry_offset (length o.entries)
 
 -- The stub of an overlay stands in memory, in bytes that are kept: it says where the overlay is loaded, if it is, and which stub is the
--- next one, and its entries lead to the overlay's routines.
+-- next one, and its entries lead to the overlay's routines. Of the two that save an offset only the word is known.
 pub record StubStands (cells : Cells) (memory : List ℕ) (o : OverlayCode) (load next : ℕ) : Type 0 where
   pub kept : (k : ℕ) → k < size_of o → cells (address o.stub k) ≡ Kept
-  pub small : (k : ℕ) → k < size_of o → load_byte memory o.stub k < 256
+  pub small : (k : ℕ) → k < size_of o → k ≢ 2 → k ≢ 3 → load_byte memory o.stub k < 256
   pub is_stub : IsStub memory o.stub
   pub count : load_word memory o.stub 12 ≡ length o.entries
   pub loaded : load_word memory o.stub 14 ≡ load

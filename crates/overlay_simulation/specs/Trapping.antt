@@ -51,6 +51,8 @@ pub record AtBegin (p : Program) (t : ResidentState) (q : Managed) (u : Process)
   pub code : OverlayCode
   pub found : slice_get p.overlays overlay ≡ Some code
   pub cs : t.cs ≡ Overlay overlay
+  pub running : t.status ≡ Running
+  pub half : t.half ≡ false
   pub stands : StandsFor p (at_begin (table_before q.manager) code t) u
   pub saved : saved_at u.machine.memory code.stub ≡ t.registers.ip
   pub overlays : HoldsOverlays p q.manager (met_too code.stub none_met) t.cells t.records u.machine.memory

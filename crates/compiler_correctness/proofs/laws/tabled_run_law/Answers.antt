@@ -1,4 +1,4 @@
-use Rattle.compiler_correctness.specs.Tables.{TabledGoes}
+use Rattle.tabled_runs.specs.Tables.{TabledGoes}
 use Rattle.compiler_correctness.proofs.Events.{events_one}
 use Rattle.compiler_correctness.proofs.Tabled.{goes_once, as_events}
 use Rattle.compiler_correctness.proofs.laws.tabled_run_law.Goals as goal

@@ -36,6 +36,10 @@ abbrev pub later_tables : List Table → List Table
 later_tables [] = []
 later_tables (table ∷ tables) = tables
 
+-- the table of one overlay, at the buffer's begin
+abbrev pub alone : ℕ → Table
+alone overlay = record { overlay = overlay; at = 0 } ∷ []
+
 -- ---- a service by given seats
 
 -- the seat that an entry says, of overlays with these sizes, and those of a table

@@ -1,5 +1,7 @@
 //! What is read: a program's name, how many turns it may take, its sources, and its input.
 
+ghost use Rattle.std.specs.Prelude.{◌<◌, IfSome, length};
+
 use std::alloc::{AllocError, Global};
 use std::str;
 use tp_outside::MemoryFiles;
@@ -7,7 +9,7 @@ use type_layout::Name;
 
 /// A program to try.
 #[derive(Drop)]
-pub struct Given<'a> {
+pub struct Case<'a> {
     pub name: Name,
     pub turns: u64,
     pub files: MemoryFiles,
@@ -15,7 +17,9 @@ pub struct Given<'a> {
 }
 
 /// The first line of some bytes, and what stands behind it.
-fn first_line(bytes: &[u8]) -> Option<(&str, &[u8])> {
+fn first_line(bytes: &[u8]) -> Option<(&str, &[u8])>
+    ensures { IfSome result (λ found. length found.1.now < length bytes.now) }
+{
     let end = bytes.iter().position(|byte| *byte == b'\n')?;
     let (line, rest) = bytes.split_at_checked(end)?;
     let (_, rest) = rest.split_first()?;
@@ -32,9 +36,9 @@ fn number_in(word: Option<&str>) -> Option<u64> {
     }
 }
 
-impl<'a> Given<'a> {
+impl<'a> Case<'a> {
     /// The program that some bytes give, if they give one.
-    pub fn read(alloc: Global, bytes: &'a [u8]) -> Result<Option<Given<'a>>, AllocError> {
+    pub fn read(alloc: Global, bytes: &'a [u8]) -> Result<Option<Case<'a>>, AllocError> {
         let Some((line, rest)) = first_line(bytes) else {
             return Ok(None);
         };
@@ -49,20 +53,20 @@ impl<'a> Given<'a> {
             return Ok(None);
         };
         let turns = number_in(words.next()).unwrap_or(1_000_000);
-        let mut given = Given {
+        let mut case = Case {
             name,
             turns,
             files: MemoryFiles::new(alloc, &[])?,
             input: &[],
         };
-        given.read_parts(rest)?;
-        Ok(Some(given))
+        case.read_parts(rest)?;
+        Ok(Some(case))
     }
 
     /// Takes the files and the input that stand behind the first line.
     fn read_parts(&mut self, bytes: &'a [u8]) -> Result<(), AllocError> {
         let mut rest = bytes;
-        while let Some((line, behind)) = first_line(rest) {
+        'parts: while let Some((line, behind)) = first_line(rest) {
             let mut words = line.split_whitespace();
             let kind = words.next().unwrap_or("");
             let file = if kind == "file" { words.next() } else { None };

@@ -49,13 +49,12 @@ impl Display for Shown<'_> {
 
 /// The bytes behind those that two lists begin with alike, and how many these are.
 fn behind<'a>(bytes: &'a [u8], other: &[u8]) -> (usize, &'a [u8]) {
-    let mut count = 0;
-    for (one, two) in bytes.iter().zip(other) {
-        if one != two {
-            break;
-        }
-        count += 1;
-    }
+    let both = bytes.len().min(other.len());
+    let count = bytes
+        .iter()
+        .zip(other)
+        .position(|(one, two)| *one != *two)
+        .unwrap_or(both);
     (count, bytes.get(count..).unwrap_or(&[]))
 }
 

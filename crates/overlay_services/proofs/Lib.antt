@@ -1,0 +1,16 @@
+pub mod WithinLaws
+pub mod SmallLaws
+pub mod WordLaws
+pub mod HeldLaws
+pub mod WrittenLaws
+pub mod LegalLaws
+pub mod LoadedLaws
+pub mod ReadyLaws
+pub mod SoundLaws
+pub mod TableEvents
+pub mod PassLaws
+pub mod CallLaws
+pub mod BackLaws
+pub mod ClearLaws
+pub mod StepLaws
+pub mod TurnLaws

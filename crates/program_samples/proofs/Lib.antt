@@ -1,0 +1,5 @@
+mod Agreed
+mod Formed
+mod Methods
+mod Trees
+mod Typed
