@@ -71,7 +71,7 @@ SavesTopmost memory table whole = (v offset : ℕ) → v < length table → is_o
 abbrev IsToCome : List Loaded → (ℕ → Bool) → List Denoted → List Denoted → Type 0
 IsToCome table met items whole = (v : ℕ) → v < length table → met (overlay_at table v).stub ≡ false → topmost_into table (overlay_at table v).stub items ≡ topmost_into table (overlay_at table v).stub whole
 
-all-shown : (memory : List ℕ) (table : List Loaded) (whole items : List Denoted) (met : ℕ → Bool) → IsFound table → AllByRecursion (IsInside (length table)) items → AreReturns table items → SavesTopmost memory table whole → IsToCome table met items whole
+pub all-shown : (memory : List ℕ) (table : List Loaded) (whole items : List Denoted) (met : ℕ → Bool) → IsFound table → AllByRecursion (IsInside (length table)) items → AreReturns table items → SavesTopmost memory table whole → IsToCome table met items whole
     → map (denoted memory table) (shown table met items) ≡ items
 all-shown memory table whole [] met found inside returns saves to_come = refl
 all-shown memory table whole (Stays pair ∷ items) met found inside returns saves to_come =
