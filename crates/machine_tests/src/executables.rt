@@ -8,7 +8,7 @@ use crate::machines::{put_done, put_word};
 use cpu_8086::{Far, Machine, Reg};
 use mz_file::{Block, Exe, FarList, Segments, check_exe, load, read_exe, write_exe};
 use std::alloc::{AllocError, Global};
-use test_rows::{Line, part, put, put_bytes, put_numbered, put_shown, put_truth, word};
+use test_rows::{Line, put, put_bytes, put_numbered, put_shown, put_truth, word};
 use type_layout::Bytes;
 
 /// Writes that bytes are an executable, or why not.
@@ -151,7 +151,6 @@ pub(crate) fn put_loaded(alloc: Global, out: &mut Line, held: &str, row: &str) -
     let extra = word(extra).ok()?;
     let mut machine = Machine::new(alloc).ok()?;
     load_with(alloc, &mut machine, out, bytes.as_slice(), extra)?;
-    part(out, " ");
     put_word(out, machine.load_word(0x70, 0));
     for reg in [Reg::Cs, Reg::Ip, Reg::Ss, Reg::Ds] {
         put_word(out, machine.reg(reg));

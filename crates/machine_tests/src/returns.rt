@@ -68,13 +68,17 @@ fn put_live(out: &mut Line, machine: &Machine, marked: bool) {
                 put_truth(out, one);
             }
         }
-        Err(error) => put_shown(out, &error),
+        Err(error) => {
+            part(out, " ");
+            put_shown(out, &error);
+        }
     }
 }
 
 // The same of the first one alone.
 fn put_live_of_one(out: &mut Line, machine: &Machine) {
     let mut into = [true];
+    part(out, " ");
     match live(machine, false, false, &LOADED, &mut into) {
         Ok(()) => put(out, "found"),
         Err(error) => put_shown(out, &error),
@@ -101,18 +105,9 @@ fn put_repaired(machine: &mut Machine, out: &mut Line, step: &str) -> Option<()>
 fn put_step(machine: &mut Machine, out: &mut Line, step: &str) -> Option<()> {
     match step {
         "pairs" => put_words(out, machine, 0x1000, &[0x0112, 0x0114, 0x0122, 0x0124]),
-        "live" => {
-            part(out, " ");
-            put_live(out, machine, false);
-        }
-        "live, marked" => {
-            part(out, " ");
-            put_live(out, machine, true);
-        }
-        "live of one" => {
-            part(out, " ");
-            put_live_of_one(out, machine);
-        }
+        "live" => put_live(out, machine, false),
+        "live, marked" => put_live(out, machine, true),
+        "live of one" => put_live_of_one(out, machine),
         _ => {
             if run_step(machine, out, step).is_none() {
                 return put_repaired(machine, out, step);
