@@ -1,8 +1,0 @@
-use Rattle.std.proofs.Common.{◌<◌, ◌≤◌, take}
-use Rattle.std.specs.List.{All}
-use Rattle.overlay_manager.specs.Manager.{paragraphs_of}
-use Rattle.machine_tests.proofs.file_tests.service_tests.all_fit.Given as goal
-
--- those looked at fit
-abbrev pub invariant-loop-entry : goal.invariant-loop-entry
-invariant-loop-entry l = All (λ entry. (0 < paragraphs_of entry) × (paragraphs_of entry ≤ l.room)) (take l.entry-index l.index)
