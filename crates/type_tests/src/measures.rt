@@ -1,22 +1,23 @@
 //! What expressions, statements and routines need and weigh.
 
-use crate::operands::OPERANDS;
-use crate::routines::UNITS;
-use crate::statements::STATEMENTS;
 use crate::tables::{PROCEDURE, TYPES, UNIT};
-use std::alloc::Global;
-use test_rows::{Line, part, put_numbered};
-use tree_samples::{StmtSample, expression, table, unit};
-use type_layout::TypeId;
+use std::alloc::{AllocError, Global};
+use tree_samples::{Code, ExprSample, StmtSample, expression, table, unit};
+use type_layout::{TypeId, Types};
 use typed_tree::{Unit, frame_of, need_of, slot_of, slot_of_type, weight_of};
 
-fn named<'a>(samples: &'a [(&'a str, StmtSample)], name: &str) -> Option<&'a StmtSample> {
-    for (told, sample) in samples {
-        if *told == name {
-            return Some(sample);
-        }
+fn slot_of_operand(alloc: Global, sample: &ExprSample) -> Result<u64, AllocError> {
+    let expr = expression(alloc, sample)?;
+    let types = table(alloc, TYPES)?;
+    Ok(slot_of(&types, &expr))
+}
+
+// The slot of the operand of a `Halt`.
+fn slot(alloc: Global, sample: &StmtSample) -> Result<u64, AllocError> {
+    match sample {
+        StmtSample::Halt(operand) => slot_of_operand(alloc, operand),
+        _ => Err(AllocError),
     }
-    None
 }
 
 fn need(unit: &Unit, routine: u32) -> u64 {
@@ -35,56 +36,97 @@ fn frame(unit: &Unit, routine: u32) -> u64 {
     }
 }
 
-// What a statement needs, and what it weighs beyond some weight. An empty procedure weighs 160.
-fn put_measures(alloc: Global, out: &mut Line, sample: &StmtSample, beyond: u64) -> Option<()> {
-    let unit = unit(alloc, &UNIT, &[(&PROCEDURE, sample)]).ok()?;
-    part(out, " ");
-    put_numbered(out, "", need(&unit, 0));
-    put_numbered(out, " ", weight_of(&unit).saturating_sub(beyond));
-    Some(())
+fn weight(unit: &Unit) -> u64 {
+    weight_of(unit)
 }
 
-/// Writes what a statement needs, and what it weighs beyond the procedure that it is the body of.
-pub(crate) fn put_statement(alloc: Global, out: &mut Line, row: &str) -> Option<()> {
-    put_measures(alloc, out, named(STATEMENTS, row)?, 160)
+/// Routines, the number of one of them, and what it needs and the bytes of its activation.
+pub(crate) type Frame = (&'static [Code<'static>], u32, (u64, u64));
+
+fn need_and_frame(
+    alloc: Global,
+    code: &[Code<'_>],
+    routine: u32,
+) -> Result<(u64, u64), AllocError> {
+    let unit = unit(alloc, &UNIT, code)?;
+    Ok((need(&unit, routine), frame(&unit, routine)))
 }
 
-/// Writes the slot of the operand of a `Halt`, what it needs, and what the operand weighs; the `Halt` itself weighs 48.
-pub(crate) fn put_operand(alloc: Global, out: &mut Line, row: &str) -> Option<()> {
-    let sample = named(OPERANDS, row)?;
-    let StmtSample::Halt(operand) = sample else {
-        return None;
-    };
-    let expr = expression(alloc, operand).ok()?;
-    let types = table(alloc, TYPES).ok()?;
-    put_numbered(out, "", slot_of(&types, &expr));
-    put_measures(alloc, out, sample, 208)
-}
-
-/// Writes the weight of a unit, and of each of its routines what it needs and the bytes of its activation.
-pub(crate) fn put_routines(alloc: Global, out: &mut Line, row: &str) -> Option<()> {
-    for (name, code) in UNITS {
-        if *name == row {
-            let unit = unit(alloc, &UNIT, code).ok()?;
-            put_numbered(out, "weight ", weight_of(&unit));
-            let mut routine = 0u32;
-            for _ in *code {
-                put_numbered(out, "; ", need(&unit, routine));
-                put_numbered(out, " ", frame(&unit, routine));
-                routine = routine.wrapping_add(1);
-            }
-            return Some(());
+/// The number of the first row with another need or activation.
+pub(crate) fn first_wrong_frame(
+    alloc: Global,
+    rows: &[Frame],
+) -> Result<Option<usize>, AllocError> {
+    for number in 0..rows.len() {
+        let (code, routine, wanted) = rows[number];
+        if need_and_frame(alloc, code, routine)? != wanted {
+            return Ok(Some(number));
         }
     }
-    None
+    Ok(None)
 }
 
-/// Writes the slots of types 0 to 9.
-pub(crate) fn put_slots(alloc: Global, out: &mut Line) -> Option<()> {
-    let types = table(alloc, TYPES).ok()?;
-    for id in 0..10 {
-        part(out, " ");
-        put_numbered(out, "", slot_of_type(&types, TypeId(id)));
+/// Whether a unit of these routines has this weight.
+pub(crate) fn weighs(alloc: Global, code: &[Code<'_>], wanted: u64) -> Result<bool, AllocError> {
+    let unit = unit(alloc, &UNIT, code)?;
+    Ok(weight(&unit) == wanted)
+}
+
+/// What a statement needs, and what it weighs beyond the procedure that it is the body of.
+fn need_and_weight(alloc: Global, sample: &StmtSample) -> Result<(u64, u64), AllocError> {
+    let unit = unit(alloc, &UNIT, &[(&PROCEDURE, sample)])?;
+    Ok((need(&unit, 0), weight(&unit).saturating_sub(160)))
+}
+
+/// The number of the first statement with another need or weight.
+pub(crate) fn first_wrong_statement(
+    alloc: Global,
+    rows: &[(StmtSample, (u64, u64))],
+) -> Result<Option<usize>, AllocError> {
+    for number in 0..rows.len() {
+        let (sample, wanted) = &rows[number];
+        if need_and_weight(alloc, sample)? != *wanted {
+            return Ok(Some(number));
+        }
     }
-    Some(())
+    Ok(None)
+}
+
+// What a `Halt` weighs more than its operand is 48.
+fn measures(alloc: Global, sample: &StmtSample) -> Result<(u64, u64, u64), AllocError> {
+    let (need, weight) = need_and_weight(alloc, sample)?;
+    Ok((slot(alloc, sample)?, need, weight.saturating_sub(48)))
+}
+
+/// The number of the first `Halt` of which the operand's slot, the need, or the operand's weight is another.
+pub(crate) fn first_wrong_operand(
+    alloc: Global,
+    rows: &[(StmtSample, (u64, u64, u64))],
+) -> Result<Option<usize>, AllocError> {
+    for number in 0..rows.len() {
+        let (sample, wanted) = &rows[number];
+        if measures(alloc, sample)? != *wanted {
+            return Ok(Some(number));
+        }
+    }
+    Ok(None)
+}
+
+fn slot_for(types: &Types, ty: TypeId) -> u64 {
+    slot_of_type(types, ty)
+}
+
+/// The number of the first type with another slot.
+pub(crate) fn first_wrong_slot(
+    alloc: Global,
+    rows: &[(TypeId, u64)],
+) -> Result<Option<usize>, AllocError> {
+    let types = table(alloc, TYPES)?;
+    for number in 0..rows.len() {
+        let (ty, wanted) = rows[number];
+        if slot_for(&types, ty) != wanted {
+            return Ok(Some(number));
+        }
+    }
+    Ok(None)
 }

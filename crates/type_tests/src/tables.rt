@@ -1,4 +1,4 @@
-//! The types and the trees that rows have in common.
+//! The types and the trees that the tests have in common.
 
 use tree_samples::{ArgSample, ExprSample, PlaceSample, RoutineSample, TypeSample, UnitSample};
 use type_layout::{Host, Kind, RoutineId, TypeId};
