@@ -1,7 +1,6 @@
 -- A framed run of the resident machine, and a program that follows it step by step.
 use Rattle.std.proofs.Common.{◌≡◌, ℕ, zero, suc, ◌+◌, ◌<◌, Bool, List, [], ◌++◌, refl, sym, subst, arith, ◌*◌}
 use Rattle.std.proofs.lemmas.List.{append_assoc}
-use Rattle.cpu_8086.specs.Process as process
 use Rattle.cpu_8086.specs.Process.{Status}
 use Rattle.overlay_ring.specs.Table.{Table}
 use Rattle.overlay_manager.specs.overlay_run.Managed.{Managed}
