@@ -11,3 +11,4 @@ pub mod Compilers
 pub mod Slices
 pub mod SlicePlaces
 pub mod Expressible
+pub mod OverlayFiles

@@ -11,7 +11,6 @@ use Rattle.cpu_8086.specs.Process.{serviced, after_step}
 use Rattle.cpu_8086.specs.State.{State}
 use Rattle.mz_file.specs.Format.{exe_of}
 use Rattle.mz_file.specs.Load.{loaded_segment}
-use Rattle.overlay_file.specs.declared.overlay.OvrEntry.{OvrEntry}
 use Rattle.overlay_ring.specs.declared.seat.Seat.{Seat}
 use Rattle.overlay_ring.specs.Table.{Table, is_legal_table}
 use Rattle.frame_links.specs.Links.{Link}
@@ -21,10 +20,10 @@ use Rattle.overlay_manager.specs.Manager as manager
 use Rattle.overlay_manager.specs.Manager.{Manager, paragraphs_of, with_seats, table_by}
 use Rattle.overlay_manager.specs.Traps.{trap_of, is_refused, refused}
 use Rattle.overlay_manager.specs.overlay_run.Managed.{Managed, goes_on, is_stopped, with_trap}
-use Rattle.dos_runner.specs.opened_program.Matching.{largest}
 use Rattle.dos_runner.specs.opened_program.Opening.{room_of, start_manager, IsOpened}
+use Rattle.overlay_correctness.proofs.OpenedLaws.{size_within}
 use Rattle.tabled_runs.proofs.TrapLaws.{trap_inside}
-use Rattle.tabled_runs.specs.Tables.{Tabled, On, NotLegal, next_table, later_tables, seats_of, short_from, loaded_by, seated, served_next, chained, trapped, emptied, emptied_by, all_out, interrupted, after_event, TabledEvent, TabledGoes, TabledRuns}
+use Rattle.tabled_runs.specs.Tables.{Tabled, On, NotLegal, alone, next_table, later_tables, seats_of, short_from, loaded_by, seated, served_next, chained, trapped, emptied, emptied_by, all_out, interrupted, after_event, TabledEvent, TabledGoes, TabledRuns}
 use Rattle.compiler_correctness.proofs.Tabled.{on_legal}
 
 -- ---- what an event does with the tables
@@ -216,10 +215,6 @@ one_more bytes (suc n) p q r runs goes =
 
 -- ---- legal tables
 
--- the table of one overlay, at the buffer's begin
-abbrev pub alone : ℕ → Table
-alone overlay = record { overlay = overlay; at = 0 } ∷ []
-
 -- each overlay that a trap can ask for has room by itself
 abbrev pub HasRoom : Fixed → Type 0
 HasRoom f = (t : State) (trap : Trap) → trap_of f.stubs t ≡ Some trap → is_legal_table f.sizes f.room trap.overlay (alone trap.overlay) ≡ true
@@ -243,11 +238,6 @@ mended bytes p tables has_room x = by (takes_event bytes p x.machine x.event)
             result = sym (served.2 (table ∷ []) ∙ served_by_legal bytes p table [] x.machine served.0 legal);
           },
         )
-
-pub size_within : (overlays : List OvrEntry) (v : ℕ) → v < length overlays → slice_index (map paragraphs_of overlays) v ≤ largest overlays
-size_within [] v there = omega (arith, there)
-size_within (overlay ∷ overlays) zero there = omega arith
-size_within (overlay ∷ overlays) (suc v) there = let less = size_within overlays v (omega (arith, there)) in omega (arith, less)
 
 pub opened_room : (exe name : List ℕ) (held : Option (List ℕ)) (buffer : Option ℕ) (state : State) (m : Manager) → IsOpened exe name held buffer state m → HasRoom (fixed m)
 opened_room exe name held buffer state m opened = subst (λ (m : Manager). HasRoom (fixed m)) (sym opened.manager_is) has_room

@@ -4,3 +4,4 @@ pub mod Correct
 pub mod Compiler
 pub mod Slice
 pub mod Expressible
+pub mod OverlayFiles

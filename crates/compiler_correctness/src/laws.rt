@@ -6,7 +6,10 @@ ghost use Rattle.program_typing.specs.programs.WellTyped.{IsWellTyped};
 ghost use Rattle.flat_code.specs.Program.{FlatProgram};
 ghost use Rattle.runtime_units.specs.Units.{HoldsRuntime};
 ghost use Rattle.compiler_correctness.specs.Runs.{Files};
-ghost use Rattle.compiler_correctness.specs.Hypotheses.{IsBuiltPlain, plain_rate, IsBuilt, overlaid_rate};
+ghost use Rattle.compiler_correctness.specs.Hypotheses.{IsBuiltPlain, plain_rate, IsBuilt, overlaid_rate, OverlaysFollow};
+ghost use Rattle.compiler_correctness.specs.OverlayFiles.{HoldProgram};
+ghost use Rattle.resident_machine.specs.Program as resident;
+ghost use Rattle.resident_machine.specs.State.{ResidentState};
 ghost use Rattle.compiler_correctness.specs.Correct.{IsCorrectPlain, IsCorrect};
 ghost use Rattle.compiler_correctness.specs.Compiler.{Compiler, CompilerLaws, PlainTheorem, OverlaidTheorem, RingLaw, RunTheorem};
 ghost use Rattle.compiler_correctness.specs.Slice.{SliceFollows, SliceStands};
@@ -62,6 +65,13 @@ pub fn compiler_law()
     plain_program_law();
     overlaid_program_law();
 }
+
+/// Files that hold a program of the resident machine follow it, wherever overlays are put; and what the ring chooses for opened files
+/// are tables, with reprieve and without. So of what is taken of overlays it is left that files hold the program.
+pub fn overlay_files_law()
+    ensures overlays { (machine : resident.Program) (start : List ℕ → ResidentState) (files : Files) → HoldProgram machine start files → OverlaysFollow machine start files }
+    ensures ring { RingLaw }
+{}
 
 /// A run by given tables has one outcome after so many events.
 pub fn tabled_run_law()

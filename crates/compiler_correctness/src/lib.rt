@@ -4,6 +4,6 @@
 mod laws;
 
 pub use laws::{
-    compiler_law, overlaid_program_law, plain_program_law, runtime_code_law, slice_law,
-    tabled_run_law,
+    compiler_law, overlaid_program_law, overlay_files_law, plain_program_law, runtime_code_law,
+    slice_law, tabled_run_law,
 };

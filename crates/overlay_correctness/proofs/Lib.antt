@@ -1,0 +1,5 @@
+pub mod FollowLaws
+pub mod FileLaws
+pub mod StubLaws
+pub mod OpenedLaws
+pub mod OverlayLaws
