@@ -11,7 +11,8 @@ use Rattle.program_typing.specs.programs.WellTyped.{IsWellTyped}
 use Rattle.compiler_correctness.specs.Runs.{Files, shown}
 use Rattle.compiler_correctness.specs.Hypotheses.{Placement, Starts, resident_rate, IsBuiltPlain, IsBuilt, plain_rate, overlaid_rate}
 use Rattle.compiler_correctness.specs.Correct.{IsCorrectPlain, IsCorrect}
-use Rattle.compiler_correctness.specs.Compiler.{Compiler, CompilerLaws, PlainTheorem, OverlaidTheorem, RingLaw, IsMeant, RunTheorem}
+use Rattle.compiler_correctness.specs.Compiler.{Compiler, CompilerLaws, PlainTheorem, OverlaidTheorem, IsMeant, RunTheorem}
+use Rattle.compiler_correctness.proofs.OverlayFiles.{ring_tables}
 
 -- the laws on programs that are built
 abbrev pub PlainLaw : Type 0
@@ -52,7 +53,7 @@ overlaid_theorem c laws law program files compiled some =
       lowering = laws.lowering program compiled.typed compiled.lowerable;
       placement = placing.0;
       starts = placing.1;
-      overlays = laws.overlays program files compiled some;
+      holds = laws.holding program files compiled some;
       pair = laws.pairing program files compiled some;
     } in
     (overlaid_rate program files built, mul-le 3 (resident_rate (c.lowered program) (c.machine files) true placing.0 (c.few program)) 3 (c.rate program) (omega arith) placing.2, law program files compiled.typed built)
@@ -67,9 +68,9 @@ meant_too program input m p q same meant =
       never_stopped = subst (λ (r : Process). (shown r).end ≡ Stopped → IsUndefined x.end) same meant.never_stopped;
     }
 
-pub run_theorem : (c : Compiler) → OverlaidTheorem c → RingLaw → RunTheorem c
-run_theorem c theorem ring program files compiled some name buffer state manager opened retry input are m end runs =
-    let found = ring files name buffer state manager opened retry input m end runs in
+pub run_theorem : (c : Compiler) → OverlaidTheorem c → RunTheorem c
+run_theorem c theorem program files compiled some name buffer state manager opened retry input are m end runs =
+    let found = ring_tables files name buffer state manager opened retry input m end runs in
     let correct = (theorem program files compiled some).2 in
     let meant : IsMeant program input m found.0 = record {
       over = correct.over input are m found.0 found.1;

@@ -19,6 +19,7 @@ use Rattle.compiler_correctness.specs.Hypotheses.{IsBuilt, Matches, ComesTo, ove
 use Rattle.compiler_correctness.specs.Correct.{IsShown, ShowsWithin, Agrees, RunsTo, IsCorrect}
 use Rattle.compiler_correctness.proofs.Events.{IsDetermined, events_rest, events_last, events_same}
 use Rattle.compiler_correctness.proofs.Backward.{AreOfOneRun, over_back, written_back, stopped_back, ended_back, one_back, going_back, going_or_over, all_bytes}
+use Rattle.compiler_correctness.proofs.OverlayFiles.{overlays_follow}
 use Rattle.compiler_correctness.proofs.Written.{Extends}
 use Rattle.compiler_correctness.proofs.Costs.{paid_thrice}
 use Rattle.compiler_correctness.proofs.Chain.{StartLaw, ShowsResident, resident_shows}
@@ -83,7 +84,7 @@ module _ (laws : LawsBelow) (program : Program) (files : Files) (b : IsBuilt pro
       let framed : RunsFramed b.machine run.count (b.start input) run.end = laws.framed b.machine run.count (b.start input) run.end run.leads in (
         3 * run.count,
         λ tables.
-            let there : ComesTo files run.count run.end (On (begun state manager input) tables) = b.overlays name buffer state manager opened input are run.count run.end framed tables in
+            let there : ComesTo files run.count run.end (On (begun state manager input) tables) = overlays_follow b.machine b.start files b.holds name buffer state manager opened input are run.count run.end framed tables in
             record {
               events = there.events;
               few = there.few;

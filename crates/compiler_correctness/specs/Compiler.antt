@@ -15,7 +15,8 @@ use Rattle.statement_simulation.specs.flow.Sites.{AreBytes}
 use Rattle.dos_runner.specs.opened_program.Opening.{IsOpened}
 use Rattle.dos_runner.specs.plain_opening.Laws.{IsPlain}
 use Rattle.compiler_correctness.specs.Runs.{Files, shown, begun}
-use Rattle.compiler_correctness.specs.Hypotheses.{IsLoweringOf, Placement, Starts, resident_rate, LoadsAs, IsPair, OverlaysFollow}
+use Rattle.compiler_correctness.specs.OverlayFiles.{HoldProgram}
+use Rattle.compiler_correctness.specs.Hypotheses.{IsLoweringOf, Placement, Starts, resident_rate, LoadsAs, IsPair}
 use Rattle.compiler_correctness.specs.Correct.{IsCorrectPlain, RunsTo, IsCorrect}
 
 -- Which programs are lowered, and to what, with how much work for each turn and each byte, and how many events of the resident machine; which
@@ -64,9 +65,9 @@ LoadingLaw c = (program : Program) (files : Files) → IsCompiled c program file
 abbrev pub PairingLaw : Compiler → Type 0
 PairingLaw c = (program : Program) (files : Files) → IsCompiled c program files → has_overlays program ≡ true → IsPair files
 
--- and what they start follows the resident machine, wherever overlays are put
-abbrev pub OverlayLaw : Compiler → Type 0
-OverlayLaw c = (program : Program) (files : Files) → IsCompiled c program files → has_overlays program ≡ true → OverlaysFollow (c.machine files) (c.start files) files
+-- and hold the program of the resident machine
+abbrev pub HoldingLaw : Compiler → Type 0
+HoldingLaw c = (program : Program) (files : Files) → IsCompiled c program files → has_overlays program ≡ true → HoldProgram (c.machine files) (c.start files) files
 
 -- What the ring chooses is a list of tables, also where so many paragraphs of overlays are kept for live returns: each run of opened files is
 -- one by some tables, up to what is counted.
@@ -81,7 +82,7 @@ pub record CompilerLaws (c : Compiler) : Type 0 where
   pub placing : PlacingLaw c
   pub loading : LoadingLaw c
   pub pairing : PairingLaw c
-  pub overlays : OverlayLaw c
+  pub holding : HoldingLaw c
 
 -- ---- the theorems
 

@@ -24,6 +24,7 @@ use Rattle.code_simulation.specs.start.Starting.{first_keys, HasStart, IsStart}
 use Rattle.dos_runner.specs.opened_program.Matching.{BelongTogether}
 use Rattle.dos_runner.specs.opened_program.Opening.{IsOpened, HasOverlays}
 use Rattle.dos_runner.specs.plain_opening.Laws.{IsPlain}
+use Rattle.compiler_correctness.specs.OverlayFiles.{HoldProgram}
 use Rattle.compiler_correctness.specs.Runs.{Files, shown, begun, IsPaid}
 use Rattle.tabled_runs.specs.Tables.{Tabled, On, NotLegal, TabledRuns}
 
@@ -131,7 +132,7 @@ pub record IsBuilt (program : Program) (files : Files) : Type 0 where
   pub lowering : IsLoweringOf few program flat
   pub placement : Placement flat machine true
   pub starts : Starts flat machine true placement start
-  pub overlays : OverlaysFollow machine start files
+  pub holds : HoldProgram machine start files
   pub pair : IsPair files
 
 abbrev pub plain_rate : (program : Program) (exe : List ℕ) → IsBuiltPlain program exe → ℕ

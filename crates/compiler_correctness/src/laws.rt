@@ -60,7 +60,7 @@ pub fn overlaid_program_law()
 pub fn compiler_law()
     ensures plain { (c : Compiler) → CompilerLaws c → PlainTheorem c }
     ensures overlaid { (c : Compiler) → CompilerLaws c → OverlaidTheorem c }
-    ensures run { (c : Compiler) → CompilerLaws c → RingLaw → RunTheorem c }
+    ensures run { (c : Compiler) → CompilerLaws c → RunTheorem c }
 {
     plain_program_law();
     overlaid_program_law();

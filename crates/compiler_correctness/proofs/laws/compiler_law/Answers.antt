@@ -8,4 +8,4 @@ pub returns-clause-overlaid : goal.returns-clause-overlaid
 returns-clause-overlaid c = λ d laws. overlaid_theorem d laws c.overlaid_program_law.ensures
 
 pub returns-clause-run : goal.returns-clause-run
-returns-clause-run c = λ d laws ring. run_theorem d (overlaid_theorem d laws c.overlaid_program_law.ensures) ring
+returns-clause-run c = λ d laws. run_theorem d (overlaid_theorem d laws c.overlaid_program_law.ensures)
